@@ -1,0 +1,15 @@
+use Rattle.std.proofs.Common.{◌≡◌, sym, ◌∙◌}
+use Rattle.columnar_base.specs.ElementLaws.{length-elements, length-typed, row_typed, row_at, within_bytes}
+use Rattle.columnar_base.proofs.view.ViewIndex.get.Goals as goal
+
+pub element_at-requires : goal.element_at-requires
+element_at-requires g c = rw (length-typed g.met.T.Element.element c.in-Typed.items.now) at (rw c.in-Typed.is at c.requires.in_range)
+
+pub element_in-requires : goal.element_in-requires
+element_in-requires g c = within_bytes g.T.Element.size g.T.Element.row_of c.in-Bytes.bytes.now c.args.index (rw c.in-Bytes.is at c.requires.in_range)
+
+pub returns-in-Typed-clause-row : goal.returns-in-Typed-clause-row
+returns-in-Typed-clause-row g c = rw c.in-Typed.is (row_typed g.met.T.Element.element c.in-Typed.items.now c.args.index c.element_at.result c.element_at.ensures)
+
+pub returns-in-Bytes-clause-row : goal.returns-in-Bytes-clause-row
+returns-in-Bytes-clause-row g c = rw (c.in-Bytes.is, c.element_in.ensures) (row_at g.T.Element.size g.T.Element.row_of c.in-Bytes.bytes.now c.args.index (rw c.in-Bytes.is at c.requires.in_range))

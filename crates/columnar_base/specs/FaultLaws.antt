@@ -1,0 +1,61 @@
+use Rattle.std.proofs.Common.{◌≡◌, ℕ, zero, suc, ◌+◌, ◌<◌, ◌≤◌, Bool, true, false, ◌&&◌, List, [], ◌∷◌, ◌++◌, length, map, drop, refl, sym, ◌∙◌, ap, arith}
+use Rattle.std.specs.Prelude.{Option, Some, None, nat_le}
+use Rattle.std.proofs.lemmas.List.{map-append}
+use Rattle.std.proofs.lemmas.Bool.{leb-true, le-leb, lt-leb}
+use Rattle.columnar_base.specs.Format.{Format, Content, Fault, fault, moved, moved_one, first, unless, IsSound, Fits, faults_at}
+
+pub nothing_left : (xs ys : List Fault) → xs ++ ys ≡ [] → (xs ≡ []) × (ys ≡ [])
+nothing_left [] ys h = (refl, h)
+nothing_left (x ∷ xs) ys h = cc
+
+pub nothing_both : (xs ys : List Fault) → xs ≡ [] → ys ≡ [] → xs ++ ys ≡ []
+nothing_both xs ys p q = rw (p, q) refl
+
+pub nothing_moved : (n : ℕ) (xs : List Fault) → moved n xs ≡ [] → xs ≡ []
+nothing_moved n [] h = refl
+nothing_moved n (x ∷ xs) h = cc
+
+pub moved_nothing : (n : ℕ) (xs : List Fault) → xs ≡ [] → moved n xs ≡ []
+moved_nothing n xs h = rw h refl
+
+pub unless_true : (b : Bool) (x : Fault) → unless b x ≡ [] → b ≡ true
+unless_true true x h = refl
+unless_true false x h = cc
+
+pub true_unless : (b : Bool) (x : Fault) → b ≡ true → unless b x ≡ []
+true_unless b x h = rw h refl
+
+pub moved_twice : (m n : ℕ) (xs : List Fault) → moved m (moved n xs) ≡ moved (m + n) xs
+moved_twice m n [] = refl
+moved_twice m n (fault r s ∷ xs) =
+    let e : m + (n + s) ≡ (m + n) + s = omega arith in
+    let k = moved_twice m n xs in
+    rw (e, k) refl
+
+-- the first fault of two lists
+pub first_found : (xs ys : List Fault) (x : Fault) → first xs ≡ Some x → first (xs ++ ys) ≡ Some x
+first_found [] ys x h = cc
+first_found (z ∷ xs) ys x h = h
+
+pub first_none : (xs : List Fault) → first xs ≡ None → xs ≡ []
+first_none [] h = refl
+first_none (x ∷ xs) h = cc
+
+-- no fault of the slices from `at` on: they fit
+pub fits_from : (f : Format) (at : ℕ) (ss : List (List ℕ)) → at + f.count ≤ length ss → None ≡ first (moved at (f.broken (f.build (drop at ss)))) → Fits f at ss
+fits_from f at ss l h = record { room = l; sound = record { accepted = nothing_moved at (f.broken (f.build (drop at ss))) (first_none (moved at (f.broken (f.build (drop at ss)))) (sym h)) } }
+
+-- the whole test: room, and then the slices
+pub faults_none_left : (f : Format) (at : ℕ) (ss : List (List ℕ)) → length ss < at + f.count → Some (fault 5 0) ≡ first (faults_at f at ss)
+faults_none_left f at ss l =
+    let e : nat_le (at + f.count) (length ss) ≡ false = lt-leb (at + f.count) (length ss) l in
+    rw e refl
+
+pub faults_in_room : (f : Format) (at : ℕ) (ss : List (List ℕ)) → at + f.count ≤ length ss → faults_at f at ss ≡ moved at (f.broken (f.build (drop at ss)))
+faults_in_room f at ss l =
+    let e : nat_le (at + f.count) (length ss) ≡ true = le-leb (at + f.count) (length ss) l in
+    rw e refl
+
+-- a content that a test found nothing in is sound
+pub sound_from : (f : Format) (c : Content) (o : ℕ) → None ≡ first (moved o (f.broken c)) → IsSound f c
+sound_from f c o h = record { accepted = nothing_moved o (f.broken c) (first_none (moved o (f.broken c)) (sym h)) }

@@ -1,0 +1,168 @@
+-- How a column is read: its content, and the format that its type determines.
+use Rattle.std.specs.Prelude.{ℕ, Bool, true, false, List, [], ◌∷◌, ◌++◌, length, ◌≡◌, ◌≤◌, ◌<◌, ◌+◌, ◌-◌, ◌*◌, ◌^◌, take, drop, ◌&&◌, nat_le, nat_lt, map, sum, Option, Some, None, cond}
+use Rattle.columnar_base.specs.Row.{Row}
+
+-- What a column holds: its byte slices, part by part. `part l u c` is the rows l..u of c, and `plain` has no bytes.
+-- An owned column and a view of the same rows have the same content.
+pub data Content : Type 0 where
+  slice : List ℕ → Content
+  both : Content → Content → Content
+  part : ℕ → ℕ → Content → Content
+  plain : List Row → Content
+
+-- a broken rule: its number, and the slice at which it is broken
+pub data Fault : Type 0 where
+  fault : ℕ → ℕ → Fault
+
+-- the same faults, of slices that begin n later
+abbrev pub moved_one : ℕ → Fault → Fault
+moved_one n (fault rule at) = fault rule (n + at)
+
+abbrev pub moved : ℕ → List Fault → List Fault
+moved n xs = map (moved_one n) xs
+
+abbrev pub first : List Fault → Option Fault
+first [] = None
+first (x ∷ xs) = Some x
+
+-- the rule x is broken where the test fails
+abbrev pub unless : Bool → Fault → List Fault
+unless true x = []
+unless false x = x ∷ []
+
+-- a relation of rows that is an equivalence
+pub record IsSame (same : Row → Row → Bool) : Type 0 where
+  pub reflexive : (r : Row) → same r r ≡ true
+  pub symmetric : (r s : Row) → same r s ≡ true → same s r ≡ true
+  pub transitive : (r s t : Row) → same r s ≡ true → same s t ≡ true → same r t ≡ true
+
+-- it is equality
+pub record IsExact (same : Row → Row → Bool) : Type 0 where
+  pub exact : (r s : Row) → same r s ≡ true → r ≡ s
+
+-- one for one
+abbrev pub all_alike : (Row → Row → Bool) → List Row → List Row → Bool
+all_alike same [] [] = true
+all_alike same (r ∷ rs) (s ∷ ss) = same r s && all_alike same rs ss
+all_alike same [] (s ∷ ss) = false
+all_alike same (r ∷ rs) [] = false
+
+-- Why rows may not be held: there are too many, here or at some part, for a count or a bound of 64 bits; or one is
+-- an offset at a place where its column can't take it.
+pub data Excess : Type 0 where
+  too_many : Excess
+  misplaced : Excess
+
+-- The format of a type of column.
+--   count: its number of slices; sizes: the element size of each
+--   turns: how many turns its test takes at most for a byte
+--   broken: the rules that a content breaks: those of the parts in slice order, then its own
+--   rows: what the content means
+--   extent: the lengths of all parts, in bytes, at the first n rows
+--   build: the content that the first slices of a list make
+--   alike: may the first row stand for the second; kin: does the column's test for equal rows hold of them
+--   refuses: may the rows not be held, added to the first n rows of a content
+pub record Format : Type 0 where
+  pub count : ℕ
+  pub sizes : List ℕ
+  pub turns : ℕ
+  pub broken : Content → List Fault
+  pub rows : Content → List Row
+  pub extent : Content → ℕ → List ℕ
+  pub build : List (List ℕ) → Content
+  pub alike : Row → Row → Bool
+  pub kin : Row → Row → Bool
+  pub refuses : Excess → Content → ℕ → List Row → Bool
+
+-- the slices of a content, in order
+abbrev pub slices_of : Content → List (List ℕ)
+slices_of (slice bs) = bs ∷ []
+slices_of (both x y) = slices_of x ++ slices_of y
+slices_of (part l u x) = []
+slices_of (plain rs) = []
+
+-- the lengths of all parts, in bytes
+abbrev pub lengths : Content → List ℕ
+lengths (slice bs) = length bs ∷ []
+lengths (both x y) = lengths x ++ lengths y
+lengths (part l u x) = []
+lengths (plain rs) = []
+
+-- how many bytes a content holds
+abbrev pub bytes_held : Content → ℕ
+bytes_held (slice bs) = length bs
+bytes_held (both x y) = bytes_held x + bytes_held y
+bytes_held (part l u x) = 0
+bytes_held (plain rs) = 0
+
+-- c is a well-formed content of the format f: it breaks no rule
+pub record IsSound (f : Format) (c : Content) : Type 0 where
+  pub accepted : f.broken c ≡ []
+
+-- The rows, added to those of c, may not be held.
+abbrev pub refuses_more : Format → Excess → Content → List Row → Bool
+refuses_more f e c rs = f.refuses e c (length (f.rows c)) rs
+
+-- What each format of a container keeps to.
+pub record IsLawful (f : Format) : Type 0 where
+  -- the lengths at all rows are the lengths
+  pub full : (c : Content) → IsSound f c → f.extent c (length (f.rows c)) ≡ lengths c
+  -- the slices of a well-formed content make it again
+  pub rebuilt : (c : Content) (rest : List (List ℕ)) → IsSound f c → f.build (slices_of c ++ rest) ≡ c
+  -- alike is an equivalence
+  pub same : IsSame f.alike
+  -- what may not be held may not be held with more behind it
+  pub more : (e : Excess) (c : Content) (n : ℕ) (rs ss : List Row) → f.refuses e c n rs ≡ true → f.refuses e c n (rs ++ ss) ≡ true
+  -- the test takes at most 16 turns for a byte
+  pub swift : f.turns ≤ 16
+  -- each slice has a size
+  pub sized : length f.sizes ≡ f.count
+
+-- no content of this form is the format's
+abbrev pub misfit : List Fault
+misfit = fault 0 0 ∷ []
+
+-- the rows l..u of a column
+abbrev pub part_rows : Format → Content → List Row
+part_rows f (part l u c) = take (u - l) (drop l (f.rows c))
+part_rows f (slice bs) = []
+part_rows f (both x y) = []
+part_rows f (plain rs) = []
+
+abbrev pub part_broken : Format → Content → List Fault
+part_broken f (part l u c) = f.broken c ++ unless (nat_le l u && nat_le u (length (f.rows c))) (fault 11 0)
+part_broken f (slice bs) = misfit
+part_broken f (both x y) = misfit
+part_broken f (plain rs) = misfit
+
+-- a range of a column's rows: it has no slices of its own
+abbrev pub part_format : Format → Format
+part_format f = record {
+  count = 0;
+  sizes = [];
+  turns = 0;
+  broken = part_broken f;
+  rows = part_rows f;
+  extent = λ c n. [];
+  build = λ ss. plain [];
+  alike = f.alike;
+  kin = f.kin;
+  refuses = λ e c n rs. false;
+}
+
+abbrev pub are_sizes : List ℕ → Bool
+are_sizes [] = true
+are_sizes (s ∷ ss) = nat_le 1 s && (nat_lt s (2 ^ 63) && are_sizes ss)
+
+-- Calls over bytes ask this of the type alone: at most 2^60 slices, of elements of 1 to 2^63 - 1 bytes.
+abbrev pub representable : Format → Bool
+representable f = nat_le f.count (2 ^ 60) && are_sizes f.sizes
+
+-- The rules that the slices from `at` on break, counted in the whole store; 5 is SliceCount, of the store as a whole.
+abbrev pub faults_at : Format → ℕ → List (List ℕ) → List Fault
+faults_at f at ss = cond (nat_le (at + f.count) (length ss)) (moved at (f.broken (f.build (drop at ss)))) (fault 5 0 ∷ [])
+
+-- the slices from `at` on are there and make a well-formed content
+pub record Fits (f : Format) (at : ℕ) (ss : List (List ℕ)) : Type 0 where
+  pub room : at + f.count ≤ length ss
+  pub sound : IsSound f (f.build (drop at ss))

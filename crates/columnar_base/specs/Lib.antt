@@ -1,0 +1,14 @@
+pub mod Row
+pub mod RowLaws
+pub mod Format
+pub mod FaultLaws
+pub mod AlikeLaws
+pub mod Change
+pub mod ChangeLaws
+pub mod Faults
+pub mod ExtendLaws
+pub mod Reads
+pub mod Elements
+pub mod ElementLaws
+pub mod Views
+pub mod ViewLaws

@@ -1,0 +1,11 @@
+//! Columns: lists of rows that are stored in a few flat slices of bytes. The definitions, the faults, and the traits
+//! that name no view.
+#![tactic(auto)]
+
+pub mod element;
+pub mod fault;
+pub mod slice;
+pub mod tally;
+pub mod traits;
+pub mod vector;
+pub mod view;

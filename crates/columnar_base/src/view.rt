@@ -1,0 +1,95 @@
+//! Views of elements: read in place, from a slice of them or from little-endian bytes.
+ghost use Rattle.std.specs.Prelude.{◌≡◌, ℕ, ◌+◌, ◌-◌, ◌*◌, ◌<◌, ◌≤◌, length, refl, take, drop};
+ghost use Rattle.columnar_base.specs.Format.{slice, IsSound};
+ghost use Rattle.columnar_base.specs.Elements.{elements_format, elements};
+ghost use Rattle.columnar_base.specs.Views.{items_content};
+
+use crate::element::Element;
+use crate::traits::{Clear, Column, Index, Len};
+
+#[derive(Clone, Copy)]
+enum Items<'a, T> {
+    Typed(&'a [T]),
+    Bytes(&'a [u8]),
+}
+
+/// Elements in a slice of them or in little-endian bytes, read by value.
+#[derive(Clone, Copy)]
+pub struct View<'a, T> {
+    items: Items<'a, T>,
+}
+
+impl<'v, T: Element> Column for View<'v, T> {
+    ghost use Rattle.columnar_base.specs.ViewLaws.{items_counted};
+
+    ghost format = { elements_format T.size T.row_of };
+
+    ghost content = { λ v. items_content T.le_bytes v.items };
+
+    ghost counted = { λ v. items_counted T.le_bytes v.items };
+}
+
+impl<'a, T: Element> View<'a, T> {
+    /// The elements of a slice.
+    pub fn from_slice(items: &'a [T]) -> Self
+        ensures { ⟦<View<'a, T> as Column>⟧.content result ≡ elements T.le_bytes items.now }
+    {
+        View {
+            items: Items::Typed(items),
+        }
+    }
+
+    /// The elements that the bytes are, little-endian. It is well formed where their number is a multiple of the
+    /// element's size.
+    pub fn from_le_bytes(bytes: &'a [u8]) -> Self
+        ensures { ⟦<View<'a, T> as Column>⟧.content result ≡ slice bytes.now }
+    {
+        View {
+            items: Items::Bytes(bytes),
+        }
+    }
+}
+
+impl<'v, T: Element> Len for View<'v, T> {
+    fn len(&self) -> usize {
+        match self.items {
+            Items::Typed(items) => items.len(),
+            Items::Bytes(bytes) => bytes.len() / T::size(),
+        }
+    }
+}
+
+pub(crate) fn element_at<T: Element>(items: &[T], index: usize) -> T
+    requires { index < length items.now }
+    ensures { Rattle.std.specs.Prelude.slice_get items.now index ≡ Rattle.std.specs.Prelude.Some result }
+{
+    items[index]
+}
+
+// the element in the bytes from index * size on
+fn element_in<T: Element>(bytes: &[u8], index: usize) -> T
+    requires { T.size * index + T.size ≤ length bytes.now }
+    ensures { T.meaning result ≡ T.row_of (take T.size (drop (T.size * index) bytes.now)) }
+{
+    let size = T::size();
+    let start = size * index;
+    T::from_le_bytes(&bytes[start..start + size])
+}
+
+impl<'v, T: Element> Index for View<'v, T> {
+    type Ref = T;
+
+    fn get(&self, index: usize) -> T {
+        match self.items {
+            Items::Typed(items) => element_at(items, index),
+            Items::Bytes(bytes) => element_in(bytes, index),
+        }
+    }
+}
+
+/// Leaves the empty view; no element is touched.
+impl<'v, T: Element> Clear for View<'v, T> {
+    fn clear(&mut self) {
+        self.items = Items::Bytes(&[]);
+    }
+}

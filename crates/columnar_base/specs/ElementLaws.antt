@@ -1,5 +1,5 @@
 use Rattle.std.proofs.Common.{◌≡◌, ℕ, zero, suc, ◌+◌, ◌-◌, ◌*◌, ◌/◌, ◌%◌, ◌^◌, ◌<◌, ◌≤◌, Bool, true, false, List, [], ◌∷◌, ◌++◌, length, take, drop, map, refl, sym, ◌∙◌, ap, arith, length-append, length-take, length-drop, append_assoc, get_or}
-use Rattle.std.specs.Prelude.{slice_get, Some, Option, nat_eq, nat_lt, slice_index}
+use Rattle.std.specs.Prelude.{slice_get, Some, None, Option, nat_eq, nat_lt}
 use Rattle.std.specs.List.{flat_map}
 use Rattle.std.specs.Int.{to_le_bytes, from_le_bytes, w64}
 use Rattle.std.proofs.lemmas.Grind.{flat_map-append}
@@ -12,7 +12,7 @@ use Rattle.std.proofs.Math.Nat.{mul-div_cancel_left, mul-mod_right, div-add-mod,
 use Rattle.columnar_base.specs.Row.{Row, number, row_eq}
 use Rattle.columnar_base.specs.AlikeLaws.{row_eq_same, row_eq_exact, alike_all}
 use Rattle.columnar_base.specs.FaultLaws.{unless_true, true_unless}
-use Rattle.columnar_base.specs.Format.{Format, Content, slice, both, part, plain, IsSound, IsLawful, IsSame, Excess, too_many, misplaced, fault, unless, slices_of, lengths, refuses_more}
+use Rattle.columnar_base.specs.Format.{Format, Content, slice, both, part, plain, IsSound, IsLawful, IsStorable, IsSame, Excess, too_many, misplaced, fault, unless, slices_of, lengths, refuses_more, first, moved}
 use Rattle.columnar_base.specs.Change.{Keeps, Grew, Stayed, WasCut, Took, Copied, IsTrueOf, Refused}
 use Rattle.columnar_base.specs.Elements.{pieces, past_count, elements_broken, elements_rows, elements_format, elements, first_slice, word_row, word_row_of, words_format}
 
@@ -116,9 +116,10 @@ elements_lawful size row_of = record {
   rebuilt = elements_rebuilt size row_of;
   same = row_eq_same;
   more = λ e c n rs ss h. past_more e (n + length rs) (n + length (rs ++ ss)) (omega (arith, length-append rs ss)) h;
-  swift = omega arith;
-  sized = refl;
 }
+
+pub elements_storable : (size : ℕ) (row_of : List ℕ → Row) → IsStorable (elements_format size row_of)
+elements_storable size row_of = record { swift = omega arith; sized = refl }
 
 elements_keeps : (size : ℕ) (row_of : List ℕ → Row) (old new : Content) (n : ℕ) → Keeps (elements_format size row_of) old new n
 elements_keeps size row_of old new n = record { extents = λ k l. refl; limits = λ k l e rs. refl }
@@ -180,3 +181,13 @@ within_bytes size row_of bs i l =
     let m = mul-le-mul_left size h in
     let d = mul-div-le (length bs) size in
     omega (arith, m, d)
+
+-- a slice of elements breaks no rule
+pub typed_fine : {T : Type 0} {size : ℕ} {bytes : T → List ℕ} (row_of : List ℕ → Row) {meaning : T → Row} → IsElement size bytes row_of meaning → (xs : List T) (o : ℕ) → None ≡ first (moved o (elements_broken size (elements bytes xs)))
+typed_fine {T} {size} {bytes} row_of e xs o = rw (elements_sound row_of e xs).accepted refl
+
+-- row i of a slice of bytes, where the element that was read has its bytes
+pub row_read : {T : Type 0} {size : ℕ} {bytes : T → List ℕ} {row_of : List ℕ → Row} {meaning : T → Row} → IsElement size bytes row_of meaning → (bs : List ℕ) (i : ℕ) (x : T) → i < length (elements_rows size row_of (slice bs)) → bytes x ≡ take size (drop (size * i) bs) → slice_get (elements_rows size row_of (slice bs)) i ≡ Some (meaning x)
+row_read {T} {size} {bytes} {row_of} {meaning} e bs i x l h =
+    let m : row_of (take size (drop (size * i) bs)) ≡ meaning x = rw (← h) (e.read_back x) in
+    rw (row_at size row_of bs i l, m) refl

@@ -113,9 +113,10 @@ pub record IsLawful (f : Format) : Type 0 where
   pub same : IsSame f.alike
   -- what may not be held may not be held with more behind it
   pub more : (e : Excess) (c : Content) (n : ℕ) (rs ss : List Row) → f.refuses e c n rs ≡ true → f.refuses e c n (rs ++ ss) ≡ true
-  -- the test takes at most 16 turns for a byte
+
+-- What each format of a type with bytes keeps to: its test takes at most 16 turns for a byte, and each slice has a size.
+pub record IsStorable (f : Format) : Type 0 where
   pub swift : f.turns ≤ 16
-  -- each slice has a size
   pub sized : length f.sizes ≡ f.count
 
 -- no content of this form is the format's

@@ -25,7 +25,7 @@ pub trait Element: Copy + Item {
     /// The element of these bytes, the lowest first.
     fn from_le_bytes(bytes: &[u8]) -> Self
         requires { length bytes.now ≡ size }
-        ensures { Self.meaning result ≡ row_of bytes.now };
+        ensures { le_bytes result ≡ bytes.now };
 
     ghost element: { IsElement size le_bytes row_of Self.meaning };
 

@@ -1,15 +1,18 @@
 //! Views of elements: read in place, from a slice of them or from little-endian bytes.
 ghost use Rattle.std.specs.Prelude.{◌≡◌, ℕ, ◌+◌, ◌-◌, ◌*◌, ◌<◌, ◌≤◌, length, refl, take, drop};
 ghost use Rattle.columnar_base.specs.Format.{slice, IsSound};
-ghost use Rattle.columnar_base.specs.Elements.{elements_format, elements};
+ghost use Rattle.columnar_base.specs.Elements.{elements_format, elements_rows, elements};
 ghost use Rattle.columnar_base.specs.Views.{items_content};
 
 use crate::element::Element;
 use crate::traits::{Clear, Column, Index, Len};
 
+/// Where the elements of a view stand.
 #[derive(Clone, Copy)]
-enum Items<'a, T> {
+pub enum Items<'a, T> {
+    /// In a slice of them.
     Typed(&'a [T]),
+    /// In their little-endian bytes.
     Bytes(&'a [u8]),
 }
 
@@ -48,10 +51,19 @@ impl<'a, T: Element> View<'a, T> {
             items: Items::Bytes(bytes),
         }
     }
+
+    /// Where the elements stand.
+    pub fn items(&self) -> Items<'a, T>
+        ensures { items_content T.le_bytes result ≡ ⟦<View<'a, T> as Column>⟧.content self.now }
+    {
+        self.items
+    }
 }
 
 impl<'v, T: Element> Len for View<'v, T> {
-    fn len(&self) -> usize {
+    fn len(&self) -> usize
+        ensures { result ≡ length (elements_rows T.size T.row_of (items_content T.le_bytes self.now.items)) }
+    {
         match self.items {
             Items::Typed(items) => items.len(),
             Items::Bytes(bytes) => bytes.len() / T::size(),
@@ -66,10 +78,10 @@ pub(crate) fn element_at<T: Element>(items: &[T], index: usize) -> T
     items[index]
 }
 
-// the element in the bytes from index * size on
-fn element_in<T: Element>(bytes: &[u8], index: usize) -> T
+/// Element `index` of the bytes. Asks that they have all of it.
+pub fn element_in<T: Element>(bytes: &[u8], index: usize) -> T
     requires { T.size * index + T.size ≤ length bytes.now }
-    ensures { T.meaning result ≡ T.row_of (take T.size (drop (T.size * index) bytes.now)) }
+    ensures { T.le_bytes result ≡ take T.size (drop (T.size * index) bytes.now) }
 {
     let size = T::size();
     let start = size * index;

@@ -1,0 +1,15 @@
+pub mod Bytes
+pub mod Frame
+pub mod FrameLaws
+pub mod Words
+pub mod WordLaws
+pub mod ByteLaws
+pub mod Sent
+pub mod SentLaws
+pub mod Slices
+pub mod Store
+pub mod Column
+pub mod ColumnLaws
+pub mod Bounds
+pub mod StoreLaws
+pub mod Appended

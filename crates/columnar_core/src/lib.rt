@@ -1,2 +1,10 @@
-//! Under construction.
+//! Columns in a store of bytes: how their slices are read, and how they go out to a writer.
 #![tactic(auto)]
+
+pub mod byte_slice;
+pub mod bytes;
+pub mod container;
+pub mod offsets;
+pub mod store;
+pub mod vector;
+pub mod writer;

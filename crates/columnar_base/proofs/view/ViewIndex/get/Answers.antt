@@ -1,5 +1,5 @@
 use Rattle.std.proofs.Common.{◌≡◌, sym, ◌∙◌}
-use Rattle.columnar_base.specs.ElementLaws.{length-elements, length-typed, row_typed, row_at, within_bytes}
+use Rattle.columnar_base.specs.ElementLaws.{length-typed, row_typed, row_read, within_bytes}
 use Rattle.columnar_base.proofs.view.ViewIndex.get.Goals as goal
 
 pub element_at-requires : goal.element_at-requires
@@ -12,4 +12,4 @@ pub returns-in-Typed-clause-row : goal.returns-in-Typed-clause-row
 returns-in-Typed-clause-row g c = rw c.in-Typed.is (row_typed g.met.T.Element.element c.in-Typed.items.now c.args.index c.element_at.result c.element_at.ensures)
 
 pub returns-in-Bytes-clause-row : goal.returns-in-Bytes-clause-row
-returns-in-Bytes-clause-row g c = rw (c.in-Bytes.is, c.element_in.ensures) (row_at g.T.Element.size g.T.Element.row_of c.in-Bytes.bytes.now c.args.index (rw c.in-Bytes.is at c.requires.in_range))
+returns-in-Bytes-clause-row g c = rw c.in-Bytes.is (row_read g.met.T.Element.element c.in-Bytes.bytes.now c.args.index c.element_in.result (rw c.in-Bytes.is at c.requires.in_range) c.element_in.ensures)

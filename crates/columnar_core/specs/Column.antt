@@ -1,0 +1,15 @@
+-- The slices of a column, one after the other.
+use Rattle.std.specs.Prelude.{ℕ, List, [], ◌∷◌, ◌≡◌, drop, Option, MatchOption}
+use Rattle.columnar_base.specs.Format.{slices_of}
+use Rattle.columnar_core.specs.Slices.{bytes_in, alignment}
+use Rattle.columnar_core.specs.declared.byte_slice.ByteSlice.{ByteSlice}
+use Rattle.columnar_core.specs.declared.bytes.ByteSlices.{ByteSlices}
+
+-- the slices of the column that are left
+abbrev pub byte_slices_left : {V : Type 0} {column : _} → ByteSlices V column → List (List ℕ)
+byte_slices_left {column = column} s = drop s.index (slices_of (column.content s.column.now))
+
+-- a call from s gave the bytes of the first slice that was left, with its alignment, and left the others; or `None`
+-- where nothing was left, and left nothing
+abbrev pub GivesSlice : {S : Type 0} → (S → List (List ℕ)) → S → Option (ℕ × ByteSlice) → S → Type 0
+GivesSlice left s given t = MatchOption given ((left s ≡ []) × (left t ≡ [])) (λ p. (left s ≡ bytes_in p.1 ∷ left t) × (p.0 ≡ alignment p.1))

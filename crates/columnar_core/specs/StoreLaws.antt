@@ -1,0 +1,21 @@
+-- Slices of a store, by their number.
+use Rattle.std.proofs.Common.{◌≡◌, ℕ, zero, suc, ◌+◌, ◌/◌, ◌%◌, ◌<◌, ◌≤◌, List, [], ◌∷◌, length, drop, refl, sym, ◌∙◌, ap, arith}
+use Rattle.std.specs.Prelude.{slice_get, slice_index_or, Some, None}
+use Rattle.columnar_base.specs.Row.{Row}
+use Rattle.columnar_base.specs.Format.{slice}
+use Rattle.columnar_base.specs.Elements.{elements_rows, first_slice}
+use Rattle.columnar_base.specs.ElementLaws.{length-elements}
+use Rattle.columnar_core.specs.declared.store.DecodedStore.{DecodedStore}
+use Rattle.columnar_core.specs.Store.{slices_in}
+
+-- what stands at `offset`, and what follows it
+pub drop_at : (ss : List (List ℕ)) (o : ℕ) (bs : List ℕ) → o < length ss → bs ≡ slice_index_or ss o [] → drop o ss ≡ bs ∷ drop (suc o) ss
+drop_at [] o bs l h = absurd (omega arith)
+drop_at (x ∷ xs) zero bs l h = let e : bs ≡ x = h in rw e refl
+drop_at (x ∷ xs) (suc o) bs l h = drop_at xs o bs (omega arith) h
+
+pub first_at : (ss : List (List ℕ)) (o : ℕ) (bs : List ℕ) → o < length ss → bs ≡ slice_index_or ss o [] → first_slice (drop o ss) ≡ slice bs
+first_at ss o bs l h = rw (drop_at ss o bs l h) refl
+
+pub length_at : (size : ℕ) (row_of : List ℕ → Row) (store : DecodedStore) (o : ℕ) (bs : List ℕ) → o + 1 ≤ length (slices_in store) → bs ≡ slice_index_or (slices_in store) o [] → length bs / size ≡ length (elements_rows size row_of (first_slice (drop o (slices_in store))))
+length_at size row_of store o bs l h = rw (first_at (slices_in store) o bs (omega arith) h) (sym (length-elements size row_of bs))

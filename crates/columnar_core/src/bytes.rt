@@ -1,0 +1,197 @@
+//! Columns as slices of bytes.
+ghost use Rattle.std.specs.Prelude.{◌≡◌, ℕ, ◌+◌, ◌*◌, ◌^◌, ◌<◌, ◌≤◌, ◌++◌, Some, IsTrue, slice_get, length, drop, OnOk, OnErr, IfErr};
+ghost use Rattle.columnar_base.specs.Format.{Format, Fits, IsSound, IsStorable, bytes_held, faults_at, first, moved, representable, slices_of};
+ghost use Rattle.columnar_base.specs.Faults.{verdict};
+ghost use Rattle.columnar_core.specs.Store.{slices_in};
+ghost use Rattle.columnar_core.specs.Slices.{bytes_in, alignment};
+
+use super::byte_slice::ByteSlice;
+use super::store::DecodedStore;
+use columnar_base::fault::{GrowError, StoreFault};
+use columnar_base::tally::Tally;
+use columnar_base::traits::Column;
+use std::marker::PhantomData;
+
+/// A column that can stand in a store of bytes; names no lifetime. All of its calls ask that the type is representable:
+/// at most 2^60 slices, of elements of 1 to 2^63 - 1 bytes.
+pub trait Stored: Column {
+    /// How many slices the type has.
+    fn slice_count() -> usize
+        requires { IsTrue (representable Self.format) }
+        ensures { result ≡ Self.format.count };
+
+    /// Appends the size of an element of each slice, in bytes: 8 for a head, a tail or a count. All or none.
+    fn element_sizes(sizes: &mut Vec<usize>) -> Result<(), GrowError>
+        requires { IsTrue (representable Self.format) }
+        ensures ok { OnOk result (sizes.new.items ≡ sizes.old.items ++ Self.format.sizes) }
+        ensures err { OnErr result (sizes.new.items ≡ sizes.old.items) }
+        ensures memory { IfErr result (λ e. e ≡ GrowError.Memory) };
+
+    /// Which rule do the slices from `offset` on break first? Asks that they are there. Needs no memory; the turns
+    /// that it takes are added to the tally.
+    fn judge_tallied<L>(store: &DecodedStore<'_>, offset: usize, tally: &mut Tally<L>) -> Result<(), StoreFault>
+        requires representable { IsTrue (representable Self.format) }
+        requires room { offset + Self.format.count ≤ length (slices_in store.now) }
+        ensures exact { verdict result ≡ first (moved offset (Self.format.broken (Self.format.build (drop offset (slices_in store.now))))) }
+        ensures turns { tally.new.turns ≤ tally.old.turns + Self.format.turns * bytes_held (Self.format.build (drop offset (slices_in store.now))) };
+
+    /// The number of rows in slices that were accepted.
+    fn rows_in(store: &DecodedStore<'_>, offset: usize) -> usize
+        requires representable { IsTrue (representable Self.format) }
+        requires fits { Fits Self.format offset (slices_in store.now) }
+        ensures { result ≡ length (Self.format.rows (Self.format.build (drop offset (slices_in store.now)))) };
+
+    /// As `validate`; the turns that it takes are added to the tally, at most 16 for each byte of its slices.
+    final fn validate_tallied<L>(store: &DecodedStore<'_>, offset: &mut usize, tally: &mut Tally<L>) -> Result<(), StoreFault>
+        requires { IsTrue (representable Self.format) }
+        ensures exact { verdict result ≡ first (faults_at Self.format offset.old (slices_in store.now)) }
+        ensures next { OnOk result (offset.new ≡ offset.old + Self.format.count) }
+        ensures stays { OnErr result (offset.new ≡ offset.old) }
+        ensures turns { tally.new.turns ≤ tally.old.turns + 16 * bytes_held (Self.format.build (drop offset.old (slices_in store.now))) }
+    {
+        let count = Self::slice_count();
+        let start = *offset;
+        if start > store.len() || store.len() - start < count {
+            return Err(StoreFault::SliceCount(0));
+        }
+        match Self::judge_tallied(store, start, tally) {
+            Ok(()) => {
+                *offset = start + count;
+                Ok(())
+            }
+            Err(fault) => Err(fault),
+        }
+    }
+
+    /// Do as many slices as the type has, from `offset` on, make a well-formed column? The fault is the first broken
+    /// rule: that there are too few slices, then those of the parts in slice order, then the column's own. On Ok the
+    /// offset moves past the slices, on Err it stays. Needs no memory.
+    final fn validate(store: &DecodedStore<'_>, offset: &mut usize) -> Result<(), StoreFault>
+        requires { IsTrue (representable Self.format) }
+        ensures exact { verdict result ≡ first (faults_at Self.format offset.old (slices_in store.now)) }
+        ensures next { OnOk result (offset.new ≡ offset.old + Self.format.count) }
+        ensures stays { OnErr result (offset.new ≡ offset.old) }
+    {
+        match Self::validate_tallied(store, offset, &mut Tally::new()) {
+            Ok(()) => Ok(()),
+            Err(fault) => Err(fault),
+        }
+    }
+
+    ghost storable: { IsStorable Self.format };
+}
+
+/// A view that tests itself.
+pub trait Check: Stored {
+    /// Which rule does the view break first? Slices are counted from `from` on. The turns that it takes are added to
+    /// the tally.
+    fn check_from_tallied<L>(&self, from: usize, tally: &mut Tally<L>) -> Result<(), StoreFault>
+        requires representable { IsTrue (representable Self.format) }
+        requires counted { from + Self.format.count < 2 ^ 64 }
+        ensures exact { verdict result ≡ first (moved from (Self.format.broken (Self.content self.now))) }
+        ensures turns { tally.new.turns ≤ tally.old.turns + Self.format.turns * bytes_held (Self.content self.now) };
+
+    /// As `check`; the turns that it takes are added to the tally, at most 16 for each byte of the view's slices.
+    final fn check_tallied<L>(&self, tally: &mut Tally<L>) -> Result<(), StoreFault>
+        requires { IsTrue (representable Self.format) }
+        ensures exact { verdict result ≡ first (moved 0 (Self.format.broken (Self.content self.now))) }
+        ensures turns { tally.new.turns ≤ tally.old.turns + 16 * bytes_held (Self.content self.now) }
+    {
+        let _count = Self::slice_count();
+        match self.check_from_tallied(0, tally) {
+            Ok(()) => Ok(()),
+            Err(fault) => Err(fault),
+        }
+    }
+
+    /// Is the view well formed? The fault is the first broken rule, the parts' in slice order and then the whole's,
+    /// with slices counted from the view's first. Needs no memory.
+    final fn check(&self) -> Result<(), StoreFault>
+        requires { IsTrue (representable Self.format) }
+        ensures { verdict result ≡ first (moved 0 (Self.format.broken (Self.content self.now))) }
+    {
+        match self.check_tallied(&mut Tally::new()) {
+            Ok(()) => Ok(()),
+            Err(fault) => Err(fault),
+        }
+    }
+}
+
+/// A view that is made of slices that live for `'a`.
+pub trait FromBytes<'a>: Check {
+    /// The view of the slices from `offset` on, which moves past them. Asks that they are there; the view is well
+    /// formed where `validate` accepts them.
+    fn from_store(store: &DecodedStore<'a>, offset: &mut usize) -> Self
+        requires representable { IsTrue (representable Self.format) }
+        requires room { offset.old + Self.format.count ≤ length (slices_in store.now) }
+        ensures content { Self.content result ≡ Self.format.build (drop offset.old (slices_in store.now)) }
+        ensures next { offset.new ≡ offset.old + Self.format.count };
+}
+
+/// A column, or a view of one, whose slices live for `'a`.
+pub trait AsBytes<'a>: Stored {
+    /// Slice `index`, with the alignment of its elements in bytes. Asks that the type is representable and that
+    /// `index` is below its number of slices.
+    fn get_byte_slice(&self, index: usize) -> (u64, ByteSlice<'a>)
+        requires representable { IsTrue (representable Self.format) }
+        requires in_range { index < Self.format.count }
+        ensures slice { slice_get (slices_of (Self.content self.now)) index ≡ Some (bytes_in result.1) }
+        ensures align { result.0 ≡ alignment result.1 };
+}
+
+/// The slices of a column in order, each with the alignment of its elements.
+#[derive(Drop)]
+pub struct ByteSlices<'s, 'a, V: AsBytes<'a>> {
+    column: &'s V,
+    index: usize,
+    lifetime: PhantomData<&'a ()>,
+    ghost representable: { IsTrue (representable V.format) },
+}
+
+impl<'s, 'a, V: AsBytes<'a>> ByteSlices<'s, 'a, V> {
+    ghost use Rattle.columnar_core.specs.Column.{byte_slices_left};
+
+    /// All slices of the column, from the first on. Asks that the type is representable.
+    pub fn new(column: &'s V) -> Self
+        requires { IsTrue (representable V.format) }
+        ensures { byte_slices_left result ≡ slices_of (V.content column.entry.now) }
+    {
+        ByteSlices {
+            column,
+            index: 0,
+            lifetime: PhantomData,
+        }
+    }
+}
+
+impl<'s, 'a, V: AsBytes<'a>> Iterator for ByteSlices<'s, 'a, V> {
+    ghost use Rattle.columnar_core.specs.Column.{byte_slices_left, GivesSlice};
+    ghost use Rattle.std.specs.Iterator.{item_count};
+
+    type Item = (u64, ByteSlice<'a>);
+
+    ghost next_gives = { GivesSlice byte_slices_left };
+
+    ghost remaining = { item_count byte_slices_left };
+
+    /// The next slice with its alignment; `None` once all were given, and from then on.
+    fn next(&mut self) -> Option<(u64, ByteSlice<'a>)> {
+        if self.index >= V::slice_count() {
+            return None;
+        }
+        let slice = self.column.get_byte_slice(self.index);
+        self.index += 1;
+        Some(slice)
+    }
+
+    /// How many are left, twice.
+    fn size_hint(&self) -> (usize, Option<usize>) {
+        let count = V::slice_count();
+        let left = if self.index < count {
+            count - self.index
+        } else {
+            0
+        };
+        (left, Some(left))
+    }
+}

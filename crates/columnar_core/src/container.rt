@@ -1,0 +1,157 @@
+//! The traits of containers: columns that grow, are cut, and are borrowed as views.
+ghost use Rattle.std.specs.Prelude.{◌≡◌, ℕ, ◌+◌, ◌-◌, ◌<◌, ◌≤◌, length, List, [], ◌∷◌, take, drop, OnOk, OnErr, IfOk, IfErr, IsTrue, slice_get, Some};
+ghost use Rattle.std.specs.Iterator.{IsFinite};
+ghost use Rattle.columnar_base.specs.Row.{Row};
+ghost use Rattle.columnar_base.specs.Format.{Content, Format, Fits, IsSound, IsLawful, representable, slices_of};
+ghost use Rattle.columnar_core.specs.Store.{slices_in};
+ghost use Rattle.columnar_core.specs.Slices.{bytes_in};
+ghost use Rattle.columnar_base.specs.Change.{Copied, Refused, Stayed, WasCut};
+
+use crate::byte_slice::ByteSlice;
+use crate::bytes::Stored;
+use crate::store::DecodedStore;
+use columnar_base::fault::GrowError;
+use columnar_base::traits::{Clear, Column, Index, Item, Len, Push};
+use std::alloc::Global;
+use std::ops::Range;
+
+/// What an owned column does that names no view.
+pub trait Storage: Len + Clear {
+    /// How much room the slices of columns take together.
+    type Room: Copy;
+
+    /// A column without rows.
+    fn empty(alloc: Global) -> Self
+        ensures sound { IsSound Self.format (Self.content result) }
+        ensures rows { Self.format.rows (Self.content result) ≡ [] };
+
+    /// Keeps the first `n` rows. Needs no memory.
+    fn truncate(&mut self, n: usize)
+        requires sound { IsSound Self.format (Self.content self.old) }
+        requires in_range { n ≤ length (Self.format.rows (Self.content self.old)) }
+        ensures { WasCut Self.format (Self.content self.old) (Self.content self.new) n };
+
+    /// Room for nothing.
+    fn no_room() -> Self::Room;
+
+    /// Makes room; the rows stay.
+    fn reserve_room(&mut self, room: Self::Room) -> Result<(), GrowError>
+        requires { IsSound Self.format (Self.content self.old) }
+        ensures stayed { Stayed Self.format (Self.content self.old) (Self.content self.new) }
+        ensures memory { IfErr result (λ e. e ≡ GrowError.Memory) };
+
+    ghost lawful: { IsLawful Self.format };
+}
+
+/// A column that copies ranges of rows out of views of type `V`.
+pub trait ExtendFrom<V: Index + Copy>: Storage {
+    /// The room, and what the slices of the view take besides.
+    fn add_room(room: Self::Room, view: V) -> Self::Room;
+
+    /// Adds rows that are alike to the rows of the range, one for one, or none of them. A front of the view, copied
+    /// into an empty column, is there as it was. After a refusal the rows and the lengths of all parts are as before;
+    /// Length and Offset are answered only where the rows may not be held together.
+    fn extend_from_self(&mut self, view: V, range: Range<usize>) -> Result<(), GrowError>
+        requires sound { IsSound Self.format (Self.content self.old) }
+        requires view_sound { IsSound V.format (V.content view) }
+        requires ordered { range.start ≤ range.«end» }
+        requires in_range { range.«end» ≤ length (V.format.rows (V.content view)) }
+        ensures ok { OnOk result (Copied Self.format (Self.content self.old) (Self.content self.new) range.start (take (range.«end» - range.start) (drop range.start (V.format.rows (V.content view))))) }
+        ensures err { IfErr result (λ e. Refused Self.format (Self.content self.old) (Self.content self.new) (take (range.«end» - range.start) (drop range.start (V.format.rows (V.content view)))) e) };
+
+    /// Makes room for the rows of the views; the rows stay.
+    final fn reserve_for<I: Iterator<Item = V> + Drop>(&mut self, views: I) -> Result<(), GrowError>
+        requires sound { IsSound Self.format (Self.content self.old) }
+        requires callable { I.can_next views }
+        requires finite { IsFinite (I.remaining views) }
+        ensures stayed { Stayed Self.format (Self.content self.old) (Self.content self.new) }
+        ensures memory { IfErr result (λ e. e ≡ GrowError.Memory) }
+    {
+        let mut room = Self::no_room();
+        for view in views {
+            room = Self::add_room(room, view);
+        }
+        match self.reserve_room(room) {
+            Ok(()) => Ok(()),
+            Err(error) => Err(error),
+        }
+    }
+
+    /// A column without rows, with room for the rows of the views.
+    final fn with_capacity_for<I: Iterator<Item = V> + Drop>(alloc: Global, views: I) -> Result<Self, GrowError>
+    where
+        Self: Drop,
+        requires callable { I.can_next views }
+        requires finite { IsFinite (I.remaining views) }
+        ensures sound { IfOk result (λ c. IsSound Self.format (Self.content c)) }
+        ensures rows { IfOk result (λ c. Self.format.rows (Self.content c) ≡ []) }
+        ensures memory { IfErr result (λ e. e ≡ GrowError.Memory) }
+    {
+        let mut column = Self::empty(alloc);
+        match column.reserve_for(views) {
+            Ok(()) => Ok(column),
+            Err(error) => Err(error),
+        }
+    }
+}
+
+/// A column that is borrowed, for a lifetime, as a view with the same content.
+pub trait Borrow<'a>: Len + Clone {
+    /// A row of the view.
+    type Ref: Copy + Item;
+
+    /// The view.
+    type Borrowed: Copy + Index<Ref = Self::Ref>;
+
+    /// Names the types that the views of the parts bring and that `Ref` and `Borrowed` leave out. Nothing has a value
+    /// of it.
+    type Parts: Item;
+
+    /// The view of the column. Needs no memory.
+    fn borrow(&'a self) -> Self::Borrowed
+        ensures { Self.Borrowed.content result ≡ Self.content self.now };
+
+    ghost same_format: { Self.Borrowed.format ≡ Self.format };
+}
+
+/// A view that can be shortened to the lifetime `'b`; nothing else changes.
+pub trait Reborrow<'b>: Column {
+    /// The same view, for the shorter lifetime.
+    type Short: Column;
+
+    fn reborrow(self) -> Self::Short
+        ensures { Self.Short.content result ≡ Self.content self };
+
+    ghost same_short: { Self.Short.format ≡ Self.format };
+}
+
+/// A row that can be shortened to the lifetime `'b`; nothing else changes.
+pub trait ReborrowRef<'b>: Item {
+    /// The same row, for the shorter lifetime.
+    type ShortRef: Item;
+
+    fn reborrow_ref(self) -> Self::ShortRef
+        requires { Self.valid self }
+        ensures row { Self.ShortRef.meaning result ≡ Self.meaning self }
+        ensures valid { Self.ShortRef.valid result };
+}
+
+/// All that a container does with the views and rows of one lifetime.
+pub trait Container<'a>: Borrow<'a> + Storage + Push<<Self as Borrow<'a>>::Ref> + ExtendFrom<<Self as Borrow<'a>>::Borrowed> {}
+
+/// A container that can be written to bytes and loaded from them. What it says of bytes is what its view says.
+pub trait ContainerBytes: Storage + Stored {
+    /// Slice `index` of the column, as its view's.
+    fn byte_slice(&self, index: usize) -> ByteSlice<'_>
+        requires representable { IsTrue (representable Self.format) }
+        requires in_range { index < Self.format.count }
+        ensures { slice_get (slices_of (Self.content self.now)) index ≡ Some (bytes_in result) };
+
+    /// A column of the rows and slices of a store that was accepted, each part loaded whole; want of memory alone
+    /// refuses it.
+    fn load(alloc: Global, store: &DecodedStore<'_>, offset: usize) -> Result<Self, GrowError>
+        requires representable { IsTrue (representable Self.format) }
+        requires fits { Fits Self.format offset (slices_in store.now) }
+        ensures content { IfOk result (λ c. Self.content c ≡ Self.format.build (drop offset (slices_in store.now))) }
+        ensures memory { IfErr result (λ e. e ≡ GrowError.Memory) };
+}

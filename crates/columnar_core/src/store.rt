@@ -1,0 +1,105 @@
+//! The slices of a store of bytes, read in place.
+ghost use Rattle.std.specs.Prelude.{[], ◌≡◌, ◌+◌, ◌*◌, ◌<◌, ◌≤◌, ◌^◌, length, slice_index_or};
+ghost use Rattle.columnar_core.specs.Bytes.{word, rounded};
+ghost use Rattle.columnar_core.specs.Frame.{IsStore, framed_slices};
+
+/// Word `index` of the bytes, lowest first. Asks that the bytes have all of it.
+pub fn word_at(bytes: &[u8], index: usize) -> u64
+    requires { 8 * index + 8 ≤ length bytes.now }
+    ensures { result ≡ word bytes.now index }
+{
+    let at = 8 * index;
+    u64::from_le_bytes([
+        bytes[at],
+        bytes[at + 1],
+        bytes[at + 2],
+        bytes[at + 3],
+        bytes[at + 4],
+        bytes[at + 5],
+        bytes[at + 6],
+        bytes[at + 7],
+    ])
+}
+
+/// The least multiple of eight that is not below `n`. Asks that it stays below 2^64.
+pub fn round_up(n: usize) -> usize
+    requires { n + 7 < 2 ^ 64 }
+    ensures { result ≡ rounded n }
+{
+    8 * ((n + 7) / 8)
+}
+
+/// Bytes whose structure is legal: they are whole words, begin with a table, and each slice of the table lies in them.
+#[derive(Clone, Copy)]
+pub struct DecodedStore<'a> {
+    bytes: &'a [u8],
+    ghost legal: { IsStore bytes.now },
+}
+
+impl<'a> DecodedStore<'a> {
+    ghost use Rattle.columnar_core.specs.Store.{slices_in};
+
+    /// The store in these bytes. Asks that their structure is legal, as `validate_structure` tests.
+    pub fn new(bytes: &'a [u8]) -> Self
+        requires { IsStore bytes.now }
+        ensures { slices_in result ≡ framed_slices bytes.now }
+    {
+        DecodedStore { bytes }
+    }
+
+    /// How many slices it has.
+    pub fn len(&self) -> usize
+        ensures { result ≡ length (slices_in self.now) }
+    {
+        word_at(self.bytes, 0) as usize / 8 - 1
+    }
+
+    /// The bytes of slice `index`, without padding. Asks that `index` is below the number of slices.
+    pub fn get(&self, index: usize) -> &'a [u8]
+        requires { index < length (slices_in self.now) }
+        ensures { result.now ≡ slice_index_or (slices_in self.now) index [] }
+    {
+        let start = round_up(word_at(self.bytes, index) as usize);
+        let end = word_at(self.bytes, index + 1) as usize;
+        &self.bytes[start..end]
+    }
+}
+
+/// The slices of a store, in order.
+#[derive(Clone, Copy)]
+pub struct Decode<'a> {
+    store: DecodedStore<'a>,
+    index: usize,
+}
+
+impl<'a> Decode<'a> {
+    ghost use Rattle.columnar_core.specs.Store.{slices_in, slices_left};
+
+    /// All slices of the store, from the first on.
+    pub fn new(store: DecodedStore<'a>) -> Self
+        ensures { slices_left result ≡ slices_in store.entry }
+    {
+        Decode { store, index: 0 }
+    }
+}
+
+impl<'a> Iterator for Decode<'a> {
+    ghost use Rattle.columnar_core.specs.Store.{slices_left};
+    ghost use Rattle.std.specs.Iterator.{YieldsFirstRef, item_count};
+
+    type Item = &'a [u8];
+
+    ghost next_gives = { YieldsFirstRef slices_left };
+
+    ghost remaining = { item_count slices_left };
+
+    /// The next slice; `None` once all were given, and from then on.
+    fn next(&mut self) -> Option<&'a [u8]> {
+        if self.index >= self.store.len() {
+            return None;
+        }
+        let slice = self.store.get(self.index);
+        self.index += 1;
+        Some(slice)
+    }
+}

@@ -1,0 +1,287 @@
+//! Columns of elements in a `Vec`, as containers.
+ghost use Rattle.std.specs.Prelude.{◌≡◌, ℕ, ◌+◌, ◌-◌, ◌*◌, ◌%◌, ◌<◌, ◌≤◌, ◌++◌, ◌∷◌, [], length, take, drop, map, List, Some, slice_get, IsTrue, OnOk, OnErr, IfOk, IfErr, refl};
+ghost use Rattle.std.specs.List.{flat_map};
+ghost use Rattle.std.specs.Int.{to_le_bytes, w64};
+ghost use Rattle.columnar_base.specs.Format.{Fits, IsSound, bytes_held, first, moved, representable};
+ghost use Rattle.columnar_base.specs.Elements.{elements, elements_broken, elements_format, elements_rows, first_slice};
+ghost use Rattle.columnar_base.specs.ElementLaws.{elements_lawful, elements_storable};
+ghost use Rattle.columnar_base.specs.Change.{Copied, Refused};
+ghost use Rattle.columnar_base.specs.Faults.{verdict};
+ghost use Rattle.columnar_core.specs.Slices.{bytes_in, alignment};
+ghost use Rattle.columnar_core.specs.Store.{slices_in};
+ghost use Rattle.columnar_core.specs.Appended.{Appended};
+
+use crate::byte_slice::ByteSlice;
+use crate::bytes::{AsBytes, Check, FromBytes, Stored};
+use crate::container::{Borrow, Container, ContainerBytes, ExtendFrom, Reborrow, ReborrowRef, Storage};
+use crate::store::DecodedStore;
+use columnar_base::element::{Element, Viewed};
+use columnar_base::fault::{GrowError, StoreFault};
+use columnar_base::tally::Tally;
+use columnar_base::traits::{Column, Index, Item, Len};
+use columnar_base::view::{Items, View, element_in};
+use std::alloc::Global;
+use std::ops::Range;
+
+/// An element whose slices can go out as bytes.
+pub trait Sliced: Element {
+    // the alignment of its slices, in bytes
+    ghost align: { ℕ };
+
+    /// The bytes of the elements.
+    fn byte_slice(items: &[Self]) -> ByteSlice<'_>
+        ensures bytes { bytes_in result ≡ flat_map Self.le_bytes items.now }
+        ensures align { alignment result ≡ align };
+}
+
+impl Sliced for u64 {
+    ghost align = { 8 };
+
+    fn byte_slice(items: &[u64]) -> ByteSlice<'_> {
+        ByteSlice::of_words(items)
+    }
+}
+
+impl<T: Element> Storage for Vec<T> {
+    type Room = usize;
+
+    ghost lawful = { elements_lawful T.size T.row_of };
+
+    fn empty(alloc: Global) -> Self {
+        Vec::new(alloc)
+    }
+
+    fn truncate(&mut self, n: usize) {
+        Vec::truncate(self, n);
+    }
+
+    fn no_room() -> usize {
+        0
+    }
+
+    fn reserve_room(&mut self, room: usize) -> Result<(), GrowError> {
+        match self.reserve(room) {
+            Ok(()) => Ok(()),
+            Err(_) => Err(GrowError::Memory),
+        }
+    }
+}
+
+// Appends the elements; want of memory refuses all of them.
+fn append_typed<T: Element>(column: &mut Vec<T>, items: &[T]) -> Result<(), GrowError>
+    ensures ok { OnOk result (column.new.items ≡ column.old.items ++ items.now) }
+    ensures err { OnErr result (column.new.items ≡ column.old.items) }
+    ensures memory { IfErr result (λ e. e ≡ GrowError.Memory) }
+{
+    match column.extend_from_slice(items) {
+        Ok(()) => Ok(()),
+        Err(_) => Err(GrowError::Memory),
+    }
+}
+
+// Appends the rows start..end of a view, or none of them.
+fn append_rows<'x, T: Element>(column: &mut Vec<T>, view: View<'x, T>, start: usize, end: usize) -> Result<(), GrowError>
+    requires view_sound { IsSound (elements_format T.size T.row_of) (⟦<View<'x, T> as Column>⟧.content view) }
+    requires ordered { start ≤ end }
+    requires in_range { end ≤ length (elements_rows T.size T.row_of (⟦<View<'x, T> as Column>⟧.content view)) }
+    ensures ok { OnOk result (Appended T.meaning column.old.items column.new.items (take (end - start) (drop start (elements_rows T.size T.row_of (⟦<View<'x, T> as Column>⟧.content view.entry))))) }
+    ensures err { OnErr result (column.new.items ≡ column.old.items) }
+    ensures memory { IfErr result (λ e. e ≡ GrowError.Memory) }
+{
+    if column.reserve(end - start).is_err() {
+        return Err(GrowError::Memory);
+    }
+    let before = column.len();
+    for i in start..end {
+        match column.push(view.get(i)) {
+            Ok(()) => {}
+            Err(_) => {
+                column.truncate(before);
+                return Err(GrowError::Memory);
+            }
+        }
+    }
+    Ok(())
+}
+
+impl<'x, T: Viewed + 'x> ExtendFrom<View<'x, T>> for Vec<T> {
+    fn add_room(room: usize, view: View<'x, T>) -> usize {
+        room.saturating_add(view.len())
+    }
+
+    fn extend_from_self(&mut self, view: View<'x, T>, range: Range<usize>) -> Result<(), GrowError> {
+        match view.items() {
+            Items::Typed(items) => match append_typed(self, elements_between(items, range.start, range.end)) {
+                Ok(()) => Ok(()),
+                Err(error) => Err(error),
+            },
+            Items::Bytes(_) => match append_rows(self, view, range.start, range.end) {
+                Ok(()) => Ok(()),
+                Err(error) => Err(error),
+            },
+        }
+    }
+}
+
+impl<'a, T: Viewed + 'a> Borrow<'a> for Vec<T> {
+    type Ref = T;
+
+    type Borrowed = View<'a, T>;
+
+    type Parts = T;
+
+    ghost same_format = { refl };
+
+    fn borrow(&'a self) -> View<'a, T> {
+        View::from_slice(self.as_slice())
+    }
+}
+
+impl<'a, T: Viewed + 'a> Container<'a> for Vec<T> {}
+
+impl<'a, 'b, T: Element> Reborrow<'b> for View<'a, T>
+where
+    'a: 'b,
+{
+    type Short = View<'b, T>;
+
+    ghost same_short = { refl };
+
+    fn reborrow(self) -> View<'b, T> {
+        self
+    }
+}
+
+impl<T: Element> Stored for Vec<T> {
+    ghost storable = { elements_storable T.size T.row_of };
+
+    fn slice_count() -> usize {
+        1
+    }
+
+    fn element_sizes(sizes: &mut Vec<usize>) -> Result<(), GrowError> {
+        match sizes.push(T::size()) {
+            Ok(()) => Ok(()),
+            Err(_) => Err(GrowError::Memory),
+        }
+    }
+
+    fn judge_tallied<L>(store: &DecodedStore<'_>, offset: usize, tally: &mut Tally<L>) -> Result<(), StoreFault> {
+        let bytes = store.get(offset);
+        if bytes.len() % T::size() == 0 { Ok(()) } else { Err(StoreFault::ElementSize(offset)) }
+    }
+
+    fn rows_in(store: &DecodedStore<'_>, offset: usize) -> usize {
+        store.get(offset).len() / T::size()
+    }
+}
+
+impl<'v, T: Element> Stored for View<'v, T> {
+    ghost storable = { elements_storable T.size T.row_of };
+
+    fn slice_count() -> usize
+        ensures { result ≡ 1 }
+    {
+        1
+    }
+
+    fn element_sizes(sizes: &mut Vec<usize>) -> Result<(), GrowError>
+        requires { IsTrue (representable (elements_format T.size T.row_of)) }
+        ensures ok { OnOk result (sizes.new.items ≡ sizes.old.items ++ T.size ∷ []) }
+        ensures err { OnErr result (sizes.new.items ≡ sizes.old.items) }
+        ensures memory { IfErr result (λ e. e ≡ GrowError.Memory) }
+    {
+        match Vec::<T>::element_sizes(sizes) {
+            Ok(()) => Ok(()),
+            Err(error) => Err(error),
+        }
+    }
+
+    fn judge_tallied<L>(store: &DecodedStore<'_>, offset: usize, tally: &mut Tally<L>) -> Result<(), StoreFault>
+        requires representable { IsTrue (representable (elements_format T.size T.row_of)) }
+        requires room { offset + 1 ≤ length (slices_in store.now) }
+        ensures exact { verdict result ≡ first (moved offset (elements_broken T.size (first_slice (drop offset (slices_in store.now))))) }
+        ensures turns { tally.new.turns ≤ tally.old.turns + 0 * bytes_held (first_slice (drop offset (slices_in store.now))) }
+    {
+        match Vec::<T>::judge_tallied(store, offset, tally) {
+            Ok(()) => Ok(()),
+            Err(fault) => Err(fault),
+        }
+    }
+
+    fn rows_in(store: &DecodedStore<'_>, offset: usize) -> usize
+        requires representable { IsTrue (representable (elements_format T.size T.row_of)) }
+        requires fits { Fits (elements_format T.size T.row_of) offset (slices_in store.now) }
+        ensures { result ≡ length (elements_rows T.size T.row_of (first_slice (drop offset (slices_in store.now)))) }
+    {
+        Vec::<T>::rows_in(store, offset)
+    }
+}
+
+impl<'v, T: Element> Check for View<'v, T> {
+    fn check_from_tallied<L>(&self, from: usize, tally: &mut Tally<L>) -> Result<(), StoreFault> {
+        match self.items() {
+            Items::Typed(_) => Ok(()),
+            Items::Bytes(bytes) => {
+                if bytes.len() % T::size() == 0 { Ok(()) } else { Err(StoreFault::ElementSize(from)) }
+            }
+        }
+    }
+}
+
+impl<'s, T: Element> FromBytes<'s> for View<'s, T> {
+    fn from_store(store: &DecodedStore<'s>, offset: &mut usize) -> Self {
+        let start = *offset;
+        *offset = start + 1;
+        View::from_le_bytes(store.get(start))
+    }
+}
+
+impl<'s, T: Sliced> AsBytes<'s> for View<'s, T> {
+    fn get_byte_slice(&self, index: usize) -> (u64, ByteSlice<'s>) {
+        let slice = match self.items() {
+            Items::Typed(items) => T::byte_slice(items),
+            Items::Bytes(bytes) => ByteSlice::of_bytes(bytes),
+        };
+        (slice.align(), slice)
+    }
+}
+
+impl<T: Sliced> ContainerBytes for Vec<T> {
+    fn byte_slice(&self, index: usize) -> ByteSlice<'_> {
+        T::byte_slice(self.as_slice())
+    }
+
+    fn load(alloc: Global, store: &DecodedStore<'_>, offset: usize) -> Result<Self, GrowError> {
+        elements_of(alloc, store.get(offset))
+    }
+}
+
+// The elements that the bytes are.
+fn elements_of<T: Element>(alloc: Global, bytes: &[u8]) -> Result<Vec<T>, GrowError>
+    requires { length bytes.now % T.size ≡ 0 }
+    ensures elements { IfOk result (λ v. flat_map T.le_bytes v.items ≡ bytes.now) }
+    ensures memory { IfErr result (λ e. e ≡ GrowError.Memory) }
+{
+    let count = bytes.len() / T::size();
+    let mut column = Vec::new(alloc);
+    if column.reserve(count).is_err() {
+        return Err(GrowError::Memory);
+    }
+    for i in 0..count {
+        match column.push(element_in(bytes, i)) {
+            Ok(()) => {}
+            Err(_) => return Err(GrowError::Memory),
+        }
+    }
+    Ok(column)
+}
+
+// The elements start..end of a slice.
+fn elements_between<T>(items: &[T], start: usize, end: usize) -> &[T]
+    requires ordered { start ≤ end }
+    requires in_range { end ≤ length items.now }
+    ensures { result.now ≡ take (end - start) (drop start items.now) }
+{
+    &items[start..end]
+}

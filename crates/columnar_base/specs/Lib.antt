@@ -3,6 +3,7 @@ pub mod RowLaws
 pub mod Format
 pub mod FaultLaws
 pub mod AlikeLaws
+pub mod TwoParts
 pub mod Change
 pub mod ChangeLaws
 pub mod Faults

@@ -1,0 +1,122 @@
+-- Formats of two parts, one after the other: what the tests of the parts say of the whole.
+use Rattle.std.proofs.Common.{◌≡◌, ℕ, zero, suc, ◌+◌, ◌-◌, ◌*◌, ◌<◌, ◌≤◌, ◌^◌, Bool, true, false, ◌&&◌, List, [], ◌∷◌, ◌++◌, length, take, drop, refl, sym, ◌∙◌, ap, arith, length-append, map}
+use Rattle.std.specs.Prelude.{slice_get, Some, None, Option, nat_le, nat_lt}
+use Rattle.std.proofs.lemmas.List.{drop-drop, map-append}
+use Rattle.std.proofs.lemmas.Bool.{and_parts, and_from, leb-true, le-leb}
+use Rattle.std.proofs.Math.Nat.{mul-le-mul_left, mul-le-mul_right}
+use Rattle.columnar_base.specs.Format.{Format, Content, Fits, both, IsSound, IsStorable, Fault, fault, moved, moved_one, first, unless, bytes_held, representable, are_sizes}
+use Rattle.columnar_base.specs.FaultLaws.{moved_twice, first_found, first_none}
+
+-- a format of two parts one after the other, and its own rule over both
+pub record TwoParts (f a b : Format) (test : Content → Content → Bool) (rule : ℕ) : Type 0 where
+  pub count : f.count ≡ a.count + b.count
+  pub sizes : f.sizes ≡ a.sizes ++ b.sizes
+  pub build : (ss : List (List ℕ)) → f.build ss ≡ both (a.build ss) (b.build (drop a.count ss))
+  pub broken : (x y : Content) → f.broken (both x y) ≡ a.broken x ++ (moved a.count (b.broken y) ++ unless (test x y) (fault rule 0))
+
+-- the faults of both parts, and then the own one, counted from `o`
+pub two_moved : {f a b : Format} {test : Content → Content → Bool} {rule : ℕ} → TwoParts f a b test rule → (x y : Content) (o : ℕ) → moved o (f.broken (both x y)) ≡ moved o (a.broken x) ++ (moved (o + a.count) (b.broken y) ++ moved o (unless (test x y) (fault rule 0)))
+two_moved {f} {a} {b} {test} {rule} t x y o =
+    let e = t.broken x y in
+    let m1 : moved o (a.broken x ++ (moved a.count (b.broken y) ++ unless (test x y) (fault rule 0))) ≡ moved o (a.broken x) ++ moved o (moved a.count (b.broken y) ++ unless (test x y) (fault rule 0)) = map-append (moved_one o) (a.broken x) (moved a.count (b.broken y) ++ unless (test x y) (fault rule 0)) in
+    let m2 : moved o (moved a.count (b.broken y) ++ unless (test x y) (fault rule 0)) ≡ moved o (moved a.count (b.broken y)) ++ moved o (unless (test x y) (fault rule 0)) = map-append (moved_one o) (moved a.count (b.broken y)) (unless (test x y) (fault rule 0)) in
+    let m3 = moved_twice o a.count (b.broken y) in
+    rw e (m1 ∙ (rw (m2, m3) refl))
+
+-- the slices of two parts
+pub two_built : {f a b : Format} {test : Content → Content → Bool} {rule : ℕ} → TwoParts f a b test rule → (ss : List (List ℕ)) (o : ℕ) → f.build (drop o ss) ≡ both (a.build (drop o ss)) (b.build (drop (o + a.count) ss))
+two_built {f} {a} {b} t ss o =
+    let d : drop a.count (drop o ss) ≡ drop (o + a.count) ss = drop-drop a.count o ss in
+    rw (t.build, d) refl
+
+-- the first part breaks a rule
+pub two_left : {f a b : Format} {test : Content → Content → Bool} {rule : ℕ} → TwoParts f a b test rule → (x y : Content) (o : ℕ) (z : Fault) → Some z ≡ first (moved o (a.broken x)) → Some z ≡ first (moved o (f.broken (both x y)))
+two_left {f} {a} {b} {test} {rule} t x y o z h =
+    rw (two_moved t x y o) (sym (first_found (moved o (a.broken x)) (moved (o + a.count) (b.broken y) ++ moved o (unless (test x y) (fault rule 0))) z (sym h)))
+
+pub two_right : {f a b : Format} {test : Content → Content → Bool} {rule : ℕ} → TwoParts f a b test rule → (x y : Content) (o : ℕ) (z : Fault) → None ≡ first (moved o (a.broken x)) → Some z ≡ first (moved (o + a.count) (b.broken y)) → Some z ≡ first (moved o (f.broken (both x y)))
+two_right {f} {a} {b} {test} {rule} t x y o z n h =
+    let e : moved o (a.broken x) ≡ [] = first_none (moved o (a.broken x)) (sym n) in
+    rw (two_moved t x y o, e) (sym (first_found (moved (o + a.count) (b.broken y)) (moved o (unless (test x y) (fault rule 0))) z (sym h)))
+
+pub two_own : {f a b : Format} {test : Content → Content → Bool} {rule : ℕ} → TwoParts f a b test rule → (x y : Content) (o : ℕ) → None ≡ first (moved o (a.broken x)) → None ≡ first (moved (o + a.count) (b.broken y)) → test x y ≡ false → Some (fault rule o) ≡ first (moved o (f.broken (both x y)))
+two_own {f} {a} {b} {test} {rule} t x y o n m h =
+    let e : moved o (a.broken x) ≡ [] = first_none (moved o (a.broken x)) (sym n) in
+    let g : moved (o + a.count) (b.broken y) ≡ [] = first_none (moved (o + a.count) (b.broken y)) (sym m) in
+    let k : o + 0 ≡ o = omega arith in
+    rw (two_moved t x y o, e, g, h, k) refl
+
+pub two_fine : {f a b : Format} {test : Content → Content → Bool} {rule : ℕ} → TwoParts f a b test rule → (x y : Content) (o : ℕ) → None ≡ first (moved o (a.broken x)) → None ≡ first (moved (o + a.count) (b.broken y)) → test x y ≡ true → None ≡ first (moved o (f.broken (both x y)))
+two_fine {f} {a} {b} {test} {rule} t x y o n m h =
+    let e : moved o (a.broken x) ≡ [] = first_none (moved o (a.broken x)) (sym n) in
+    let g : moved (o + a.count) (b.broken y) ≡ [] = first_none (moved (o + a.count) (b.broken y)) (sym m) in
+    rw (two_moved t x y o, e, g, h) refl
+
+pub two_counted : {m n : ℕ} (xs ys : List (List ℕ)) → length xs ≡ m → length ys ≡ n → length (xs ++ ys) ≡ m + n
+two_counted {m} {n} xs ys p q = length-append xs ys ∙ omega (arith, p, q)
+
+-- slice i of two parts
+pub flat_left : (xs ys : List (List ℕ)) (i : ℕ) (b : List ℕ) → slice_get xs i ≡ Some b → slice_get (xs ++ ys) i ≡ Some b
+flat_left [] ys i b h = cc
+flat_left (x ∷ xs) ys zero b h = h
+flat_left (x ∷ xs) ys (suc i) b h = flat_left xs ys i b h
+
+pub flat_right : (xs ys : List (List ℕ)) (i k : ℕ) (b : List ℕ) → i ≡ length xs + k → slice_get ys k ≡ Some b → slice_get (xs ++ ys) i ≡ Some b
+flat_right [] ys i k b e h = let f : i ≡ k = omega arith in rw f h
+flat_right (x ∷ xs) ys zero k b e h = absurd (omega arith)
+flat_right (x ∷ xs) ys (suc i) k b e h = flat_right xs ys i k b (omega arith) h
+
+-- the same over the slices of a store
+pub two_right_at : {f a b : Format} {test : Content → Content → Bool} {rule : ℕ} → TwoParts f a b test rule → (ss : List (List ℕ)) (o : ℕ) (z : Fault) → None ≡ first (moved o (a.broken (a.build (drop o ss)))) → Some z ≡ first (moved (o + a.count) (b.broken (b.build (drop (o + a.count) ss)))) → Some z ≡ first (moved o (f.broken (f.build (drop o ss))))
+two_right_at {f} {a} {b} t ss o z n h = rw (two_built t ss o) (two_right t (a.build (drop o ss)) (b.build (drop (o + a.count) ss)) o z n h)
+
+pub two_fine_at : {f a b : Format} {test : Content → Content → Bool} {rule : ℕ} → TwoParts f a b test rule → (ss : List (List ℕ)) (o : ℕ) → None ≡ first (moved o (a.broken (a.build (drop o ss)))) → None ≡ first (moved (o + a.count) (b.broken (b.build (drop (o + a.count) ss)))) → test (a.build (drop o ss)) (b.build (drop (o + a.count) ss)) ≡ true → None ≡ first (moved o (f.broken (f.build (drop o ss))))
+two_fine_at {f} {a} {b} t ss o n m h = rw (two_built t ss o) (two_fine t (a.build (drop o ss)) (b.build (drop (o + a.count) ss)) o n m h)
+
+pub two_own_at : {f a b : Format} {test : Content → Content → Bool} {rule : ℕ} → TwoParts f a b test rule → (ss : List (List ℕ)) (o : ℕ) → None ≡ first (moved o (a.broken (a.build (drop o ss)))) → None ≡ first (moved (o + a.count) (b.broken (b.build (drop (o + a.count) ss)))) → test (a.build (drop o ss)) (b.build (drop (o + a.count) ss)) ≡ false → Some (fault rule o) ≡ first (moved o (f.broken (f.build (drop o ss))))
+two_own_at {f} {a} {b} t ss o n m h = rw (two_built t ss o) (two_own t (a.build (drop o ss)) (b.build (drop (o + a.count) ss)) o n m h)
+
+
+sizes_left : (xs ys : List ℕ) → are_sizes (xs ++ ys) ≡ true → are_sizes xs ≡ true
+sizes_left [] ys h = refl
+sizes_left (x ∷ xs) ys h =
+    let p = and_parts (nat_le 1 x) (nat_lt x (2 ^ 63) && are_sizes (xs ++ ys)) h in
+    let q = and_parts (nat_lt x (2 ^ 63)) (are_sizes (xs ++ ys)) p.1 in
+    and_from _ _ p.0 (and_from _ _ q.0 (sizes_left xs ys q.1))
+
+sizes_right : (xs ys : List ℕ) → are_sizes (xs ++ ys) ≡ true → are_sizes ys ≡ true
+sizes_right [] ys h = h
+sizes_right (x ∷ xs) ys h =
+    let p = and_parts (nat_le 1 x) (nat_lt x (2 ^ 63) && are_sizes (xs ++ ys)) h in
+    sizes_right xs ys (and_parts (nat_lt x (2 ^ 63)) (are_sizes (xs ++ ys)) p.1).1
+
+-- the parts of a representable type are representable
+pub representable_left : {f a b : Format} {test : Content → Content → Bool} {rule : ℕ} → TwoParts f a b test rule → representable f ≡ true → representable a ≡ true
+representable_left {f} {a} {b} t h =
+    let p = and_parts (nat_le f.count (2 ^ 60)) (are_sizes f.sizes) h in
+    let c : f.count ≤ 2 ^ 60 = leb-true f.count (2 ^ 60) p.0 in
+    and_from _ _ (le-leb a.count (2 ^ 60) (omega (arith, c, t.count))) (sizes_left a.sizes b.sizes (rw t.sizes at p.1))
+
+pub representable_right : {f a b : Format} {test : Content → Content → Bool} {rule : ℕ} → TwoParts f a b test rule → representable f ≡ true → representable b ≡ true
+representable_right {f} {a} {b} t h =
+    let p = and_parts (nat_le f.count (2 ^ 60)) (are_sizes f.sizes) h in
+    let c : f.count ≤ 2 ^ 60 = leb-true f.count (2 ^ 60) p.0 in
+    and_from _ _ (le-leb b.count (2 ^ 60) (omega (arith, c, t.count))) (sizes_right a.sizes b.sizes (rw t.sizes at p.1))
+
+-- both parts together have at most 2^60 slices
+pub representable_count : {f a b : Format} {test : Content → Content → Bool} {rule : ℕ} → TwoParts f a b test rule → representable f ≡ true → a.count + b.count ≤ 2 ^ 60
+representable_count {f} {a} {b} t h =
+    let p = and_parts (nat_le f.count (2 ^ 60)) (are_sizes f.sizes) h in
+    let c : f.count ≤ 2 ^ 60 = leb-true f.count (2 ^ 60) p.0 in
+    omega (arith, c, t.count)
+
+-- both slices have a size, and so has the whole
+pub two_sized : {f a b : Format} {test : Content → Content → Bool} {rule : ℕ} → TwoParts f a b test rule → IsStorable a → IsStorable b → length f.sizes ≡ f.count
+two_sized {f} {a} {b} t p q = rw t.sizes (length-append a.sizes b.sizes ∙ omega (arith, p.sized, q.sized, t.count))
+
+-- turns of both parts are turns of the whole
+pub two_turns : (r a b m n : ℕ) → a ≤ r → b ≤ r → a * m + b * n ≤ r * (m + n)
+two_turns r a b m n p q =
+    let u = mul-le-mul_right m p in
+    let v = mul-le-mul_right n q in
+    omega (arith, u, v)

@@ -110,10 +110,15 @@ elements_rebuilt size row_of (both x y) rest s = cc
 elements_rebuilt size row_of (part l u x) rest s = cc
 elements_rebuilt size row_of (plain rs) rest s = cc
 
+elements_built : (size : ℕ) (row_of : List ℕ → Row) (ss : List (List ℕ)) → 1 ≤ length ss → IsSound (elements_format size row_of) (first_slice ss) → slices_of (first_slice ss) ≡ take 1 ss
+elements_built size row_of [] l s = absurd (omega arith)
+elements_built size row_of (bs ∷ rest) l s = refl
+
 pub elements_lawful : (size : ℕ) (row_of : List ℕ → Row) → IsLawful (elements_format size row_of)
 elements_lawful size row_of = record {
   full = elements_full size row_of;
   rebuilt = elements_rebuilt size row_of;
+  built = elements_built size row_of;
   same = row_eq_same;
   more = λ e c n rs ss h. past_more e (n + length rs) (n + length (rs ++ ss)) (omega (arith, length-append rs ss)) h;
 }

@@ -109,6 +109,8 @@ pub record IsLawful (f : Format) : Type 0 where
   pub full : (c : Content) → IsSound f c → f.extent c (length (f.rows c)) ≡ lengths c
   -- the slices of a well-formed content make it again
   pub rebuilt : (c : Content) (rest : List (List ℕ)) → IsSound f c → f.build (slices_of c ++ rest) ≡ c
+  -- a content that slices made has just these slices
+  pub built : (ss : List (List ℕ)) → f.count ≤ length ss → IsSound f (f.build ss) → slices_of (f.build ss) ≡ take f.count ss
   -- alike is an equivalence
   pub same : IsSame f.alike
   -- what may not be held may not be held with more behind it

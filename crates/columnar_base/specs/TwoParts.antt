@@ -1,10 +1,10 @@
 -- Formats of two parts, one after the other: what the tests of the parts say of the whole.
-use Rattle.std.proofs.Common.{◌≡◌, ℕ, zero, suc, ◌+◌, ◌-◌, ◌*◌, ◌<◌, ◌≤◌, ◌^◌, Bool, true, false, ◌&&◌, List, [], ◌∷◌, ◌++◌, length, take, drop, refl, sym, ◌∙◌, ap, arith, length-append, map}
+use Rattle.std.proofs.Common.{◌≡◌, ℕ, zero, suc, ◌+◌, ◌-◌, ◌*◌, ◌<◌, ◌≤◌, ◌^◌, Bool, true, false, ◌&&◌, List, [], ◌∷◌, ◌++◌, length, take, drop, refl, sym, ◌∙◌, ap, arith, length-append, length-drop, map}
 use Rattle.std.specs.Prelude.{slice_get, Some, None, Option, nat_le, nat_lt}
 use Rattle.std.proofs.lemmas.List.{drop-drop, map-append}
 use Rattle.std.proofs.lemmas.Bool.{and_parts, and_from, leb-true, le-leb}
 use Rattle.std.proofs.Math.Nat.{mul-le-mul_left, mul-le-mul_right}
-use Rattle.columnar_base.specs.Format.{Format, Content, Fits, both, IsSound, IsStorable, Fault, fault, moved, moved_one, first, unless, bytes_held, representable, are_sizes}
+use Rattle.columnar_base.specs.Format.{Format, Content, Fits, both, IsSound, IsStorable, Fault, fault, moved, moved_one, first, unless, bytes_held, slices_of, representable, are_sizes}
 use Rattle.columnar_base.specs.FaultLaws.{moved_twice, first_found, first_none}
 
 -- a format of two parts one after the other, and its own rule over both
@@ -120,3 +120,22 @@ two_turns r a b m n p q =
     let u = mul-le-mul_right m p in
     let v = mul-le-mul_right n q in
     omega (arith, u, v)
+
+abbrev no_slices : List (List ℕ)
+no_slices = []
+
+take_none : (n : ℕ) → take n no_slices ≡ no_slices
+take_none zero = refl
+take_none (suc n) = refl
+
+-- the slices of both parts are the slices of the whole
+take_both : (m n : ℕ) (ss : List (List ℕ)) → take m ss ++ take n (drop m ss) ≡ take (m + n) ss
+take_both zero n ss = let e : zero + n ≡ n = omega arith in rw e refl
+take_both (suc m) n [] = take_none n ∙ sym (take_none (suc m + n))
+take_both (suc m) n (s ∷ ss) = let e : suc m + n ≡ suc (m + n) = omega arith in rw e (ap (λ t. s ∷ t) (take_both m n ss))
+
+pub two_slices : {f a b : Format} {test : Content → Content → Bool} {rule : ℕ} → TwoParts f a b test rule → (ss : List (List ℕ)) → f.count ≤ length ss → (a.count ≤ length ss → slices_of (a.build ss) ≡ take a.count ss) → (b.count ≤ length (drop a.count ss) → slices_of (b.build (drop a.count ss)) ≡ take b.count (drop a.count ss)) → slices_of (f.build ss) ≡ take f.count ss
+two_slices {f} {a} {b} t ss l p q =
+    let x = p (omega (arith, l, t.count)) in
+    let y = q (rw length-drop (omega (arith, l, t.count))) in
+    rw (t.build ss, t.count, x, y) (take_both a.count b.count ss)

@@ -1,5 +1,5 @@
 //! A range of the rows of a column.
-ghost use Rattle.std.specs.Prelude.{ℕ, ◌≡◌, refl};
+ghost use Rattle.std.specs.Prelude.{ℕ, ◌≡◌};
 ghost use Rattle.columnar_base.specs.Row.{list};
 ghost use Rattle.columnar_base.specs.Format.{part, part_format, part_rows, IsSound};
 
@@ -36,8 +36,6 @@ impl<S: Column> Column for Slice<S> {
     ghost format = { part_format S.format };
 
     ghost content = { λ s. part s.lower s.upper (S.content s.slice) };
-
-    ghost counted = { λ s. refl };
 }
 
 /// As a row, it is the list of its rows.

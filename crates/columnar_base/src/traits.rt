@@ -3,7 +3,7 @@
 ghost use Rattle.std.specs.Prelude.{◌≡◌, ℕ, ◌+◌, ◌-◌, ◌<◌, ◌≤◌, ◌↔◌, length, map, List, [], ◌∷◌, slice_get, Some, All, OnOk, IfErr, IsTrue, IsNone, IfSome};
 ghost use Rattle.std.specs.Iterator.{IsFinite, HoldsAlong, Drains, Yields};
 ghost use Rattle.columnar_base.specs.Row.{Row};
-ghost use Rattle.columnar_base.specs.Format.{Content, Format, IsSound, slices_of};
+ghost use Rattle.columnar_base.specs.Format.{Content, Format, IsSound};
 ghost use Rattle.columnar_base.specs.Change.{Took, Refused, StoppedAt};
 
 use crate::fault::GrowError;
@@ -24,9 +24,6 @@ pub trait Column {
 
     // what this value holds
     ghost content: { Self → Content };
-
-    // there are as many slices as the type has
-    ghost counted: { (c : Self) → length (slices_of (content c)) ≡ format.count };
 }
 
 /// A column with a length.

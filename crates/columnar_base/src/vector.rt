@@ -1,5 +1,5 @@
 //! Columns of elements, in a `Vec`.
-ghost use Rattle.std.specs.Prelude.{ℕ, ◌≡◌, refl};
+ghost use Rattle.std.specs.Prelude.{ℕ, ◌≡◌};
 ghost use Rattle.columnar_base.specs.Elements.{elements_format, elements};
 
 use crate::element::Element;
@@ -11,8 +11,6 @@ impl<T: Element> Column for Vec<T> {
     ghost format = { elements_format T.size T.row_of };
 
     ghost content = { λ v. elements T.le_bytes v.items };
-
-    ghost counted = { λ v. refl };
 }
 
 impl<T: Element> Len for Vec<T> {

@@ -23,13 +23,9 @@ pub struct View<'a, T> {
 }
 
 impl<'v, T: Element> Column for View<'v, T> {
-    ghost use Rattle.columnar_base.specs.ViewLaws.{items_counted};
-
     ghost format = { elements_format T.size T.row_of };
 
     ghost content = { λ v. items_content T.le_bytes v.items };
-
-    ghost counted = { λ v. items_counted T.le_bytes v.items };
 }
 
 impl<'a, T: Element> View<'a, T> {

@@ -1,0 +1,10 @@
+pub mod Faults
+pub mod FaultLaws
+pub mod PlanLaws
+pub mod Tight
+pub mod TightLaws
+pub mod Written
+pub mod Accepted
+pub mod AcceptedLaws
+pub mod Stashes
+pub mod StashLaws

@@ -13,3 +13,15 @@ pub mod ColumnLaws
 pub mod Bounds
 pub mod StoreLaws
 pub mod Appended
+pub use Rattle.columnar_base.specs.Row
+pub use Rattle.columnar_base.specs.Format
+pub use Rattle.columnar_base.specs.FaultLaws
+pub use Rattle.columnar_base.specs.AlikeLaws
+pub use Rattle.columnar_base.specs.TwoParts
+pub use Rattle.columnar_base.specs.Change
+pub use Rattle.columnar_base.specs.ChangeLaws
+pub use Rattle.columnar_base.specs.Faults
+pub use Rattle.columnar_base.specs.Reads
+pub use Rattle.columnar_base.specs.Elements
+pub use Rattle.columnar_base.specs.ElementLaws
+pub use Rattle.columnar_base.specs.Views

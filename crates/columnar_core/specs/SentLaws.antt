@@ -1,4 +1,5 @@
-use Rattle.std.proofs.Common.{ℕ, List, [], ◌++◌, ◌≡◌, refl, sym, ◌∙◌, ap, append_assoc, subst, Option, Some, None}
+-- The steps of what goes out to a writer, or into a list.
+use Rattle.std.proofs.Common.{ℕ, List, [], ◌++◌, ◌≡◌, ◌+◌, length, length-append, arith, refl, sym, ◌∙◌, ap, append_assoc, subst, Option, Some, None}
 use Rattle.std.proofs.lemmas.List.{append-nil}
 use Rattle.std.specs.Io.KnownBytes.{Appends, Keeps}
 use Rattle.columnar_core.specs.Sent.{WentOut, AppendsBeginning}
@@ -43,3 +44,10 @@ sent_part o m n rest bs after all w e p = (
 -- a writer that kept what it held
 pub sent_kept : (o m n : Option (List ℕ)) (rest all : List ℕ) → WentOut o m rest all → Keeps m n → AppendsBeginning o n all
 sent_kept o m n rest all w k = (rest, record { front = w.front; split = w.split; appended = appends_kept o m n w.front w.appended k })
+
+-- what is there and what is to follow are as long as what was there and all
+pub sent_length : (xs ys rest all : List ℕ) → WentOut (Some xs) (Some ys) rest all → length ys + length rest ≡ length xs + length all
+sent_length xs ys rest all w =
+    let p : length ys ≡ length (xs ++ w.front) = ap length w.appended in
+    let q : length all ≡ length (w.front ++ rest) = ap length w.split in
+    omega (arith, p, q, length-append xs w.front, length-append w.front rest)

@@ -79,6 +79,9 @@ pub trait Stored: Column {
     }
 
     ghost storable: { IsStorable Self.format };
+
+    // there are as many slices as the type has
+    ghost counted: { (c : Self) → length (slices_of (Self.content c)) ≡ Self.format.count };
 }
 
 /// A view that tests itself.

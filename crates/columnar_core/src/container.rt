@@ -25,6 +25,11 @@ pub trait Storage: Len + Clear {
         ensures sound { IsSound Self.format (Self.content result) }
         ensures rows { Self.format.rows (Self.content result) ≡ [] };
 
+    /// A column of the same rows and slices; want of memory alone refuses it.
+    fn duplicate(&self, alloc: Global) -> Result<Self, GrowError>
+        ensures content { IfOk result (λ c. Self.content c ≡ Self.content self.now) }
+        ensures memory { IfErr result (λ e. e ≡ GrowError.Memory) };
+
     /// Keeps the first `n` rows. Needs no memory.
     fn truncate(&mut self, n: usize)
         requires sound { IsSound Self.format (Self.content self.old) }

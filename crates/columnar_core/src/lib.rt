@@ -8,3 +8,10 @@ pub mod offsets;
 pub mod store;
 pub mod vector;
 pub mod writer;
+
+pub use columnar_base::element;
+pub use columnar_base::fault;
+pub use columnar_base::slice;
+pub use columnar_base::tally;
+pub use columnar_base::traits;
+pub use columnar_base::view;

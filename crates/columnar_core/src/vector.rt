@@ -51,6 +51,13 @@ impl<T: Element> Storage for Vec<T> {
         Vec::new(alloc)
     }
 
+    fn duplicate(&self, alloc: Global) -> Result<Self, GrowError> {
+        match Vec::from_slice(alloc, self.as_slice()) {
+            Ok(column) => Ok(column),
+            Err(_) => Err(GrowError::Memory),
+        }
+    }
+
     fn truncate(&mut self, n: usize) {
         Vec::truncate(self, n);
     }
@@ -155,6 +162,8 @@ where
 impl<T: Element> Stored for Vec<T> {
     ghost storable = { elements_storable T.size T.row_of };
 
+    ghost counted = { λ v. refl };
+
     fn slice_count() -> usize {
         1
     }
@@ -177,7 +186,11 @@ impl<T: Element> Stored for Vec<T> {
 }
 
 impl<'v, T: Element> Stored for View<'v, T> {
+    ghost use Rattle.columnar_base.specs.ViewLaws.{items_counted};
+
     ghost storable = { elements_storable T.size T.row_of };
+
+    ghost counted = { λ v. items_counted T.le_bytes v.items };
 
     fn slice_count() -> usize
         ensures { result ≡ 1 }

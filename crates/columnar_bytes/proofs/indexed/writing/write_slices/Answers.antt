@@ -1,0 +1,28 @@
+use Rattle.std.proofs.Common.{arith, ap, ◌∙◌, ◌++◌, ◌+◌, drop, sym}
+use Rattle.columnar_core.specs.Format.{slices_of}
+use Rattle.std.specs.List.{flat_map}
+use Rattle.columnar_core.specs.Words.{padded}
+use Rattle.columnar_bytes.specs.PlanLaws.{pieces_rest}
+use Rattle.columnar_core.specs.SentLaws.{sent_part, sent_more}
+use Rattle.columnar_core.specs.Slices.{bytes_in}
+use Rattle.columnar_bytes.proofs.indexed.writing.write_slices.Goals as goal
+
+pub returns-in-Err-clause-err : goal.returns-in-Err-clause-err
+returns-in-Err-clause-err g c =
+    let slices = slices_of (g.S.Column.content c.args.item.now) in
+    let contents = g.W.WriteBytes.contents in
+    let rest = flat_map padded (drop (c.loop-i.i + 1) slices) in
+    sent_part (contents c.args.writer.now) (contents c.loop-i.writer) (contents c.write_padded.new.writer) _ (padded (bytes_in c.byte_slice.result)) rest _
+    c.loop-i.invariant
+    (pieces_rest padded slices c.loop-i.i (omega (arith, c.slice_count-i-end.ensures)) ∙ ap (λ s. padded s ++ rest) (sym c.byte_slice.ensures))
+    c.in-Err.ensures.err
+
+pub loop-i-preserved : goal.loop-i-preserved
+loop-i-preserved g c =
+    let slices = slices_of (g.S.Column.content c.args.item.now) in
+    let contents = g.W.WriteBytes.contents in
+    let rest = flat_map padded (drop (c.loop-i.i + 1) slices) in
+    sent_more (contents c.args.writer.now) (contents c.loop-i.writer) (contents c.write_padded.new.writer) _ (padded (bytes_in c.byte_slice.result)) rest _
+    c.loop-i.invariant
+    (pieces_rest padded slices c.loop-i.i (omega (arith, c.slice_count-i-end.ensures)) ∙ ap (λ s. padded s ++ rest) (sym c.byte_slice.ensures))
+    c.in-Ok.ensures.ok

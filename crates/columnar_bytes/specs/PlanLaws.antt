@@ -1,0 +1,63 @@
+-- The steps of what is written, slice by slice.
+use Rattle.std.proofs.Common.{ℕ, List, [], ◌∷◌, ◌++◌, ◌≡◌, ◌<◌, ◌≤◌, ◌+◌, ◌*◌, ◌/◌, ◌^◌, length, get_or, drop, sym, ◌∙◌, ap, arith, length-append, Some, None, cond, ltb, true, false}
+use Rattle.std.specs.List.{flat_map}
+use Rattle.std.proofs.lemmas.List.{drop_more, drop_all}
+use Rattle.std.proofs.lemmas.List.FromFn.{get_or-map-range_with_len}
+use Rattle.columnar_core.specs.Bytes.{word, rounded, word_bytes, le_bytes}
+use Rattle.columnar_core.specs.Words.{ends, table_words, slice_words, words, word_count}
+use Rattle.columnar_core.specs.WordLaws.{length-slice_words}
+
+-- how many words the slices from i on take
+pub words_rest : (slices : List (List ℕ)) (i : ℕ) → i < length slices → length (flat_map slice_words (drop i slices)) ≡ (length (get_or slices i []) + 7) / 8 + length (flat_map slice_words (drop (i + 1) slices))
+words_rest slices i l =
+    ap (λ t. length (flat_map slice_words t)) (drop_more slices i [] l)
+    ∙ length-append (slice_words (get_or slices i [])) (flat_map slice_words (drop (i + 1) slices))
+    ∙ ap (λ n. n + length (flat_map slice_words (drop (i + 1) slices))) (length-slice_words (get_or slices i []))
+
+pub words_done : (slices : List (List ℕ)) (i : ℕ) → length slices ≤ i → length (flat_map slice_words (drop i slices)) ≡ 0
+words_done slices i l = ap (λ t. length (flat_map slice_words t)) (drop_all i slices l)
+
+pub ends_rest : (start : ℕ) (slices : List (List ℕ)) (i : ℕ) → i < length slices → ends start (drop i slices) ≡ ((start + length (get_or slices i [])) ∷ []) ++ ends (rounded (start + length (get_or slices i []))) (drop (i + 1) slices)
+ends_rest start slices i l = ap (ends start) (drop_more slices i [] l)
+
+pub ends_done : (start : ℕ) (slices : List (List ℕ)) (i : ℕ) → length slices ≤ i → ends start (drop i slices) ≡ []
+ends_done start slices i l = ap (ends start) (drop_all i slices l)
+
+pub pieces_rest : (f : List ℕ → List ℕ) (slices : List (List ℕ)) (i : ℕ) → i < length slices → flat_map f (drop i slices) ≡ f (get_or slices i []) ++ flat_map f (drop (i + 1) slices)
+pieces_rest f slices i l = ap (flat_map f) (drop_more slices i [] l)
+
+pub pieces_done : (f : List ℕ → List ℕ) (slices : List (List ℕ)) (i : ℕ) → length slices ≤ i → flat_map f (drop i slices) ≡ []
+pieces_done f slices i l = ap (flat_map f) (drop_all i slices l)
+
+pub word_count_none : (slices : List (List ℕ)) → 2 ^ 64 ≤ 8 * length (words slices) → None ≡ word_count slices
+word_count_none slices l =
+    let e : ltb (8 * length (words slices)) (2 ^ 64) ≡ false = grind arith in
+    sym (ap (λ b. cond b (Some (length (words slices))) None) e)
+
+pub word_count_some : (slices : List (List ℕ)) (n : ℕ) → n ≡ length (words slices) → 8 * n < 2 ^ 64 → Some n ≡ word_count slices
+word_count_some slices n p l =
+    let e : ltb (8 * length (words slices)) (2 ^ 64) ≡ true = grind arith in
+    ap Some p ∙ sym (ap (λ b. cond b (Some (length (words slices))) None) e)
+
+pub word_rest : (s : List ℕ) (i w : ℕ) → i < (length s + 7) / 8 → w ≡ word s i → drop i (slice_words s) ≡ (w ∷ []) ++ drop (i + 1) (slice_words s)
+word_rest s i w l e =
+    let k : get_or (slice_words s) i 0 ≡ w = get_or-map-range_with_len (word s) 0 ((length s + 7) / 8) i i 0 l (omega arith) ∙ sym e in
+    drop_more (slice_words s) i 0 (omega (arith, length-slice_words s)) ∙ ap (λ v. v ∷ drop (i + 1) (slice_words s)) k
+
+pub words_out : (s : List ℕ) (i : ℕ) → (length s + 7) / 8 ≤ i → drop i (slice_words s) ≡ []
+words_out s i l = drop_all i (slice_words s) (omega (arith, length-slice_words s))
+
+-- one slice on in the table
+pub ends_step : (start : ℕ) (slices : List (List ℕ)) (i end next : ℕ) → i < length slices → end ≡ start + length (get_or slices i []) → next ≡ rounded end → ends start (drop i slices) ≡ (end ∷ []) ++ ends next (drop (i + 1) slices)
+ends_step start slices i end next l p q = rw (q, p) (ends_rest start slices i l)
+
+pub table_step : (slices : List (List ℕ)) (count : ℕ) → count ≡ length slices → table_words slices ≡ (8 * (count + 1) ∷ []) ++ ends (8 * (count + 1)) slices
+table_step slices count e = ap (λ n. 8 * (n + 1) ∷ ends (8 * (n + 1)) slices) (sym e)
+
+pub ends_bytes : (start : ℕ) (slices : List (List ℕ)) (i end next : ℕ) → i < length slices → end ≡ start + length (get_or slices i []) → next ≡ rounded end → le_bytes (ends start (drop i slices)) ≡ word_bytes end ++ le_bytes (ends next (drop (i + 1) slices))
+unfolding word_bytes
+ends_bytes start slices i end next l p q = ap le_bytes (ends_step start slices i end next l p q)
+
+pub table_bytes : (slices : List (List ℕ)) (count : ℕ) → count ≡ length slices → le_bytes (table_words slices) ≡ word_bytes (8 * (count + 1)) ++ le_bytes (ends (8 * (count + 1)) slices)
+unfolding word_bytes
+table_bytes slices count e = ap le_bytes (table_step slices count e)

@@ -1,0 +1,34 @@
+-- What a stash holds.
+use Rattle.std.specs.Prelude.{ℕ, Bool, true, false, List, ◌≡◌}
+use Rattle.columnar_core.specs.Format.{Format, Content, slices_of}
+use Rattle.columnar_core.specs.Words.{store_bytes}
+use Rattle.columnar_core.specs.Frame.{framed_slices}
+use Rattle.columnar_core.specs.declared.traits.Column.{Ghosts as ColumnOf}
+use Rattle.columnar_bytes.specs.declared.stash.ByteStore.{Ghosts as BytesOf}
+use Rattle.columnar_bytes.specs.declared.stash.Checked.{Checked}
+use Rattle.columnar_bytes.specs.declared.stash.Stash.{Stash}
+use Rattle.columnar_bytes.specs.declared.stash.Stash.TheVariants.{Typed, Bytes}
+
+-- the bytes that were accepted
+abbrev pub checked_bytes : {C B : Type 0} {column : ColumnOf C} {store : BytesOf B} → Checked C B column store → List ℕ
+checked_bytes {C} {B} {column} {store} k = store.bytes k.store
+
+-- a column holds what it does, accepted bytes what their slices make
+abbrev pub stash_content : {C B : Type 0} {column : ColumnOf C} {store : BytesOf B} → Stash C B column store → Content
+stash_content {C} {B} {column} {store} (Typed c) = column.content c
+stash_content {C} {B} {column} {store} (Bytes k) = column.format.build (framed_slices (checked_bytes k))
+
+-- is it a column
+abbrev pub is_typed : {C B : Type 0} {column : ColumnOf C} {store : BytesOf B} → Stash C B column store → Bool
+is_typed (Typed c) = true
+is_typed (Bytes k) = false
+
+-- it is bytes, and these
+abbrev pub HoldsBytes : {C B : Type 0} {column : ColumnOf C} {store : BytesOf B} → Stash C B column store → List ℕ → Type 0
+HoldsBytes (Typed c) bs = ⊥
+HoldsBytes (Bytes k) bs = checked_bytes k ≡ bs
+
+-- what a stash writes: the bytes of a column's words, or its bytes as they are
+abbrev pub written_bytes : {C B : Type 0} {column : ColumnOf C} {store : BytesOf B} → Stash C B column store → List ℕ
+written_bytes {C} {B} {column} {store} (Typed c) = store_bytes (slices_of (column.content c))
+written_bytes {C} {B} {column} {store} (Bytes k) = checked_bytes k

@@ -1,0 +1,47 @@
+//! The structure of a store.
+ghost use Rattle.std.specs.Prelude.{◌≡◌, ◌↔◌, length, IsOk, IfErr, OnOk};
+ghost use Rattle.columnar_core.specs.Frame.{IsLegal, IsStore, framed_slices};
+ghost use Rattle.columnar_bytes.specs.Faults.{IsFirstBroken};
+
+use columnar_core::fault::StoreFault;
+use columnar_core::store::{round_up, word_at};
+
+/// Tests that the bytes are whole words that frame `expected` slices. A fault names the first rule that is broken, and
+/// the slice at which it is: the rules of the whole store first, then those of the slices in order. Takes no memory.
+#[tactic(auto, using(crate::specs::FaultLaws::broken_refused))]
+pub fn validate_structure(bytes: &[u8], expected: usize) -> Result<(), StoreFault>
+    ensures exact { IsOk result ↔ IsLegal bytes.now expected }
+    ensures fault { IfErr result (IsFirstBroken bytes.now expected) }
+    ensures store { OnOk result (IsStore bytes.now) }
+    ensures count { OnOk result (length (framed_slices bytes.now) ≡ expected) }
+{
+    let len = bytes.len();
+    if len % 8 != 0 {
+        return Err(StoreFault::NotWords(0));
+    }
+    if len == 0 {
+        return Err(StoreFault::Empty(0));
+    }
+    let first = word_at(bytes, 0) as usize;
+    if first < 8 || first % 8 != 0 {
+        return Err(StoreFault::FirstOffset(0));
+    }
+    if first > len {
+        return Err(StoreFault::Table(0));
+    }
+    if first / 8 - 1 != expected {
+        return Err(StoreFault::SliceCount(0));
+    }
+    let mut start = first;
+    for i in 0..expected {
+        let end = word_at(bytes, i + 1) as usize;
+        if end > len {
+            return Err(StoreFault::PastEnd(i));
+        }
+        if end < start {
+            return Err(StoreFault::Backwards(i));
+        }
+        start = round_up(end);
+    }
+    Ok(())
+}

@@ -1,2 +1,21 @@
-//! Under construction.
+//! Columns: lists of structured rows, kept in a few flat slices that are read in place from bytes.
+//!
+//! Each item stands here at the path that it has in Rust's `columnar`; what is this library's own stands beside it.
 #![tactic(auto)]
+
+pub mod bytes;
+pub mod common;
+pub mod fault;
+pub mod primitive;
+pub mod vector;
+
+pub use columnar_core::bytes::{AsBytes, Check, FromBytes, Stored};
+pub use columnar_core::container::{
+    Borrow, Container, ContainerBytes, ExtendFrom, Reborrow, ReborrowRef, Storage,
+};
+pub use columnar_core::offsets::{Offsets, StoredOffsets};
+pub use columnar_core::slice::Slice;
+pub use columnar_core::traits::{
+    Clear, Column, CopyAs, Index, IndexAs, Item, Len, Push, PushRef,
+};
+pub use columnar_lists::vector::Vecs;

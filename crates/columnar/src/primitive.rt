@@ -1,0 +1,3 @@
+//! Columns of numbers.
+
+pub use columnar_core::vector::Sliced;

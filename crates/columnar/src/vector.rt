@@ -1,0 +1,3 @@
+//! Lists of rows.
+
+pub use columnar_lists::vector::Vecs;

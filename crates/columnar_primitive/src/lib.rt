@@ -1,2 +1,0 @@
-//! Under construction.
-#![tactic(auto)]

@@ -13,3 +13,5 @@ pub mod Elements
 pub mod ElementLaws
 pub mod Views
 pub mod ViewLaws
+pub mod Tuples
+pub mod TupleLaws

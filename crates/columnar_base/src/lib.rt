@@ -5,7 +5,9 @@
 pub mod element;
 pub mod fault;
 pub mod slice;
+pub mod storage;
 pub mod tally;
 pub mod traits;
+pub mod tuple;
 pub mod vector;
 pub mod view;

@@ -1,11 +1,14 @@
 //! Columns of elements, in a `Vec`.
 ghost use Rattle.std.specs.Prelude.{ℕ, ◌≡◌};
 ghost use Rattle.columnar_base.specs.Elements.{elements_format, elements};
+ghost use Rattle.columnar_base.specs.ElementLaws.{elements_lawful};
 
 use crate::element::Element;
 use crate::fault::GrowError;
+use crate::storage::Storage;
 use crate::traits::{Clear, Column, Index, Len, Push, PushRef};
 use crate::view::element_at;
+use std::alloc::Global;
 
 impl<T: Element> Column for Vec<T> {
     ghost format = { elements_format T.size T.row_of };
@@ -54,6 +57,38 @@ impl<'x, T: Element> Push<&'x T> for Vec<T> {
 impl<T: Element> PushRef<T> for Vec<T> {
     fn push_ref(&mut self, item: &T) -> Result<(), GrowError> {
         match Vec::push(self, *item) {
+            Ok(()) => Ok(()),
+            Err(_) => Err(GrowError::Memory),
+        }
+    }
+}
+
+impl<T: Element> Storage for Vec<T> {
+    type Room = usize;
+
+    ghost lawful = { elements_lawful T.size T.row_of };
+
+    fn empty(alloc: Global) -> Self {
+        Vec::new(alloc)
+    }
+
+    fn duplicate(&self, alloc: Global) -> Result<Self, GrowError> {
+        match Vec::from_slice(alloc, self.as_slice()) {
+            Ok(column) => Ok(column),
+            Err(_) => Err(GrowError::Memory),
+        }
+    }
+
+    fn truncate(&mut self, n: usize) {
+        Vec::truncate(self, n);
+    }
+
+    fn no_room() -> usize {
+        0
+    }
+
+    fn reserve_room(&mut self, room: usize) -> Result<(), GrowError> {
+        match self.reserve(room) {
             Ok(()) => Ok(()),
             Err(_) => Err(GrowError::Memory),
         }

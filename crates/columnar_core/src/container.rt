@@ -2,51 +2,19 @@
 ghost use Rattle.std.specs.Prelude.{◌≡◌, ℕ, ◌+◌, ◌-◌, ◌<◌, ◌≤◌, length, List, [], ◌∷◌, take, drop, OnOk, OnErr, IfOk, IfErr, IsTrue, slice_get, Some};
 ghost use Rattle.std.specs.Iterator.{IsFinite};
 ghost use Rattle.columnar_base.specs.Row.{Row};
-ghost use Rattle.columnar_base.specs.Format.{Content, Format, Fits, IsSound, IsLawful, representable, slices_of};
+ghost use Rattle.columnar_base.specs.Format.{Content, Format, Fits, IsSound, representable, slices_of};
 ghost use Rattle.columnar_core.specs.Store.{slices_in};
 ghost use Rattle.columnar_core.specs.Slices.{bytes_in};
-ghost use Rattle.columnar_base.specs.Change.{Copied, Refused, Stayed, WasCut};
+ghost use Rattle.columnar_base.specs.Change.{Copied, Refused, Stayed};
 
 use crate::byte_slice::ByteSlice;
 use crate::bytes::Stored;
 use crate::store::DecodedStore;
 use columnar_base::fault::GrowError;
-use columnar_base::traits::{Clear, Column, Index, Item, Len, Push};
+pub use columnar_base::storage::Storage;
+use columnar_base::traits::{Column, Index, Item, Len, Push};
 use std::alloc::Global;
 use std::ops::Range;
-
-/// What an owned column does that names no view.
-pub trait Storage: Len + Clear {
-    /// How much room the slices of columns take together.
-    type Room: Copy;
-
-    /// A column without rows.
-    fn empty(alloc: Global) -> Self
-        ensures sound { IsSound Self.format (Self.content result) }
-        ensures rows { Self.format.rows (Self.content result) ≡ [] };
-
-    /// A column of the same rows and slices; want of memory alone refuses it.
-    fn duplicate(&self, alloc: Global) -> Result<Self, GrowError>
-        ensures content { IfOk result (λ c. Self.content c ≡ Self.content self.now) }
-        ensures memory { IfErr result (λ e. e ≡ GrowError.Memory) };
-
-    /// Keeps the first `n` rows. Needs no memory.
-    fn truncate(&mut self, n: usize)
-        requires sound { IsSound Self.format (Self.content self.old) }
-        requires in_range { n ≤ length (Self.format.rows (Self.content self.old)) }
-        ensures { WasCut Self.format (Self.content self.old) (Self.content self.new) n };
-
-    /// Room for nothing.
-    fn no_room() -> Self::Room;
-
-    /// Makes room; the rows stay.
-    fn reserve_room(&mut self, room: Self::Room) -> Result<(), GrowError>
-        requires { IsSound Self.format (Self.content self.old) }
-        ensures stayed { Stayed Self.format (Self.content self.old) (Self.content self.new) }
-        ensures memory { IfErr result (λ e. e ≡ GrowError.Memory) };
-
-    ghost lawful: { IsLawful Self.format };
-}
 
 /// A column that copies ranges of rows out of views of type `V`.
 pub trait ExtendFrom<V: Index + Copy>: Storage {

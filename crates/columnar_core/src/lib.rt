@@ -6,6 +6,7 @@ pub mod bytes;
 pub mod container;
 pub mod offsets;
 pub mod store;
+pub mod tuple;
 pub mod vector;
 pub mod writer;
 

@@ -4,7 +4,7 @@ ghost use Rattle.std.specs.List.{flat_map};
 ghost use Rattle.std.specs.Int.{to_le_bytes, w64};
 ghost use Rattle.columnar_base.specs.Format.{Fits, IsSound, bytes_held, first, moved, representable};
 ghost use Rattle.columnar_base.specs.Elements.{elements, elements_broken, elements_format, elements_rows, first_slice};
-ghost use Rattle.columnar_base.specs.ElementLaws.{elements_lawful, elements_storable};
+ghost use Rattle.columnar_base.specs.ElementLaws.{elements_storable};
 ghost use Rattle.columnar_base.specs.Change.{Copied, Refused};
 ghost use Rattle.columnar_base.specs.Faults.{verdict};
 ghost use Rattle.columnar_core.specs.Slices.{bytes_in, alignment};
@@ -13,7 +13,7 @@ ghost use Rattle.columnar_core.specs.Appended.{Appended};
 
 use crate::byte_slice::ByteSlice;
 use crate::bytes::{AsBytes, Check, FromBytes, Stored};
-use crate::container::{Borrow, Container, ContainerBytes, ExtendFrom, Reborrow, ReborrowRef, Storage};
+use crate::container::{Borrow, Container, ContainerBytes, ExtendFrom, Reborrow, ReborrowRef};
 use crate::store::DecodedStore;
 use columnar_base::element::{Element, Viewed};
 use columnar_base::fault::{GrowError, StoreFault};
@@ -39,38 +39,6 @@ impl Sliced for u64 {
 
     fn byte_slice(items: &[u64]) -> ByteSlice<'_> {
         ByteSlice::of_words(items)
-    }
-}
-
-impl<T: Element> Storage for Vec<T> {
-    type Room = usize;
-
-    ghost lawful = { elements_lawful T.size T.row_of };
-
-    fn empty(alloc: Global) -> Self {
-        Vec::new(alloc)
-    }
-
-    fn duplicate(&self, alloc: Global) -> Result<Self, GrowError> {
-        match Vec::from_slice(alloc, self.as_slice()) {
-            Ok(column) => Ok(column),
-            Err(_) => Err(GrowError::Memory),
-        }
-    }
-
-    fn truncate(&mut self, n: usize) {
-        Vec::truncate(self, n);
-    }
-
-    fn no_room() -> usize {
-        0
-    }
-
-    fn reserve_room(&mut self, room: usize) -> Result<(), GrowError> {
-        match self.reserve(room) {
-            Ok(()) => Ok(()),
-            Err(_) => Err(GrowError::Memory),
-        }
     }
 }
 

@@ -1,0 +1,41 @@
+//! What an owned column does that names no view.
+ghost use Rattle.std.specs.Prelude.{◌≡◌, ℕ, ◌≤◌, length, [], IfOk, IfErr};
+ghost use Rattle.columnar_base.specs.Format.{Content, Format, IsSound, IsLawful};
+ghost use Rattle.columnar_base.specs.Change.{Stayed, WasCut};
+
+use crate::fault::GrowError;
+use crate::traits::{Clear, Column, Len};
+use std::alloc::Global;
+
+/// What an owned column does that names no view.
+pub trait Storage: Len + Clear + Drop {
+    /// How much room the slices of columns take together.
+    type Room: Copy;
+
+    /// A column without rows.
+    fn empty(alloc: Global) -> Self
+        ensures sound { IsSound Self.format (Self.content result) }
+        ensures rows { Self.format.rows (Self.content result) ≡ [] };
+
+    /// A column of the same rows and slices; want of memory alone refuses it.
+    fn duplicate(&self, alloc: Global) -> Result<Self, GrowError>
+        ensures content { IfOk result (λ c. Self.content c ≡ Self.content self.now) }
+        ensures memory { IfErr result (λ e. e ≡ GrowError.Memory) };
+
+    /// Keeps the first `n` rows. Needs no memory.
+    fn truncate(&mut self, n: usize)
+        requires sound { IsSound Self.format (Self.content self.old) }
+        requires in_range { n ≤ length (Self.format.rows (Self.content self.old)) }
+        ensures { WasCut Self.format (Self.content self.old) (Self.content self.new) n };
+
+    /// Room for nothing.
+    fn no_room() -> Self::Room;
+
+    /// Makes room; the rows stay.
+    fn reserve_room(&mut self, room: Self::Room) -> Result<(), GrowError>
+        requires { IsSound Self.format (Self.content self.old) }
+        ensures stayed { Stayed Self.format (Self.content self.old) (Self.content self.new) }
+        ensures memory { IfErr result (λ e. e ≡ GrowError.Memory) };
+
+    ghost lawful: { IsLawful Self.format };
+}

@@ -1,0 +1,135 @@
+//! Tuples of columns of one length, side by side: a column of tuples.
+ghost use Rattle.std.specs.Prelude.{ℕ};
+ghost use Rattle.columnar_base.specs.Row.{tuple};
+ghost use Rattle.columnar_base.specs.Format.{both, slices_of};
+ghost use Rattle.columnar_base.specs.Tuples.{pair_format};
+ghost use Rattle.columnar_base.specs.TwoParts.{two_counted};
+ghost use Rattle.columnar_base.specs.TupleLaws.{pair_lawful};
+
+use crate::fault::GrowError;
+use crate::storage::Storage;
+use crate::traits::{Clear, Column, Index, Item, Len, Push, PushRef};
+use std::alloc::Global;
+
+impl<S: Item, T: Item> Item for (S, T) {
+    ghost meaning = { λ p. tuple (S.meaning p.0) (T.meaning p.1) };
+
+    ghost valid = { λ p. S.valid p.0 × T.valid p.1 };
+}
+
+impl<A: Column, B: Column> Column for (A, B) {
+    ghost format = { pair_format A.format B.format };
+
+    ghost content = { λ c. both (A.content c.0) (B.content c.1) };
+
+}
+
+impl<A: Len, B: Len> Len for (A, B) {
+    fn len(&self) -> usize {
+        self.0.len()
+    }
+}
+
+impl<A: Index, B: Index> Index for (A, B) {
+    type Ref = (A::Ref, B::Ref);
+
+    fn get(&self, index: usize) -> (A::Ref, B::Ref) {
+        let first = self.0.get(index);
+        let second = self.1.get(index);
+        (first, second)
+    }
+}
+
+impl<A: Clear, B: Clear> Clear for (A, B) {
+    fn clear(&mut self) {
+        self.0.clear();
+        self.1.clear();
+    }
+}
+
+impl<A: Storage, B: Storage> Storage for (A, B) {
+    type Room = (A::Room, B::Room);
+
+    ghost lawful = { pair_lawful A.format B.format A.lawful B.lawful };
+
+    fn empty(alloc: Global) -> Self {
+        let first = A::empty(alloc);
+        let second = B::empty(alloc);
+        (first, second)
+    }
+
+    fn duplicate(&self, alloc: Global) -> Result<Self, GrowError> {
+        let first = match self.0.duplicate(alloc) {
+            Ok(first) => first,
+            Err(error) => return Err(error),
+        };
+        match self.1.duplicate(alloc) {
+            Ok(second) => Ok((first, second)),
+            Err(error) => Err(error),
+        }
+    }
+
+    fn truncate(&mut self, n: usize) {
+        self.0.truncate(n);
+        self.1.truncate(n);
+    }
+
+    fn no_room() -> (A::Room, B::Room) {
+        (A::no_room(), B::no_room())
+    }
+
+    fn reserve_room(&mut self, room: (A::Room, B::Room)) -> Result<(), GrowError> {
+        match self.0.reserve_room(room.0) {
+            Ok(()) => {}
+            Err(error) => return Err(error),
+        }
+        match self.1.reserve_room(room.1) {
+            Ok(()) => Ok(()),
+            Err(error) => Err(error),
+        }
+    }
+}
+
+impl<S: Item, T: Item + Drop, A: Storage + Push<S>, B: Storage + Push<T>> Push<(S, T)> for (A, B) {
+    fn push(&mut self, item: (S, T)) -> Result<(), GrowError> {
+        let before = self.0.len();
+        let (first, second) = item;
+        match self.0.push(first) {
+            Ok(()) => {}
+            Err(error) => return Err(error),
+        }
+        match self.1.push(second) {
+            Ok(()) => Ok(()),
+            Err(error) => {
+                self.0.truncate(before);
+                Err(error)
+            }
+        }
+    }
+}
+
+impl<'x, S: Item, T: Item, A: Storage + PushRef<S>, B: Storage + PushRef<T>> Push<&'x (S, T)> for (A, B) {
+    fn push(&mut self, item: &'x (S, T)) -> Result<(), GrowError> {
+        match self.push_ref(item) {
+            Ok(()) => Ok(()),
+            Err(error) => Err(error),
+        }
+    }
+}
+
+impl<S: Item, T: Item, A: Storage + PushRef<S>, B: Storage + PushRef<T>> PushRef<(S, T)> for (A, B) {
+    fn push_ref(&mut self, item: &(S, T)) -> Result<(), GrowError> {
+        let rows = self.0.len();
+        match self.0.push_ref(&item.0) {
+            Ok(()) => {}
+            Err(error) => return Err(error),
+        }
+        match self.1.push_ref(&item.1) {
+            Ok(()) => Ok(()),
+            Err(error) => {
+                self.0.truncate(rows);
+                Err(error)
+            }
+        }
+    }
+}

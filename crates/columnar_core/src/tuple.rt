@@ -1,0 +1,164 @@
+//! Tuples of containers, side by side: a container of tuples.
+ghost use Rattle.std.specs.Prelude.{ℕ};
+ghost use Rattle.columnar_base.specs.TupleLaws.{pair_storable, same_pair};
+
+use crate::byte_slice::ByteSlice;
+use crate::bytes::{AsBytes, Check, FromBytes, Stored};
+use crate::container::{Borrow, Container, ContainerBytes, ExtendFrom, Reborrow, ReborrowRef};
+use crate::store::DecodedStore;
+use columnar_base::fault::{GrowError, StoreFault};
+use columnar_base::tally::Tally;
+use columnar_base::traits::{Index, Len};
+use std::alloc::Global;
+use std::ops::Range;
+
+impl<V: Index + Copy, W: Index + Copy, A: ExtendFrom<V>, B: ExtendFrom<W>> ExtendFrom<(V, W)> for (A, B) {
+    fn add_room(room: (A::Room, B::Room), view: (V, W)) -> (A::Room, B::Room) {
+        (A::add_room(room.0, view.0), B::add_room(room.1, view.1))
+    }
+
+    fn extend_from_self(&mut self, view: (V, W), range: Range<usize>) -> Result<(), GrowError> {
+        let before = self.0.len();
+        let start = range.start;
+        let end = range.end;
+        match self.0.extend_from_self(view.0, start..end) {
+            Ok(()) => {}
+            Err(error) => return Err(error),
+        }
+        match self.1.extend_from_self(view.1, start..end) {
+            Ok(()) => Ok(()),
+            Err(error) => {
+                self.0.truncate(before);
+                Err(error)
+            }
+        }
+    }
+}
+
+impl<'a, A: Borrow<'a>, B: Borrow<'a>> Borrow<'a> for (A, B) {
+    type Ref = (A::Ref, B::Ref);
+
+    type Borrowed = (A::Borrowed, B::Borrowed);
+
+    type Parts = (A::Parts, B::Parts);
+
+    ghost same_format = { same_pair A.same_format B.same_format };
+
+    fn borrow(&'a self) -> (A::Borrowed, B::Borrowed) {
+        let first = self.0.borrow();
+        let second = self.1.borrow();
+        (first, second)
+    }
+}
+
+impl<'a, A: Container<'a>, B: Container<'a>> Container<'a> for (A, B) {}
+
+impl<'b, A: Reborrow<'b>, B: Reborrow<'b>> Reborrow<'b> for (A, B) {
+    type Short = (A::Short, B::Short);
+
+    ghost same_short = { same_pair A.same_short B.same_short };
+
+    fn reborrow(self) -> (A::Short, B::Short) {
+        let (first, second) = self;
+        (first.reborrow(), second.reborrow())
+    }
+}
+
+impl<'b, S: ReborrowRef<'b>, T: ReborrowRef<'b>> ReborrowRef<'b> for (S, T) {
+    type ShortRef = (S::ShortRef, T::ShortRef);
+
+    fn reborrow_ref(self) -> (S::ShortRef, T::ShortRef) {
+        let (first, second) = self;
+        (first.reborrow_ref(), second.reborrow_ref())
+    }
+}
+
+impl<A: Stored, B: Stored> Stored for (A, B) {
+    ghost storable = { pair_storable A.format B.format A.storable B.storable };
+
+    fn slice_count() -> usize {
+        A::slice_count() + B::slice_count()
+    }
+
+    fn element_sizes(sizes: &mut Vec<usize>) -> Result<(), GrowError> {
+        let before = sizes.len();
+        match A::element_sizes(sizes) {
+            Ok(()) => {}
+            Err(error) => return Err(error),
+        }
+        match B::element_sizes(sizes) {
+            Ok(()) => Ok(()),
+            Err(error) => {
+                sizes.truncate(before);
+                Err(error)
+            }
+        }
+    }
+
+    fn judge_tallied<L>(store: &DecodedStore<'_>, offset: usize, tally: &mut Tally<L>) -> Result<(), StoreFault> {
+        match A::judge_tallied(store, offset, tally) {
+            Ok(()) => {}
+            Err(fault) => return Err(fault),
+        }
+        let middle = offset + A::slice_count();
+        match B::judge_tallied(store, middle, tally) {
+            Ok(()) => {}
+            Err(fault) => return Err(fault),
+        }
+        let rows = A::rows_in(store, offset);
+        if rows == B::rows_in(store, middle) { Ok(()) } else { Err(StoreFault::Parts(offset)) }
+    }
+
+    fn rows_in(store: &DecodedStore<'_>, offset: usize) -> usize {
+        A::rows_in(store, offset)
+    }
+}
+
+impl<A: Check + Len, B: Check + Len> Check for (A, B) {
+    fn check_from_tallied<L>(&self, from: usize, tally: &mut Tally<L>) -> Result<(), StoreFault> {
+        match self.0.check_from_tallied(from, tally) {
+            Ok(()) => {}
+            Err(fault) => return Err(fault),
+        }
+        let middle = from + A::slice_count();
+        match self.1.check_from_tallied(middle, tally) {
+            Ok(()) => {}
+            Err(fault) => return Err(fault),
+        }
+        let rows = self.0.len();
+        if rows == self.1.len() { Ok(()) } else { Err(StoreFault::Parts(from)) }
+    }
+}
+
+impl<'s, A: FromBytes<'s> + Len, B: FromBytes<'s> + Len> FromBytes<'s> for (A, B) {
+    fn from_store(store: &DecodedStore<'s>, offset: &mut usize) -> Self {
+        let first = A::from_store(store, offset);
+        let second = B::from_store(store, offset);
+        (first, second)
+    }
+}
+
+impl<'s, A: AsBytes<'s>, B: AsBytes<'s>> AsBytes<'s> for (A, B) {
+    fn get_byte_slice(&self, index: usize) -> (u64, ByteSlice<'s>) {
+        let first = A::slice_count();
+        if index < first { self.0.get_byte_slice(index) } else { self.1.get_byte_slice(index - first) }
+    }
+}
+
+impl<A: ContainerBytes + Drop, B: ContainerBytes> ContainerBytes for (A, B) {
+    fn byte_slice(&self, index: usize) -> ByteSlice<'_> {
+        let first = A::slice_count();
+        if index < first { self.0.byte_slice(index) } else { self.1.byte_slice(index - first) }
+    }
+
+    fn load(alloc: Global, store: &DecodedStore<'_>, offset: usize) -> Result<Self, GrowError> {
+        let first = match A::load(alloc, store, offset) {
+            Ok(first) => first,
+            Err(error) => return Err(error),
+        };
+        match B::load(alloc, store, offset + A::slice_count()) {
+            Ok(second) => Ok((first, second)),
+            Err(error) => Err(error),
+        }
+    }
+}

@@ -1,0 +1,41 @@
+use Rattle.std.proofs.Common.{◌≡◌, ◌+◌, ◌-◌, ◌<◌, ◌≤◌, List, [], ◌∷◌, length, drop, take, refl, sym, ◌∙◌, arith}
+use Rattle.columnar_base.specs.TwoParts.{representable_left, representable_right, flat_left, flat_right, two_right, two_fine, two_own, two_right_at, two_fine_at, two_own_at}
+use Rattle.columnar_base.specs.TupleLaws.{pair_two, pair_parts, pair_top, pair_fits, fits_level, pair_copied_piece, pair_refused_left_piece, pair_refused_right_piece}
+use Rattle.columnar_base.specs.ChangeLaws.{undone, unchanged}
+use Rattle.columnar_base.specs.FaultLaws.{sound_from, fits_from}
+use Rattle.columnar_base.specs.Format.{slices_of}
+use Rattle.columnar_base.specs.Faults.{fault_of}
+use Rattle.columnar_core.specs.Slices.{bytes_in}
+use Rattle.columnar_core.specs.Store.{slices_in}
+use Rattle.std.proofs.lemmas.Bool.{eq-eqb, ne_eqb}
+use Rattle.columnar_core.proofs.tuple.Tuple2ExtendFrom.extend_from_self.Goals as goal
+
+pub len-before-requires : goal.len-before-requires
+len-before-requires g c = (pair_parts g.A.Column.format g.B.Column.format c.requires.sound).left
+
+pub extend_from_self-requires-clause-sound : goal.extend_from_self-requires-clause-sound
+extend_from_self-requires-clause-sound g c = (pair_parts g.A.Column.format g.B.Column.format c.requires.sound).left
+
+pub extend_from_self-requires-clause-view_sound : goal.extend_from_self-requires-clause-view_sound
+extend_from_self-requires-clause-view_sound g c = (pair_parts g.V.Column.format g.W.Column.format c.requires.view_sound).left
+
+pub extend_from_self-requires-clause-in_range : goal.extend_from_self-requires-clause-in_range
+extend_from_self-requires-clause-in_range g c = (pair_top g.V.Column.format g.W.Column.format c.args.range.«end» c.requires.view_sound c.requires.in_range).0
+
+pub returns-in-Err-clause-err : goal.returns-in-Err-clause-err
+returns-in-Err-clause-err g c = pair_refused_left_piece g.A.Column.format g.B.Column.format g.V.Column.format g.W.Column.format (g.V.Column.content c.args.view.0) (g.W.Column.content c.args.view.1) c.args.range.start (c.args.range.«end» - c.args.range.start) c.requires.sound c.requires.view_sound c.in-Err.ensures.err (unchanged (pair_parts g.A.Column.format g.B.Column.format c.requires.sound).right)
+
+pub extend_from_self-requires-2-clause-sound : goal.extend_from_self-requires-2-clause-sound
+extend_from_self-requires-2-clause-sound g c = (pair_parts g.A.Column.format g.B.Column.format c.requires.sound).right
+
+pub extend_from_self-requires-2-clause-view_sound : goal.extend_from_self-requires-2-clause-view_sound
+extend_from_self-requires-2-clause-view_sound g c = (pair_parts g.V.Column.format g.W.Column.format c.requires.view_sound).right
+
+pub extend_from_self-requires-2-clause-in_range : goal.extend_from_self-requires-2-clause-in_range
+extend_from_self-requires-2-clause-in_range g c = (pair_top g.V.Column.format g.W.Column.format c.args.range.«end» c.requires.view_sound c.requires.in_range).1
+
+pub returns-in-Ok-extend_from_self-clause-ok : goal.returns-in-Ok-extend_from_self-clause-ok
+returns-in-Ok-extend_from_self-clause-ok g c = pair_copied_piece g.A.Column.format g.B.Column.format g.V.Column.format g.W.Column.format (g.V.Column.content c.args.view.0) (g.W.Column.content c.args.view.1) c.args.range.start (c.args.range.«end» - c.args.range.start) c.requires.sound c.requires.view_sound c.in-Ok.ensures.ok c.in-Ok-extend_from_self.ensures.ok
+
+pub returns-in-Err-extend_from_self-clause-err : goal.returns-in-Err-extend_from_self-clause-err
+returns-in-Err-extend_from_self-clause-err g c = pair_refused_right_piece g.A.Column.format g.B.Column.format g.V.Column.format g.W.Column.format (g.V.Column.content c.args.view.0) (g.W.Column.content c.args.view.1) c.args.range.start (c.args.range.«end» - c.args.range.start) c.requires.sound c.requires.view_sound (undone g.met.A.Storage.lawful (pair_parts g.A.Column.format g.B.Column.format c.requires.sound).left c.in-Ok.ensures.ok.took.grew (rw c.len-before.ensures at c.truncate.ensures)) c.in-Err-extend_from_self.ensures.err

@@ -1,5 +1,7 @@
 //! Tuples of containers, side by side: a container of tuples.
 ghost use Rattle.std.specs.Prelude.{ℕ};
+ghost use Rattle.columnar_base.specs.Format.{slices_of};
+ghost use Rattle.columnar_base.specs.TwoParts.{two_counted};
 ghost use Rattle.columnar_base.specs.TupleLaws.{pair_storable, same_pair};
 
 use crate::byte_slice::ByteSlice;
@@ -75,6 +77,8 @@ impl<'b, S: ReborrowRef<'b>, T: ReborrowRef<'b>> ReborrowRef<'b> for (S, T) {
 
 impl<A: Stored, B: Stored> Stored for (A, B) {
     ghost storable = { pair_storable A.format B.format A.storable B.storable };
+
+    ghost counted = { λ c. two_counted (slices_of (A.content c.0)) (slices_of (B.content c.1)) (A.counted c.0) (B.counted c.1) };
 
     fn slice_count() -> usize {
         A::slice_count() + B::slice_count()

@@ -23,4 +23,4 @@ pub returns-then-index-first-clause-slice : goal.returns-then-index-first-clause
 returns-then-index-first-clause-slice g c = flat_left (slices_of (g.A.Column.content c.args.self.now.0)) (slices_of (g.B.Column.content c.args.self.now.1)) c.args.index (bytes_in c.get_byte_slice.result.1) c.get_byte_slice.ensures.slice
 
 pub returns-else-index-first-clause-slice : goal.returns-else-index-first-clause-slice
-returns-else-index-first-clause-slice g c = flat_right (slices_of (g.A.Column.content c.args.self.now.0)) (slices_of (g.B.Column.content c.args.self.now.1)) c.args.index (c.args.index - c.slice_count-first.result) (bytes_in c.get_byte_slice-else-index-first.result.1) (omega (arith, g.A.Column.counted c.args.self.now.0, c.slice_count-first.ensures, c.if-index-first.false)) c.get_byte_slice-else-index-first.ensures.slice
+returns-else-index-first-clause-slice g c = flat_right (slices_of (g.A.Column.content c.args.self.now.0)) (slices_of (g.B.Column.content c.args.self.now.1)) c.args.index (c.args.index - c.slice_count-first.result) (bytes_in c.get_byte_slice-else-index-first.result.1) (omega (arith, g.met.A.Stored.counted c.args.self.now.0, c.slice_count-first.ensures, c.if-index-first.false)) c.get_byte_slice-else-index-first.ensures.slice

@@ -23,4 +23,4 @@ pub returns-then-index-first : goal.returns-then-index-first
 returns-then-index-first g c = flat_left (slices_of (g.A.Column.content c.args.self.now.0)) (slices_of (g.B.Column.content c.args.self.now.1)) c.args.index (bytes_in c.byte_slice.result) c.byte_slice.ensures
 
 pub returns-else-index-first : goal.returns-else-index-first
-returns-else-index-first g c = flat_right (slices_of (g.A.Column.content c.args.self.now.0)) (slices_of (g.B.Column.content c.args.self.now.1)) c.args.index (c.args.index - c.slice_count-first.result) (bytes_in c.byte_slice-else-index-first.result) (omega (arith, g.A.Column.counted c.args.self.now.0, c.slice_count-first.ensures, c.if-index-first.false)) c.byte_slice-else-index-first.ensures
+returns-else-index-first g c = flat_right (slices_of (g.A.Column.content c.args.self.now.0)) (slices_of (g.B.Column.content c.args.self.now.1)) c.args.index (c.args.index - c.slice_count-first.result) (bytes_in c.byte_slice-else-index-first.result) (omega (arith, g.met.A.Stored.counted c.args.self.now.0, c.slice_count-first.ensures, c.if-index-first.false)) c.byte_slice-else-index-first.ensures

@@ -8,3 +8,4 @@ pub mod Accepted
 pub mod AcceptedLaws
 pub mod Stashes
 pub mod StashLaws
+pub mod StashLends

@@ -220,15 +220,33 @@ impl<C: ContainerBytes, B: ByteStore> Checked<C, B> {
     }
 }
 
-impl<C: ContainerBytes + Drop, B: ByteStore + Drop> Stash<C, B> {
+impl<C: ContainerBytes, B: ByteStore + Drop> Stash<C, B> {
+    ghost use Rattle.std.specs.Borrow.{sem};
     ghost use Rattle.columnar_bytes.specs.Stashes.{stash_content, is_typed};
+    ghost use Rattle.columnar_bytes.specs.StashLends.{lends_column, lends_typed};
 
-    /// The column itself, for writing: bytes are loaded into a column first, with the same rows and slices. Want of
-    /// memory alone refuses it, and leaves the stash as it was.
-    pub fn make_typed(&mut self) -> Result<(), GrowError>
+    /// The column, for writing: bytes are loaded into a column first, with the same rows and slices. What the caller
+    /// leaves there is what the stash holds. Want of memory alone refuses it, and leaves the stash as it was.
+    pub fn make_typed(&mut self) -> Result<&mut C, GrowError>
+        ensures* writes_back { sem 𝓛 (lends_typed C.row B.row C.Column B.ByteStore self.entry result) }
+        ensures content { IfOk result (λ c. C.content c.now ≡ stash_content self.old) }
+        ensures memory { IfErr result (λ e. e ≡ GrowError.Memory) }
+    {
+        match self.load_in_place() {
+            Ok(()) => {}
+            Err(error) => return Err(error),
+        }
+        match self {
+            Stash::Typed(column) => Ok(column),
+            Stash::Bytes(_) => unreachable!(),
+        }
+    }
+
+    // Loads bytes into a column.
+    fn load_in_place(&mut self) -> Result<(), GrowError>
         ensures typed { OnOk result (is_typed self.new ≡ true) }
-        ensures variant { OnErr result (is_typed self.new ≡ is_typed self.old) }
         ensures content { stash_content self.new ≡ stash_content self.old }
+        ensures stays { OnErr result (self.new ≡ self.old) }
         ensures memory { IfErr result (λ e. e ≡ GrowError.Memory) }
     {
         match self {

@@ -7,5 +7,6 @@ pub mod Written
 pub mod Accepted
 pub mod AcceptedLaws
 pub mod Stashes
+pub mod FramedContent
 pub mod StashLaws
 pub mod StashLends

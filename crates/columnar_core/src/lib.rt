@@ -5,6 +5,7 @@ pub mod byte_slice;
 pub mod bytes;
 pub mod container;
 pub mod offsets;
+pub mod owned;
 pub mod store;
 pub mod tuple;
 pub mod vector;

@@ -10,3 +10,6 @@ pub mod Stashes
 pub mod FramedContent
 pub mod StashLaws
 pub mod StashLends
+pub mod Machine
+pub mod States
+pub mod MachineLaws

@@ -4,6 +4,7 @@ ghost use Rattle.columnar_core.specs.Format.{representable};
 ghost use Rattle.columnar_core.specs.Frame.{framed_slices};
 ghost use Rattle.columnar_bytes.specs.Accepted.{Accepted};
 
+mod commands;
 mod convert;
 mod framed;
 mod grow;
@@ -13,6 +14,7 @@ use columnar_core::bytes::Stored;
 use columnar_core::container::ContainerBytes;
 use columnar_core::store::DecodedStore;
 use columnar_core::traits::{Column, Len};
+pub use commands::{Command, Refusal, Reply, run};
 use std::alloc::Global;
 use std::marker::PhantomData;
 use std::ops::DerefSlice;

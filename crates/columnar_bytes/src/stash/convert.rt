@@ -1,5 +1,5 @@
 //! How a stash changes its variant, and keeps its rows.
-ghost use Rattle.std.specs.Prelude.{◌≡◌, ◌↔◌, ◌*◌, ◌^◌, ◌<◌, ◌≤◌, length, Err, IsTrue, IfOk, IfErr, OnOk, OnErr};
+ghost use Rattle.std.specs.Prelude.{◌≡◌, ◌≢◌, ◌↔◌, ◌*◌, ◌^◌, ◌<◌, ◌≤◌, length, Err, IsTrue, IfOk, IfErr, OnOk, OnErr};
 ghost use Rattle.columnar_core.specs.Format.{IsSound, representable, slices_of};
 ghost use Rattle.columnar_core.specs.Frame.{framed_slices};
 ghost use Rattle.columnar_core.specs.Words.{words, store_bytes};
@@ -126,6 +126,7 @@ impl<C: ContainerBytes, B: ByteStore> Stash<C, B> {
         ensures variant { OnOk result (variant_of self.new ≡ typed) }
         ensures content { stash_content self.new ≡ stash_content self.old }
         ensures stays { OnErr result (self.new ≡ self.old) }
+        ensures bytes { OnErr result (variant_of self.old ≢ typed) }
         ensures memory { IfErr result (λ e. e ≡ GrowError.Memory) }
     {
         let loaded = match self {

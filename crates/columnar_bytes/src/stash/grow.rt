@@ -11,9 +11,15 @@ use columnar_core::traits::{Clear, Index, Item, Push, PushRef};
 use std::alloc::Global;
 use std::ops::Range;
 
-/// Bytes become a column without rows; takes no memory.
 impl<C: ContainerBytes, B: ByteStore> Clear for Stash<C, B> {
-    fn clear(&mut self) {
+    ghost use Rattle.columnar_bytes.specs.Stashes.{stash_content, variant_of, typed};
+
+    /// Takes all rows away: bytes become a column. Takes no memory.
+    fn clear(&mut self)
+        ensures sound { IsSound C.format (stash_content self.new) }
+        ensures rows { C.format.rows (stash_content self.new) ≡ [] }
+        ensures variant { variant_of self.new ≡ typed }
+    {
         match self {
             Stash::Typed(column) => column.clear(),
             Stash::Bytes(checked) => {
@@ -104,7 +110,10 @@ impl<C: ContainerBytes, B: ByteStore> Stash<C, B> {
     ghost use Rattle.columnar_bytes.specs.Stashes.{stash_content, variant_of, typed};
 
     /// A stash of a column without rows, with room for the rows of the views; want of memory alone refuses it.
-    pub fn with_capacity_for<V: Index + Copy, I: Iterator<Item = V> + Drop>(alloc: Global, views: I) -> Result<Self, GrowError>
+    pub fn with_capacity_for<V: Index + Copy, I: Iterator<Item = V> + Drop>(
+        alloc: Global,
+        views: I,
+    ) -> Result<Self, GrowError>
     where
         C: ExtendFrom<V>,
         requires callable { I.can_next views }
@@ -122,7 +131,10 @@ impl<C: ContainerBytes, B: ByteStore> Stash<C, B> {
 
     /// Makes room for the rows of the views in the column; the rows stay. Want of memory alone refuses it, and leaves
     /// the variant.
-    pub fn reserve_for<V: Index + Copy, I: Iterator<Item = V> + Drop>(&mut self, views: I) -> Result<(), GrowError>
+    pub fn reserve_for<V: Index + Copy, I: Iterator<Item = V> + Drop>(
+        &mut self,
+        views: I,
+    ) -> Result<(), GrowError>
     where
         C: ExtendFrom<V>,
         requires sound { IsSound C.format (stash_content self.old) }
@@ -158,7 +170,11 @@ impl<C: ContainerBytes, B: ByteStore> Stash<C, B> {
 
     /// Adds rows that are alike to the rows of the range, or none of them, as the column's own call; a refusal leaves
     /// the variant.
-    pub fn extend_from_self<V: Index + Copy>(&mut self, view: V, range: Range<usize>) -> Result<(), GrowError>
+    pub fn extend_from_self<V: Index + Copy>(
+        &mut self,
+        view: V,
+        range: Range<usize>,
+    ) -> Result<(), GrowError>
     where
         C: ExtendFrom<V>,
         requires sound { IsSound C.format (stash_content self.old) }

@@ -110,9 +110,16 @@ elements_rebuilt size row_of (both x y) rest s = cc
 elements_rebuilt size row_of (part l u x) rest s = cc
 elements_rebuilt size row_of (plain rs) rest s = cc
 
+elements_counted : (size : ℕ) (row_of : List ℕ → Row) → (c : Content) → IsSound (elements_format size row_of) c → length (slices_of c) ≡ 1
+elements_counted size row_of (slice bs) s = refl
+elements_counted size row_of (both x y) s = cc
+elements_counted size row_of (part l u x) s = cc
+elements_counted size row_of (plain rs) s = cc
+
 pub elements_lawful : (size : ℕ) (row_of : List ℕ → Row) → IsLawful (elements_format size row_of)
 elements_lawful size row_of = record {
   full = elements_full size row_of;
+  counted = elements_counted size row_of;
   rebuilt = elements_rebuilt size row_of;
   same = row_eq_same;
   more = λ e c n rs ss h. past_more e (n + length rs) (n + length (rs ++ ss)) (omega (arith, length-append rs ss)) h;

@@ -107,6 +107,8 @@ refuses_more f e c rs = f.refuses e c (length (f.rows c)) rs
 pub record IsLawful (f : Format) : Type 0 where
   -- the lengths at all rows are the lengths
   pub full : (c : Content) → IsSound f c → f.extent c (length (f.rows c)) ≡ lengths c
+  -- a well-formed content has as many slices as the type
+  pub counted : (c : Content) → IsSound f c → length (slices_of c) ≡ f.count
   -- the slices of a well-formed content make it again
   pub rebuilt : (c : Content) (rest : List (List ℕ)) → IsSound f c → f.build (slices_of c ++ rest) ≡ c
   -- alike is an equivalence

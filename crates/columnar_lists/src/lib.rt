@@ -1,2 +1,2 @@
-//! Under construction.
+//! Columns of lists.
 #![tactic(auto)]

@@ -1,7 +1,7 @@
 //! The traits of containers: columns that grow, are cut, and are borrowed as views.
 ghost use Rattle.std.specs.Prelude.{◌≡◌, ℕ, ◌+◌, ◌-◌, ◌<◌, ◌≤◌, length, List, [], ◌∷◌, take, drop, OnOk, OnErr, IfOk, IfErr, IsTrue, slice_get, Some};
 ghost use Rattle.std.specs.Iterator.{IsFinite};
-ghost use Rattle.columnar_base.specs.Row.{Row};
+ghost use Rattle.columnar_base.specs.Row.{Row, unit};
 ghost use Rattle.columnar_base.specs.Format.{Content, Format, Fits, IsSound, IsLawful, representable, slices_of};
 ghost use Rattle.columnar_core.specs.Store.{slices_in};
 ghost use Rattle.columnar_core.specs.Slices.{bytes_in};
@@ -13,6 +13,7 @@ use crate::store::DecodedStore;
 use columnar_base::fault::GrowError;
 use columnar_base::traits::{Clear, Column, Index, Item, Len, Push};
 use std::alloc::Global;
+use std::marker::PhantomData;
 use std::ops::Range;
 
 /// What an owned column does that names no view.
@@ -112,6 +113,18 @@ pub trait Borrow<'a>: Len + Clone {
         ensures { Self.Borrowed.content result ≡ Self.content self.now };
 
     ghost same_format: { Self.Borrowed.format ≡ Self.format };
+}
+
+/// Names two types of items, for `Parts` of a column of two parts. Nothing reads a value of it.
+pub struct Named<A, B> {
+    first: PhantomData<A>,
+    second: PhantomData<B>,
+}
+
+impl<A: Item, B: Item> Item for Named<A, B> {
+    ghost meaning = { λ n. unit };
+
+    ghost valid = { λ n. Unit {0} };
 }
 
 /// A view that can be shortened to the lifetime `'b`; nothing else changes.

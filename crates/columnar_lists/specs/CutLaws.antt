@@ -189,6 +189,11 @@ ends_cut lower start from here (n ∷ ns) end vs e l h w =
     let k : here + (n - from) ≡ start + (n - lower) = omega arith in
     rw (i, k) (ap (λ t. number (start + (n - lower)) ∷ t) (ends_cut lower start n (start + (n - lower)) ns end vs refl (omega arith) p.1 w))
 
+pub last_at : (n from : ℕ) (ns : List ℕ) (e : ℕ) → slice_get (from ∷ ns) n ≡ Some e → last_or from (take n ns) ≡ e
+last_at zero from ns e p = cc
+last_at (suc n) from [] e p = cc
+last_at (suc n) from (m ∷ ns) e p = last_at n m ns e p
+
 last-append : (from : ℕ) (ns ms : List ℕ) → last_or from (ns ++ ms) ≡ last_or (last_or from ns) ms
 last-append from [] ms = refl
 last-append from (n ∷ ns) ms = last-append n ns ms
@@ -203,6 +208,14 @@ last-range m n from ns l =
 -- the bounds m..n rise from the end of list m - 1 to that of list n - 1
 pub rises-range : (m n from : ℕ) (ns : List ℕ) (end : ℕ) → m ≤ n → rises from ns end ≡ true → rises (last_or from (take m ns)) (take (n - m) (drop m ns)) (last_or from (take n ns)) ≡ true
 rises-range m n from ns end l h = rw (last-range m n from ns l) at (rises-take (n - m) (last_or from (take m ns)) (drop m ns) end (rises-drop m from ns end h))
+
+-- bound i, where it is one of the bounds m..n, lies between the end of list m - 1 and that of list n - 1
+pub bound_between : (m n i k : ℕ) (ns : List ℕ) (end : ℕ) → m ≤ i → i < n → slice_get ns i ≡ Some k → rises 0 ns end ≡ true → (last_or 0 (take m ns) ≤ k) × (k ≤ last_or 0 (take n ns))
+bound_between m n i k ns end l u h r =
+    let e : last_or 0 (take (suc i) ns) ≡ k = last_at (suc i) 0 ns k h in
+    let a = rises-from (last_or 0 (take m ns)) (take (suc i - m) (drop m ns)) (last_or 0 (take (suc i) ns)) (rises-range m (suc i) 0 ns end (omega arith) r) in
+    let b = rises-from (last_or 0 (take (suc i) ns)) (take (n - suc i) (drop (suc i) ns)) (last_or 0 (take n ns)) (rises-range (suc i) n 0 ns end (omega arith) r) in
+    (omega arith, omega arith)
 
 -- the lists m..n are cut by the bounds m..n
 pub cut-range : (m n from : ℕ) (ns : List ℕ) (vs : List Row) → cut (last_or from (take m ns)) (take n (drop m ns)) vs ≡ take n (drop m (cut from ns vs))
@@ -235,14 +248,12 @@ rises_get (suc i) from (n ∷ ns) end l u h p q =
     let r = and_parts (nat_le from n) (rises n ns end) h in
     rises_get i n ns end l u r.1 p q
 
-pub last_at : (n from : ℕ) (ns : List ℕ) (e : ℕ) → slice_get (from ∷ ns) n ≡ Some e → last_or from (take n ns) ≡ e
-last_at zero from ns e p = cc
-last_at (suc n) from [] e p = cc
-last_at (suc n) from (m ∷ ns) e p = last_at n m ns e p
-
 pub number_get : (rs : List Row) (i n : ℕ) → slice_get rs i ≡ Some (number n) → slice_get (numbers rs) i ≡ Some n
 number_get rs i n h = rw (slice_get-map, h) refl
 
 pub number_before : (rs : List Row) (i n : ℕ) → 0 < i → slice_get rs (i - 1) ≡ Some (number n) → slice_get (0 ∷ numbers rs) i ≡ Some n
 number_before rs zero n l h = absurd (omega arith)
 number_before rs (suc i) n l h = let e : suc i - 1 ≡ i = omega arith in number_get rs i n (rw e at h)
+
+pub shifted_get : (lower start : ℕ) (rs : List Row) (i n : ℕ) → slice_get rs i ≡ Some (number n) → slice_get (shifted lower start (numbers rs)) i ≡ Some (number (start + (n - lower)))
+shifted_get lower start rs i n h = rw (slice_get-map, number_get rs i n h) refl

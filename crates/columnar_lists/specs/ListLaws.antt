@@ -1,11 +1,12 @@
 -- What the format of lists keeps to, and what growth, a refusal and a cut of its parts leave of it.
-use Rattle.std.proofs.Common.{◌≡◌, ℕ, zero, suc, ◌+◌, ◌*◌, ◌^◌, ◌-◌, ◌<◌, ◌≤◌, Bool, true, false, ◌&&◌, ◌||◌, List, [], ◌∷◌, ◌++◌, length, take, drop, map, refl, sym, ◌∙◌, ap, arith, length-append, length-take, append_assoc, length-drop, append-nil}
+use Rattle.std.proofs.Common.{◌≡◌, ℕ, zero, suc, ◌+◌, ◌*◌, ◌%◌, ◌^◌, ◌-◌, ◌<◌, ◌≤◌, Bool, true, false, ◌&&◌, ◌||◌, List, [], ◌∷◌, ◌++◌, length, take, drop, map, refl, sym, ◌∙◌, ap, arith, length-append, length-take, append_assoc, length-drop, append-nil}
 use Rattle.std.proofs.Math.Seq.{take-append_seam, drop-append_seam, take-length, take-add}
 use Rattle.std.specs.Prelude.{slice_get, Some, Option, nat_eq, nat_le}
 use Rattle.std.proofs.lemmas.List.{take-append-drop, take-append-le, drop-append-le, map-append, length-map, take-map, drop-drop}
 use Rattle.std.proofs.lemmas.Bool.{or_left, or_right, and_parts, and_from, eqb-true, eq-eqb, leb-true, le-leb}
 use Rattle.columnar_base.specs.Row.{Row, list, number, number_of, items_of, end_of, empty, row_eq}
 use Rattle.columnar_base.specs.RowLaws.{row_eq-is, is-row_eq, items_of-list, end_of-list}
+use Rattle.columnar_base.specs.Elements.{word_row}
 use Rattle.columnar_base.specs.FaultLaws.{nothing_left, nothing_both, nothing_moved, moved_nothing, unless_true, true_unless}
 use Rattle.columnar_base.specs.AlikeLaws.{alike_is, alike_length}
 use Rattle.columnar_base.specs.Format.{Format, Content, slice, both, part, plain, part_format, Fits, IsSound, IsLawful, IsStorable, IsSame, IsExact, lengths, slices_of, bytes_held, moved, unless, fault, Fault, all_alike, Excess, refuses_more}
@@ -15,7 +16,7 @@ use Rattle.columnar_base.specs.TwoParts.{TwoParts, two_sized, two_counted}
 use Rattle.columnar_base.specs.declared.fault.GrowError.{GrowError}
 use Rattle.columnar_core.specs.Bounds.{rises, numbers, IsBounds}
 use Rattle.columnar_lists.specs.Lists.{lists_format, lists_broken, lists_rows, lists_extent, lists_refuses, list_alike, joined, cut, last_or, end_at, ends, shifted}
-use Rattle.columnar_lists.specs.CutLaws.{rises-last, rises-from, rises-append, rises-take, rises-drop, last-take, length-cut, cut-take, cut-drop, cut-append, cut-more, are_lists, cut_lists, joined-cut, joined-append, ends-append, ends_rise, cut_alike, cut_exactly, lists_same, ends_cut, rises-range, cut-range, shifted-range, rises_get, last_at, number_get}
+use Rattle.columnar_lists.specs.CutLaws.{rises-last, rises-from, rises-append, rises-take, rises-drop, last-take, length-cut, cut-take, cut-drop, cut-append, cut-more, are_lists, cut_lists, joined-cut, joined-append, ends-append, ends_rise, cut_alike, cut_exactly, lists_same, ends_cut, rises-range, cut-range, shifted-range, rises_get, last_at, number_get, bound_between}
 
 -- what the soundness of lists is made of
 pub record SoundLists (b t : Format) (x y : Content) : Type 0 where
@@ -35,6 +36,12 @@ lists_sound b t {x} {y} s = record { accepted = nothing_both (b.broken x) (moved
 -- there are as many lists as bounds
 pub length-lists : (b t : Format) (x y : Content) → length (lists_rows b t (both x y)) ≡ length (b.rows x)
 length-lists b t x y = length-cut 0 (numbers (b.rows x)) (t.rows y) ∙ length-map (b.rows x) number_of
+
+pub lists_within : (b t : Format) (x y : Content) (i : ℕ) → i < length (lists_rows b t (both x y)) → i < length (b.rows x)
+lists_within b t x y i l = rw (length-lists b t x y) at l
+
+pub lists_within_le : (b t : Format) (x y : Content) (i : ℕ) → i ≤ length (lists_rows b t (both x y)) → i ≤ length (b.rows x)
+lists_within_le b t x y i l = rw (length-lists b t x y) at l
 
 -- all lists end where the values do
 pub end_of_all : (b t : Format) {x y : Content} → SoundLists b t x y → end_at b x (length (lists_rows b t (both x y))) ≡ length (t.rows y)
@@ -254,6 +261,15 @@ no_lists b t {x} {y} s e =
     let z : end_at b x 0 ≡ length (t.rows y) = rw n at l in
     no_rows (t.rows y) (sym z)
 
+-- the items of lists, and their ends, in a column without lists: these lists
+pub lists_front : (b t : Format) {x x' y y' : Content} (rs : List Row) → IsBounds b → IsSound (lists_format b t) (both x y) → are_lists rs ≡ true → Took t y y' (joined rs) → Took b x x' (ends (length (t.rows y)) rs) → lists_rows b t (both x y) ≡ [] → t.rows y' ≡ joined rs → lists_rows b t (both x' y') ≡ rs
+lists_front b t {x} {x'} {y} {y'} rs nb s l g h e f =
+    let n : length g.fresh ≡ length (joined rs) = alike_length t.alike g.fresh (joined rs) g.alike in
+    let k = lists_grew b t rs s n g.grew (grew_exactly nb.exact h) in
+    let z : t.rows y ≡ [] = no_lists b t s e in
+    let c : cut 0 (numbers (ends 0 rs)) (t.rows y') ≡ rs = cut_exactly 0 (t.rows y') rs l f in
+    k.rows ∙ (rw (e, z) c)
+
 -- the cut at n, where e is the end of list n - 1
 pub lists_cut_at : (b t : Format) {x x' y y' : Content} {n e : ℕ} → IsSound (lists_format b t) (both x y) → slice_get (0 ∷ numbers (b.rows x)) n ≡ Some e → WasCut b x x' n → WasCut t y y' e → WasCut (lists_format b t) (both x y) (both x' y') n
 lists_cut_at b t {x} {x'} {y} {y'} {n} {e} s p g h =
@@ -289,6 +305,10 @@ piece_parts f {l} {u} {c} s =
 
 -- one list
 
+-- a number of 64 bits, as it is pushed
+pub word_end : (n : ℕ) {m : ℕ} → n ≡ m → n < 2 ^ 64 → word_row n ≡ number m
+word_end n {m} e l = let k : n % 2 ^ 64 ≡ m = omega (arith, e) in ap number k
+
 one_joined : (us : List Row) → joined (list us ∷ []) ≡ us
 one_joined us = append-nil (items_of (list us)) ∙ items_of-list us
 
@@ -300,7 +320,7 @@ one_ends from end us e =
 one_list : (us : List Row) → are_lists (list us ∷ []) ≡ true
 one_list us = and_from _ _ (is-row_eq (end_of (list us)) empty (end_of-list us)) refl
 
-took_length : {f : Format} {x y : Content} {us : List Row} → Took f x y us → length (f.rows y) ≡ length (f.rows x) + length us
+pub took_length : {f : Format} {x y : Content} {us : List Row} → Took f x y us → length (f.rows y) ≡ length (f.rows x) + length us
 took_length {f} {x} {y} {us} g = ap length g.grew.rows ∙ (length-append (f.rows x) g.fresh ∙ omega (arith, alike_length f.alike g.fresh us g.alike))
 
 -- the values took the items of a list, and the bounds their new number
@@ -323,6 +343,7 @@ pub record RangeOf (b t : Format) (x y : Content) (start end lower upper : ℕ) 
   pub lists : are_lists (take (end - start) (drop start (lists_rows b t (both x y)))) ≡ true
   pub items : joined (take (end - start) (drop start (lists_rows b t (both x y)))) ≡ take (upper - lower) (drop lower (t.rows y))
   pub ended : (from : ℕ) → ends from (take (end - start) (drop start (lists_rows b t (both x y)))) ≡ take (end - start) (drop start (shifted lower from (numbers (b.rows x))))
+  pub between : (i n : ℕ) → start ≤ i → i < end → slice_get (numbers (b.rows x)) i ≡ Some n → (lower ≤ n) × (n ≤ upper)
   pub ordered : lower ≤ upper
   pub within : upper ≤ length (t.rows y)
 
@@ -338,6 +359,36 @@ range_of b t {x} {y} start end {lower} {upper} s o p q =
       lists = rw (← c) (cut_lists lower (take (end - start) (drop start (numbers (b.rows x)))) (t.rows y));
       items = rw (← c) (joined-cut lower (take (end - start) (drop start (numbers (b.rows x)))) upper (t.rows y) r);
       ended = λ from. rw (← c, shifted-range lower from start (end - start) (numbers (b.rows x))) (ends_cut lower from lower from (take (end - start) (drop start (numbers (b.rows x)))) upper (t.rows y) (omega arith) (omega arith) r w);
+      between = λ i n a d h. rw (l, u) at (bound_between start end i n (numbers (b.rows x)) (length (t.rows y)) a d h z.rise);
       ordered = rises-from lower (take (end - start) (drop start (numbers (b.rows x)))) upper r;
       within = w;
     }
+
+-- the bounds of a range may be moved: the values that were copied fit behind the old ones
+pub range_held : {b t : Format} {x y : Content} {start end lower upper : ℕ} → RangeOf b t x y start end lower upper → (before all : ℕ) → all ≡ before + (upper - lower) → all < 2 ^ 64 → (i n : ℕ) → start ≤ i → i < end → slice_get (numbers (b.rows x)) i ≡ Some n → (lower ≤ n) × (before + (n - lower) < 2 ^ 64)
+range_held r before all e l i n a d h = let p = r.between i n a d h in (p.0, omega (arith, e, p.0, p.1))
+
+-- how many values were copied
+pub range_length : {b t : Format} {x y : Content} {start end lower upper : ℕ} → RangeOf b t x y start end lower upper → length (take (upper - lower) (drop lower (t.rows y))) ≡ upper - lower
+range_length {b} {t} {x} {y} {start} {end} {lower} {upper} r = length-take (upper - lower) (drop lower (t.rows y)) ∙ omega (arith, length-drop lower (t.rows y), r.within)
+
+-- The values of the range were copied, and then its bounds, moved to where the old values end; a front, copied into
+-- a column without lists, is there as it was.
+
+first_is : (ns : List ℕ) (i lower : ℕ) → slice_get (0 ∷ ns) i ≡ Some lower → i ≡ 0 → lower ≡ 0
+first_is ns zero lower h e = cc
+first_is ns (suc i) lower h e = absurd (omega arith)
+
+pub range_copied : (b t : Format) {w v : Format} {x x' y y' p q : Content} {start end lower upper : ℕ} → IsBounds b → IsSound (lists_format b t) (both x y) → RangeOf w v p q start end lower upper → slice_get (0 ∷ numbers (w.rows p)) start ≡ Some lower → Copied t y y' lower (take (upper - lower) (drop lower (v.rows q))) → Took b x x' (take (end - start) (drop start (shifted lower (length (t.rows y)) (numbers (w.rows p))))) → Copied (lists_format b t) (both x y) (both x' y') start (take (end - start) (drop start (lists_rows w v (both p q))))
+range_copied b t {w} {v} {x} {x'} {y} {y'} {p} {q} {start} {end} {lower} {upper} nb s r l g h = record {
+  took = lists_took b t (take (end - start) (drop start (lists_rows w v (both p q)))) nb s r.lists (rw r.items g.took) (rw (r.ended (length (t.rows y))) h);
+  front = λ e z. lists_front b t (take (end - start) (drop start (lists_rows w v (both p q)))) nb s r.lists (rw r.items g.took) (rw (r.ended (length (t.rows y))) h) e (g.front (no_lists b t s e) (first_is (numbers (w.rows p)) start lower l z) ∙ sym r.items);
+}
+
+-- the values of the range were refused
+pub range_refused_values : (b t : Format) {w v : Format} {x x' y y' p q : Content} {start end lower upper : ℕ} {error : GrowError} → IsSound (lists_format b t) (both x y) → RangeOf w v p q start end lower upper → Stayed b x x' → Refused t y y' (take (upper - lower) (drop lower (v.rows q))) error → Refused (lists_format b t) (both x y) (both x' y') (take (end - start) (drop start (lists_rows w v (both p q)))) error
+range_refused_values b t {w} {v} {p = p} {q = q} {start = start} {end = end} s r g h = lists_refused_values b t (take (end - start) (drop start (lists_rows w v (both p q)))) s g (rw r.items h)
+
+-- a bound of the range was refused, and the values were taken back
+pub range_refused_bounds : (b t : Format) {w v : Format} {x x' y y' p q : Content} {start end lower upper : ℕ} {error : GrowError} → IsSound (lists_format b t) (both x y) → RangeOf w v p q start end lower upper → Refused b x x' (take (end - start) (drop start (shifted lower (length (t.rows y)) (numbers (w.rows p))))) error → Stayed t y y' → Refused (lists_format b t) (both x y) (both x' y') (take (end - start) (drop start (lists_rows w v (both p q)))) error
+range_refused_bounds b t {w} {v} {x = x} {y = y} {p = p} {q = q} {start = start} {end = end} s r h st = lists_refused_bounds b t (take (end - start) (drop start (lists_rows w v (both p q)))) s (rw (r.ended (length (t.rows y))) h) st

@@ -1,0 +1,204 @@
+//! Lists of rows: their items one after another in one column, and where each list ends in another.
+ghost use Rattle.std.specs.Prelude.{◌≡◌, ℕ, ◌+◌, ◌-◌, ◌^◌, ◌<◌, ◌≤◌, length, List, [], ◌∷◌, slice_get, Some, take, drop, OnOk, IfErr};
+ghost use Rattle.columnar_base.specs.Format.{both, IsSound};
+ghost use Rattle.columnar_base.specs.Change.{Took, Refused};
+ghost use Rattle.columnar_base.specs.TwoParts.{two_counted};
+ghost use Rattle.columnar_core.specs.Bounds.{numbers};
+ghost use Rattle.columnar_lists.specs.Lists.{lists_format, shifted};
+ghost use Rattle.columnar_lists.specs.ListLaws.{same_lists, lists_lawful};
+
+use columnar_base::fault::GrowError;
+use columnar_base::slice::Slice;
+use columnar_base::traits::{Clear, Column, Index, Item, Len, Push};
+use columnar_core::container::{Borrow, Container, ExtendFrom, Named, Reborrow, Storage};
+use columnar_core::offsets::Offsets;
+use std::alloc::Global;
+use std::ops::Range;
+
+/// A column of lists. List i has the values from bound i - 1, or from 0 where there is none, up to bound i; it is
+/// well formed where the bounds never fall and the last one is the number of the values, 0 where there is none.
+#[derive(Clone, Copy)]
+pub struct Vecs<TC, BC> {
+    /// Where each list ends.
+    pub bounds: BC,
+    /// The items of all lists.
+    pub values: TC,
+}
+
+// Where list `index` begins.
+fn start_of<BC: Offsets>(bounds: &BC, index: usize) -> u64
+    requires sound { IsSound BC.format (BC.content bounds.now) }
+    requires in_range { index ≤ length (BC.format.rows (BC.content bounds.now)) }
+    ensures { slice_get (0 ∷ numbers (BC.format.rows (BC.content bounds.now))) index ≡ Some result }
+{
+    if index == 0 { 0 } else { bounds.offset(index - 1) }
+}
+
+impl<TC: Column, BC: Column> Column for Vecs<TC, BC> {
+    ghost use Rattle.columnar_base.specs.Format.{slices_of};
+
+    ghost format = { lists_format BC.format TC.format };
+
+    ghost content = { λ v. both (BC.content v.bounds) (TC.content v.values) };
+
+    ghost counted = { λ v. two_counted (slices_of (BC.content v.bounds)) (slices_of (TC.content v.values)) (BC.counted v.bounds) (TC.counted v.values) };
+}
+
+impl<TC: Len, BC: Len> Len for Vecs<TC, BC> {
+    fn len(&self) -> usize {
+        self.bounds.len()
+    }
+}
+
+impl<TC: Index + Copy, BC: Offsets> Index for Vecs<TC, BC> {
+    type Ref = Slice<TC>;
+
+    fn get(&self, index: usize) -> Slice<TC> {
+        let lower = start_of(&self.bounds, index);
+        let upper = self.bounds.offset(index);
+        Slice {
+            lower: lower as usize,
+            upper: upper as usize,
+            slice: self.values,
+        }
+    }
+}
+
+impl<TC: Clear, BC: Clear> Clear for Vecs<TC, BC> {
+    fn clear(&mut self) {
+        self.bounds.clear();
+        self.values.clear();
+    }
+}
+
+impl<V: Index + Copy, TC: ExtendFrom<V>, BC: Storage + Offsets + Push<u64>> Push<Slice<V>> for Vecs<TC, BC> {
+    fn push(&mut self, item: Slice<V>) -> Result<(), GrowError> {
+        let before = self.values.len();
+        match self.values.extend_from_self(item.slice, item.lower..item.upper) {
+            Ok(()) => {}
+            Err(error) => return Err(error),
+        }
+        let end = self.values.len();
+        match self.bounds.push(end as u64) {
+            Ok(()) => Ok(()),
+            Err(error) => {
+                self.values.truncate(before);
+                Err(error)
+            }
+        }
+    }
+}
+
+impl<TC: Storage, BC: Storage + Offsets> Storage for Vecs<TC, BC> {
+    type Room = (BC::Room, TC::Room);
+
+    ghost lawful = { lists_lawful BC.format TC.format BC.lawful TC.lawful };
+
+    fn empty(alloc: Global) -> Self {
+        let bounds = BC::empty(alloc);
+        let values = TC::empty(alloc);
+        Vecs { bounds, values }
+    }
+
+    fn truncate(&mut self, n: usize) {
+        let end = start_of(&self.bounds, n);
+        self.values.truncate(end as usize);
+        self.bounds.truncate(n);
+    }
+
+    fn no_room() -> (BC::Room, TC::Room) {
+        (BC::no_room(), TC::no_room())
+    }
+
+    fn reserve_room(&mut self, room: (BC::Room, TC::Room)) -> Result<(), GrowError> {
+        match self.bounds.reserve_room(room.0) {
+            Ok(()) => {}
+            Err(error) => return Err(error),
+        }
+        match self.values.reserve_room(room.1) {
+            Ok(()) => Ok(()),
+            Err(error) => Err(error),
+        }
+    }
+}
+
+impl<'a, TC: Borrow<'a>, BC: Borrow<'a, Borrowed: Offsets>> Borrow<'a> for Vecs<TC, BC> {
+    type Ref = Slice<TC::Borrowed>;
+
+    type Borrowed = Vecs<TC::Borrowed, BC::Borrowed>;
+
+    type Parts = Named<Named<BC::Ref, BC::Parts>, Named<TC::Ref, TC::Parts>>;
+
+    ghost same_format = { same_lists BC.same_format TC.same_format };
+
+    fn borrow(&'a self) -> Vecs<TC::Borrowed, BC::Borrowed> {
+        let bounds = self.bounds.borrow();
+        let values = self.values.borrow();
+        Vecs { bounds, values }
+    }
+}
+
+// Pushes bounds of a view, those of the range, each moved from `lower` to `start`; or none of them.
+fn push_shifted<W: Offsets, BC: Storage + Push<u64>>(bounds: &mut BC, view: &W, range: Range<usize>, lower: u64, start: usize) -> Result<(), GrowError>
+    requires sound { IsSound BC.format (BC.content bounds.old) }
+    requires view_sound { IsSound W.format (W.content view.now) }
+    requires ordered { range.start ≤ range.«end» }
+    requires in_range { range.«end» ≤ length (W.format.rows (W.content view.now)) }
+    requires held { (i n : ℕ) → range.start ≤ i → i < range.«end» → slice_get (numbers (W.format.rows (W.content view.now))) i ≡ Some n → (lower ≤ n) × (start + (n - lower) < 2 ^ 64) }
+    ensures ok { OnOk result (Took BC.format (BC.content bounds.old) (BC.content bounds.new) (take (range.«end» - range.start) (drop range.start (shifted lower start (numbers (W.format.rows (W.content view.now))))))) }
+    ensures err { IfErr result (λ e. Refused BC.format (BC.content bounds.old) (BC.content bounds.new) (take (range.«end» - range.start) (drop range.start (shifted lower start (numbers (W.format.rows (W.content view.now)))))) e) }
+{
+    let before = bounds.len();
+    for i in range.start..range.end {
+        let end = view.offset(i) - lower;
+        match bounds.push(start as u64 + end) {
+            Ok(()) => {}
+            Err(error) => {
+                bounds.truncate(before);
+                return Err(error);
+            }
+        }
+    }
+    Ok(())
+}
+
+impl<V: Index + Copy, W: Index + Offsets + Copy, TC: ExtendFrom<V>, BC: ExtendFrom<W> + Offsets + Push<u64>> ExtendFrom<Vecs<V, W>> for Vecs<TC, BC> {
+    fn add_room(room: (BC::Room, TC::Room), view: Vecs<V, W>) -> (BC::Room, TC::Room) {
+        (
+            BC::add_room(room.0, view.bounds),
+            TC::add_room(room.1, view.values),
+        )
+    }
+
+    fn extend_from_self(&mut self, view: Vecs<V, W>, range: Range<usize>) -> Result<(), GrowError> {
+        let before = self.values.len();
+        let lower = start_of(&view.bounds, range.start);
+        let upper = start_of(&view.bounds, range.end);
+        match self.values.extend_from_self(view.values, lower as usize..upper as usize) {
+            Ok(()) => {}
+            Err(error) => return Err(error),
+        }
+        let _end = self.values.len();
+        match push_shifted(&mut self.bounds, &view.bounds, range, lower, before) {
+            Ok(()) => Ok(()),
+            Err(error) => {
+                self.values.truncate(before);
+                Err(error)
+            }
+        }
+    }
+}
+
+impl<'a, TC: Container<'a>, BC: Container<'a> + Borrow<'a, Borrowed: Offsets> + Offsets + Push<u64>> Container<'a> for Vecs<TC, BC> {}
+
+impl<'b, TC: Reborrow<'b>, BC: Reborrow<'b>> Reborrow<'b> for Vecs<TC, BC> {
+    type Short = Vecs<TC::Short, BC::Short>;
+
+    ghost same_short = { same_lists BC.same_short TC.same_short };
+
+    fn reborrow(self) -> Vecs<TC::Short, BC::Short> {
+        let bounds = self.bounds.reborrow();
+        let values = self.values.reborrow();
+        Vecs { bounds, values }
+    }
+}

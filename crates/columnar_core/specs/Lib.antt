@@ -11,5 +11,6 @@ pub mod Store
 pub mod Column
 pub mod ColumnLaws
 pub mod Bounds
+pub mod BoundLaws
 pub mod StoreLaws
 pub mod Appended

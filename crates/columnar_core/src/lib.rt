@@ -7,4 +7,5 @@ pub mod container;
 pub mod offsets;
 pub mod store;
 pub mod vector;
+pub mod words;
 pub mod writer;

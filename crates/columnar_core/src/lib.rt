@@ -5,6 +5,7 @@ pub mod byte_slice;
 pub mod bytes;
 pub mod container;
 pub mod offsets;
+pub mod slice;
 pub mod store;
 pub mod vector;
 pub mod words;

@@ -113,6 +113,16 @@ lists_two b t = record { count = refl; sizes = refl; build = λ ss. refl; broken
 pub lists_storable : (b t : Format) → IsStorable b → IsStorable t → IsStorable (lists_format b t)
 lists_storable b t p q = record { swift = omega arith; sized = two_sized (lists_two b t) p q }
 
+-- the slices of both parts fit where those of the lists do
+pub lists_fit_bounds : (b t : Format) (o : ℕ) (ss : List (List ℕ)) → Fits (lists_format b t) o ss → Fits b o ss
+lists_fit_bounds b t o ss h = record { room = let r : o + (b.count + t.count) ≤ length ss = h.room in omega arith; sound = (lists_parts b t h.sound).bounds }
+
+pub lists_fit_values : (b t : Format) (o : ℕ) (ss : List (List ℕ)) → Fits (lists_format b t) o ss → Fits t (o + b.count) ss
+lists_fit_values b t o ss h = record {
+  room = let r : o + (b.count + t.count) ≤ length ss = h.room in omega arith;
+  sound = rw (drop-drop b.count o ss) at (lists_parts b t h.sound).values;
+}
+
 -- extents and limits are kept where both parts keep them
 pub lists_kept : (b t : Format) {x x' y y' : Content} (ms : List ℕ) → SoundLists b t x y → numbers (b.rows x') ≡ numbers (b.rows x) ++ ms → Keeps b x x' (length (b.rows x)) → Keeps t y y' (length (t.rows y)) → Keeps (lists_format b t) (both x y) (both x' y') (length (cut 0 (numbers (b.rows x)) (t.rows y)))
 lists_kept b t {x} {x'} {y} {y'} ms p e g h =

@@ -5,19 +5,23 @@ ghost use Rattle.columnar_base.specs.Change.{Took, Refused};
 ghost use Rattle.columnar_base.specs.TwoParts.{two_counted};
 ghost use Rattle.columnar_core.specs.Bounds.{numbers};
 ghost use Rattle.columnar_lists.specs.Lists.{lists_format, shifted};
-ghost use Rattle.columnar_lists.specs.ListLaws.{same_lists, lists_lawful};
+ghost use Rattle.columnar_lists.specs.ListLaws.{same_lists, lists_lawful, lists_storable};
 
-use columnar_base::fault::GrowError;
+use columnar_base::fault::{GrowError, StoreFault};
 use columnar_base::slice::Slice;
+use columnar_base::tally::Tally;
 use columnar_base::traits::{Clear, Column, Index, Item, Len, Push};
-use columnar_core::container::{Borrow, Container, ExtendFrom, Named, Reborrow, Storage};
-use columnar_core::offsets::Offsets;
+use columnar_core::byte_slice::ByteSlice;
+use columnar_core::bytes::{AsBytes, Check, FromBytes, Stored};
+use columnar_core::container::{Borrow, Container, ContainerBytes, ExtendFrom, Named, Reborrow, Storage};
+use columnar_core::offsets::{Offsets, StoredOffsets};
+use columnar_core::store::DecodedStore;
 use std::alloc::Global;
 use std::ops::Range;
 
 /// A column of lists. List i has the values from bound i - 1, or from 0 where there is none, up to bound i; it is
 /// well formed where the bounds never fall and the last one is the number of the values, 0 where there is none.
-#[derive(Clone, Copy)]
+#[derive(Clone, Copy, Drop)]
 pub struct Vecs<TC, BC> {
     /// Where each list ends.
     pub bounds: BC,
@@ -200,5 +204,110 @@ impl<'b, TC: Reborrow<'b>, BC: Reborrow<'b>> Reborrow<'b> for Vecs<TC, BC> {
         let bounds = self.bounds.reborrow();
         let values = self.values.reborrow();
         Vecs { bounds, values }
+    }
+}
+
+impl<TC: Stored, BC: StoredOffsets> Stored for Vecs<TC, BC> {
+    ghost storable = { lists_storable BC.format TC.format BC.storable TC.storable };
+
+    fn slice_count() -> usize {
+        BC::slice_count() + TC::slice_count()
+    }
+
+    fn element_sizes(sizes: &mut Vec<usize>) -> Result<(), GrowError> {
+        let before = sizes.len();
+        match BC::element_sizes(sizes) {
+            Ok(()) => {}
+            Err(error) => return Err(error),
+        }
+        match TC::element_sizes(sizes) {
+            Ok(()) => Ok(()),
+            Err(error) => {
+                sizes.truncate(before);
+                Err(error)
+            }
+        }
+    }
+
+    fn judge_tallied<L>(store: &DecodedStore<'_>, offset: usize, tally: &mut Tally<L>) -> Result<(), StoreFault> {
+        match BC::judge_tallied(store, offset, tally) {
+            Ok(()) => {}
+            Err(fault) => return Err(fault),
+        }
+        let middle = offset + BC::slice_count();
+        match TC::judge_tallied(store, middle, tally) {
+            Ok(()) => {}
+            Err(fault) => return Err(fault),
+        }
+        let values = TC::rows_in(store, middle);
+        if BC::rises_in_tallied(store, offset, values as u64, tally) {
+            Ok(())
+        } else {
+            Err(StoreFault::Bounds(offset))
+        }
+    }
+
+    fn rows_in(store: &DecodedStore<'_>, offset: usize) -> usize {
+        BC::rows_in(store, offset)
+    }
+}
+
+impl<TC: Check + Len, BC: Check + StoredOffsets + Offsets> Check for Vecs<TC, BC> {
+    fn check_from_tallied<L>(&self, from: usize, tally: &mut Tally<L>) -> Result<(), StoreFault> {
+        match self.bounds.check_from_tallied(from, tally) {
+            Ok(()) => {}
+            Err(fault) => return Err(fault),
+        }
+        match self.values.check_from_tallied(from + BC::slice_count(), tally) {
+            Ok(()) => {}
+            Err(fault) => return Err(fault),
+        }
+        let values = self.values.len();
+        if self.bounds.rises_to_tallied(values as u64, tally) {
+            Ok(())
+        } else {
+            Err(StoreFault::Bounds(from))
+        }
+    }
+}
+
+impl<'s, TC: FromBytes<'s> + Len, BC: FromBytes<'s> + StoredOffsets + Offsets> FromBytes<'s> for Vecs<TC, BC> {
+    fn from_store(store: &DecodedStore<'s>, offset: &mut usize) -> Self {
+        let bounds = BC::from_store(store, offset);
+        let values = TC::from_store(store, offset);
+        Vecs { bounds, values }
+    }
+}
+
+impl<'s, TC: AsBytes<'s>, BC: AsBytes<'s> + StoredOffsets> AsBytes<'s> for Vecs<TC, BC> {
+    fn get_byte_slice(&self, index: usize) -> (u64, ByteSlice<'s>) {
+        let first = BC::slice_count();
+        if index < first {
+            self.bounds.get_byte_slice(index)
+        } else {
+            self.values.get_byte_slice(index - first)
+        }
+    }
+}
+
+impl<TC: ContainerBytes, BC: ContainerBytes + Offsets + StoredOffsets + Drop> ContainerBytes for Vecs<TC, BC> {
+    fn byte_slice(&self, index: usize) -> ByteSlice<'_> {
+        let first = BC::slice_count();
+        if index < first {
+            self.bounds.byte_slice(index)
+        } else {
+            self.values.byte_slice(index - first)
+        }
+    }
+
+    fn load(alloc: Global, store: &DecodedStore<'_>, offset: usize) -> Result<Self, GrowError> {
+        let bounds = match BC::load(alloc, store, offset) {
+            Ok(bounds) => bounds,
+            Err(error) => return Err(error),
+        };
+        match TC::load(alloc, store, offset + BC::slice_count()) {
+            Ok(values) => Ok(Vecs { bounds, values }),
+            Err(error) => Err(error),
+        }
     }
 }

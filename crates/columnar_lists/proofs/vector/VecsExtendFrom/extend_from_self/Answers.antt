@@ -50,7 +50,7 @@ push_shifted-requires-clause-in_range g c = lists_within_le g.W.Column.format g.
 pub push_shifted-requires-clause-held : goal.push_shifted-requires-clause-held
 push_shifted-requires-clause-held g c =
     let r = range_of g.W.Column.format g.V.Column.format c.args.range.start c.args.range.«end» c.requires.view_sound c.requires.ordered c.start_of-lower.ensures c.start_of-upper.ensures in
-    let n = took_length c.in-Ok.ensures.ok.took in
+    let n = took_length {us = take (c.start_of-upper.result - c.start_of-lower.result) (drop c.start_of-lower.result (g.V.Column.format.rows (g.V.Column.content c.args.view.values)))} c.in-Ok.ensures.ok.took in
     let e : c.len-end.result ≡ c.len-before.result + (c.start_of-upper.result - c.start_of-lower.result) = omega (arith, n, range_length r, c.len-end.ensures, c.len-before.ensures) in
     range_held r c.len-before.result c.len-end.result e (omega arith)
 

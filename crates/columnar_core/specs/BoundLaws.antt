@@ -1,10 +1,10 @@
 -- Columns of 64-bit numbers as offsets.
-use Rattle.std.proofs.Common.{◌≡◌, ℕ, zero, suc, ◌+◌, ◌*◌, ◌/◌, ◌%◌, ◌^◌, ◌<◌, ◌≤◌, Bool, true, false, ◌&&◌, List, [], ◌∷◌, length, drop, refl, sym, ◌∙◌, ap, arith}
-use Rattle.std.specs.Prelude.{slice_get, Some, nat_eq, nat_le}
+use Rattle.std.proofs.Common.{◌≡◌, ℕ, zero, suc, ◌+◌, ◌%◌, ◌^◌, ◌<◌, ◌≤◌, Bool, false, ◌&&◌, List, [], ◌∷◌, length, drop, refl, sym, ◌∙◌, ap, arith}
+use Rattle.std.specs.Prelude.{slice_get, Some, nat_le}
 use Rattle.std.proofs.lemmas.Option.{slice_get-map}
 use Rattle.std.proofs.lemmas.Bool.{le-leb, lt-leb}
 use Rattle.std.proofs.Math.Nat.{mul-div-le}
-use Rattle.columnar_base.specs.Row.{Row, number, number_of}
+use Rattle.columnar_base.specs.Row.{Row, number}
 use Rattle.columnar_base.specs.Format.{Content, slice, both, part, plain, bytes_held}
 use Rattle.columnar_base.specs.AlikeLaws.{row_eq_exact}
 use Rattle.columnar_base.specs.Elements.{elements_rows, word_row, word_row_of, words_format}

@@ -58,7 +58,12 @@ impl<'v> Offsets for View<'v, u64> {
 impl StoredOffsets for Vec<u64> {
     ghost stored_bounds = { words_bounds };
 
-    fn rises_in_tallied<L>(store: &DecodedStore<'_>, offset: usize, end: u64, tally: &mut Tally<L>) -> bool {
+    fn rises_in_tallied<L>(
+        store: &DecodedStore<'_>,
+        offset: usize,
+        end: u64,
+        tally: &mut Tally<L>,
+    ) -> bool {
         let view = View::<u64>::from_le_bytes(store.get(offset));
         rises_by_reading(&view, end, tally)
     }
@@ -67,7 +72,12 @@ impl StoredOffsets for Vec<u64> {
 impl<'v> StoredOffsets for View<'v, u64> {
     ghost stored_bounds = { words_bounds };
 
-    fn rises_in_tallied<L>(store: &DecodedStore<'_>, offset: usize, end: u64, tally: &mut Tally<L>) -> bool
+    fn rises_in_tallied<L>(
+        store: &DecodedStore<'_>,
+        offset: usize,
+        end: u64,
+        tally: &mut Tally<L>,
+    ) -> bool
         requires representable { IsTrue (representable words_format) }
         requires fits { Fits words_format offset (slices_in store.now) }
         ensures value { result ≡ rises 0 (numbers (elements_rows 8 word_row_of (first_slice (drop offset (slices_in store.now))))) end }

@@ -294,12 +294,16 @@ end_within b t {x} {y} n {e} s p =
     let m = last-take n 0 (numbers (b.rows x)) (length (t.rows y)) q.rise in
     rw k at m
 
+-- a range of rows may be read
+pub piece_from : (f : Format) {l u : ℕ} {c : Content} → IsSound f c → l ≤ u → u ≤ length (f.rows c) → IsSound (part_format f) (part l u c)
+piece_from f {l} {u} {c} s a b = record { accepted = nothing_both (f.broken c) (unless (nat_le l u && nat_le u (length (f.rows c))) (fault 11 0)) s.accepted (true_unless (nat_le l u && nat_le u (length (f.rows c))) (fault 11 0) (and_from _ _ (le-leb l u a) (le-leb u (length (f.rows c)) b))) }
+
 -- list i may be read
 pub piece_sound : (b t : Format) {x y : Content} (i : ℕ) {l u : ℕ} → IsSound (lists_format b t) (both x y) → slice_get (0 ∷ numbers (b.rows x)) i ≡ Some l → slice_get (b.rows x) i ≡ Some (number u) → IsSound (part_format t) (part l u y)
 piece_sound b t {x} {y} i {l} {u} s p h =
     let q = lists_parts b t s in
     let r = rises_get i 0 (numbers (b.rows x)) (length (t.rows y)) l u q.rise p (number_get (b.rows x) i u h) in
-    record { accepted = nothing_both (t.broken y) (unless (nat_le l u && nat_le u (length (t.rows y))) (fault 11 0)) q.values.accepted (true_unless (nat_le l u && nat_le u (length (t.rows y))) (fault 11 0) (and_from _ _ (le-leb l u r.0) (le-leb u (length (t.rows y)) r.1))) }
+    piece_from t q.values r.0 r.1
 
 -- what the soundness of a range of rows is made of
 pub record SoundPiece (f : Format) (l u : ℕ) (c : Content) : Type 0 where

@@ -1,4 +1,4 @@
-use Rattle.std.proofs.Common.{◌≡◌, ◌<◌, ◌≤◌, arith}
+use Rattle.std.proofs.Common.{arith}
 use Rattle.columnar_core.specs.Bounds.{rises, numbers}
 use Rattle.columnar_core.specs.BoundLaws.{rises_falls, rises_on}
 use Rattle.columnar_core.proofs.words.rises_by_reading.Goals as goal

@@ -1,7 +1,5 @@
-use Rattle.std.proofs.Common.{◌≡◌, ◌+◌, ◌*◌, ◌≤◌, arith}
-use Rattle.std.specs.Int.{to_le_bytes, w64}
-use Rattle.columnar_base.specs.Format.{slice, bytes_held}
-use Rattle.columnar_base.specs.Elements.{first_slice}
+use Rattle.std.proofs.Common.{arith}
+use Rattle.columnar_base.specs.Format.{slice}
 use Rattle.columnar_core.specs.BoundLaws.{words_few}
 use Rattle.columnar_core.specs.Store.{slices_in}
 use Rattle.columnar_core.specs.StoreLaws.{first_at}

@@ -1,4 +1,4 @@
-use Rattle.std.proofs.Common.{◌≤◌, arith}
+use Rattle.std.proofs.Common.{arith}
 use Rattle.std.specs.Int.{to_le_bytes, w64}
 use Rattle.columnar_base.specs.Views.{items_content}
 use Rattle.columnar_core.specs.BoundLaws.{words_few}

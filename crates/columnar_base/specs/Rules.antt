@@ -28,10 +28,11 @@ pub record SameSound (broken : Content → List Fault) (f : Format) : Type 0 whe
   pub back : (c : Content) → IsSound (under broken f) c → IsSound f c
 
 pub under_lawful : {broken : Content → List Fault} {f : Format} → SameSound broken f → IsLawful f → IsLawful (under broken f)
-under_lawful e l = record {
+under_lawful {broken} {f} e l = record {
   full = λ c s. l.full c (e.back c s);
   counted = λ c s. l.counted c (e.back c s);
   rebuilt = λ c rest s. l.rebuilt c rest (e.back c s);
+  built = λ ss n s. l.built ss n (e.back (f.build ss) s);
   same = l.same;
   more = l.more;
 }

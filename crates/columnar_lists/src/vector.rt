@@ -81,8 +81,7 @@ impl<TC: Clear, BC: Clear> Clear for Vecs<TC, BC> {
     }
 }
 
-impl<V: Index + Copy, TC: ExtendFrom<V>, BC: Storage + Offsets + Push<u64>> Push<Slice<V>>
-    for Vecs<TC, BC> {
+impl<V: Index + Copy, TC: ExtendFrom<V>, BC: Offsets + Push<u64>> Push<Slice<V>> for Vecs<TC, BC> {
     fn push(&mut self, item: Slice<V>) -> Result<(), GrowError> {
         let before = self.values.len();
         match self
@@ -206,6 +205,7 @@ impl<
             Ok(()) => {}
             Err(error) => return Err(error),
         }
+        // All values have a number of 64 bits, so the moved bounds do.
         let _end = self.values.len();
         match push_shifted(&mut self.bounds, &view.bounds, range, lower, before) {
             Ok(()) => Ok(()),

@@ -1,10 +1,10 @@
 -- Formats of two parts, one after the other: what the tests of the parts say of the whole.
-use Rattle.std.proofs.Common.{◌≡◌, ℕ, zero, suc, ◌+◌, ◌-◌, ◌*◌, ◌<◌, ◌≤◌, ◌^◌, Bool, true, false, ◌&&◌, List, [], ◌∷◌, ◌++◌, length, take, drop, refl, sym, ◌∙◌, ap, arith, length-append, map}
-use Rattle.std.specs.Prelude.{slice_get, Some, None, Option, nat_le, nat_lt}
+use Rattle.std.proofs.Common.{◌≡◌, ℕ, zero, suc, ◌+◌, ◌*◌, ◌≤◌, ◌^◌, Bool, true, false, ◌&&◌, List, [], ◌∷◌, ◌++◌, length, drop, refl, sym, ◌∙◌, arith, length-append}
+use Rattle.std.specs.Prelude.{slice_get, Some, None, nat_le, nat_lt}
 use Rattle.std.proofs.lemmas.List.{drop-drop, map-append}
 use Rattle.std.proofs.lemmas.Bool.{and_parts, and_from, leb-true, le-leb}
-use Rattle.std.proofs.Math.Nat.{mul-le-mul_left, mul-le-mul_right}
-use Rattle.columnar_base.specs.Format.{Format, Content, Fits, both, IsSound, IsStorable, Fault, fault, moved, moved_one, first, unless, bytes_held, representable, are_sizes}
+use Rattle.std.proofs.Math.Nat.{mul-le-mul_right}
+use Rattle.columnar_base.specs.Format.{Format, Content, both, IsStorable, Fault, fault, moved, moved_one, first, unless, representable, are_sizes}
 use Rattle.columnar_base.specs.FaultLaws.{moved_twice, first_found, first_none}
 
 -- a format of two parts one after the other, and its own rule over both
@@ -75,7 +75,6 @@ two_fine_at {f} {a} {b} t ss o n m h = rw (two_built t ss o) (two_fine t (a.buil
 
 pub two_own_at : {f a b : Format} {test : Content → Content → Bool} {rule : ℕ} → TwoParts f a b test rule → (ss : List (List ℕ)) (o : ℕ) → None ≡ first (moved o (a.broken (a.build (drop o ss)))) → None ≡ first (moved (o + a.count) (b.broken (b.build (drop (o + a.count) ss)))) → test (a.build (drop o ss)) (b.build (drop (o + a.count) ss)) ≡ false → Some (fault rule o) ≡ first (moved o (f.broken (f.build (drop o ss))))
 two_own_at {f} {a} {b} t ss o n m h = rw (two_built t ss o) (two_own t (a.build (drop o ss)) (b.build (drop (o + a.count) ss)) o n m h)
-
 
 sizes_left : (xs ys : List ℕ) → are_sizes (xs ++ ys) ≡ true → are_sizes xs ≡ true
 sizes_left [] ys h = refl

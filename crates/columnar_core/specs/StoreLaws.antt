@@ -1,6 +1,6 @@
 -- Slices of a store, by their number.
-use Rattle.std.proofs.Common.{◌≡◌, ℕ, zero, suc, ◌+◌, ◌/◌, ◌%◌, ◌<◌, ◌≤◌, List, [], ◌∷◌, length, drop, refl, sym, ◌∙◌, ap, arith}
-use Rattle.std.specs.Prelude.{slice_get, slice_index_or, Some, None}
+use Rattle.std.proofs.Common.{◌≡◌, ℕ, zero, suc, ◌+◌, ◌/◌, ◌<◌, ◌≤◌, List, [], ◌∷◌, length, drop, refl, sym, arith}
+use Rattle.std.specs.Prelude.{slice_index_or}
 use Rattle.columnar_base.specs.Row.{Row}
 use Rattle.columnar_base.specs.Format.{slice}
 use Rattle.columnar_base.specs.Elements.{elements_rows, first_slice}

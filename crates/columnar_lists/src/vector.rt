@@ -48,7 +48,6 @@ impl<TC: Column, BC: Column> Column for Vecs<TC, BC> {
     ghost format = { lists_format BC.format TC.format };
 
     ghost content = { λ v. both (BC.content v.bounds) (TC.content v.values) };
-
 }
 
 impl<TC: Len, BC: Len> Len for Vecs<TC, BC> {

@@ -12,8 +12,8 @@ use columnar_core::byte_slice::ByteSlice;
 use columnar_core::bytes::{AsBytes, ByteSlices, Stored};
 use columnar_core::fault::{GrowError, StoreFault, WriteFault};
 use columnar_core::tally::Tally;
-use columnar_core::view::View;
 use columnar_core::traits::Column;
+use columnar_core::view::View;
 use std::alloc::{AllocError, Global};
 use std::io::{Error, ErrorKind, Write};
 use std::test::Fail;
@@ -59,7 +59,11 @@ impl<'v> Stored for BytesAndWords<'v> {
         }
     }
 
-    fn judge_tallied<L>(_store: &DecodedStore<'_>, _offset: usize, tally: &mut Tally<L>) -> Result<(), StoreFault>
+    fn judge_tallied<L>(
+        _store: &DecodedStore<'_>,
+        _offset: usize,
+        tally: &mut Tally<L>,
+    ) -> Result<(), StoreFault>
         ensures exact { verdict result ≡ None }
         ensures turns { tally.new.turns ≤ tally.old.turns + 0 * bytes_held (slice []) }
     {

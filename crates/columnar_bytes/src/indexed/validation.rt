@@ -27,10 +27,7 @@ pub fn validate<T: Stored>(bytes: &[u8]) -> Result<(), StoreFault>
 
 /// As `validate`; the turns that it takes are added to the tally: at most one for each slice, and 16 for each byte of
 /// the slices.
-pub fn validate_tallied<T: Stored, L>(
-    bytes: &[u8],
-    tally: &mut Tally<L>,
-) -> Result<(), StoreFault>
+pub fn validate_tallied<T: Stored, L>(bytes: &[u8], tally: &mut Tally<L>) -> Result<(), StoreFault>
     requires { IsTrue (representable T.format) }
     ensures exact { IsOk result ↔ Accepts T.format bytes.now }
     ensures fault { IfErr result (IsFirstFault T.format bytes.now) }

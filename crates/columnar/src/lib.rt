@@ -7,6 +7,8 @@ pub mod bytes;
 pub mod common;
 pub mod fault;
 pub mod primitive;
+#[cfg(test)]
+mod tests;
 pub mod vector;
 
 pub use columnar_core::bytes::{AsBytes, Check, FromBytes, Stored};

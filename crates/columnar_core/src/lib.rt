@@ -7,6 +7,7 @@ pub mod container;
 pub mod offsets;
 pub mod store;
 pub mod tuple;
+pub mod values;
 pub mod vector;
 pub mod writer;
 

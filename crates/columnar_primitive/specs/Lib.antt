@@ -1,0 +1,4 @@
+pub mod Counts
+pub mod CountLaws
+pub mod Units
+pub mod UnitLaws

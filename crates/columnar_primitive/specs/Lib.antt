@@ -2,3 +2,5 @@ pub mod Counts
 pub mod CountLaws
 pub mod Units
 pub mod UnitLaws
+pub mod Mapped
+pub mod MappedLaws

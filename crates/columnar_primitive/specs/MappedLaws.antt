@@ -204,3 +204,9 @@ elements_flat size row_of l = record {
   limits = λ e c n rs. refl;
   short = elements_short size row_of l;
 }
+
+-- a test of the values that takes no turn, and then a turn for each row
+pub turns_fit : (old mid new turns bytes rows : ℕ) → turns ≡ 0 → mid ≤ old + turns * bytes → new ≤ mid + rows → rows ≤ bytes → new ≤ old + 1 * bytes
+turns_fit old mid new turns bytes rows e p q r =
+    let k : mid ≤ old + 0 * bytes = rw e at p in
+    omega arith

@@ -1,5 +1,8 @@
 //! Columns of the values of the language: numbers by other names, characters, durations, units.
 #![tactic(auto)]
 
+pub mod codes;
 pub mod count;
 pub mod empties;
+pub mod flat;
+pub mod numbers;

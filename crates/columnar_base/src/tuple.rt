@@ -11,12 +11,14 @@ use crate::storage::Storage;
 use crate::traits::{Clear, Column, Index, Item, Len, Push, PushRef};
 use std::alloc::Global;
 
+/// As a row, it is the tuple of the rows of its parts.
 impl<S: Item, T: Item> Item for (S, T) {
     ghost meaning = { λ p. tuple (S.meaning p.0) (T.meaning p.1) };
 
     ghost valid = { λ p. S.valid p.0 × T.valid p.1 };
 }
 
+/// The slices of the first part, and then those of the second; a row is the tuple of their rows.
 impl<A: Column, B: Column> Column for (A, B) {
     ghost format = { pair_format A.format B.format };
 
@@ -90,6 +92,7 @@ impl<A: Storage, B: Storage> Storage for (A, B) {
     }
 }
 
+/// Each part takes its own of the item. Where one of them refuses it, neither has taken any.
 impl<S: Item, T: Item + Drop, A: Storage + Push<S>, B: Storage + Push<T>> Push<(S, T)> for (A, B) {
     fn push(&mut self, item: (S, T)) -> Result<(), GrowError> {
         let before = self.0.len();
@@ -108,6 +111,7 @@ impl<S: Item, T: Item + Drop, A: Storage + Push<S>, B: Storage + Push<T>> Push<(
     }
 }
 
+/// The parts of the item are pushed by reference.
 impl<'x, S: Item, T: Item, A: Storage + PushRef<S>, B: Storage + PushRef<T>> Push<&'x (S, T)> for (A, B) {
     fn push(&mut self, item: &'x (S, T)) -> Result<(), GrowError> {
         match self.push_ref(item) {

@@ -1,8 +1,8 @@
 -- Slices of a store, by their number.
-use Rattle.std.proofs.Common.{◌≡◌, ℕ, zero, suc, ◌+◌, ◌/◌, ◌%◌, ◌<◌, ◌≤◌, List, [], ◌∷◌, length, drop, refl, sym, ◌∙◌, ap, arith}
-use Rattle.std.specs.Prelude.{slice_get, slice_index_or, Some, None}
+use Rattle.std.proofs.Common.{◌≡◌, ℕ, zero, suc, ◌+◌, ◌/◌, ◌<◌, ◌≤◌, List, [], ◌∷◌, length, drop, refl, sym, arith}
+use Rattle.std.specs.Prelude.{slice_index_or}
 use Rattle.columnar_base.specs.Row.{Row}
-use Rattle.columnar_base.specs.Format.{slice}
+use Rattle.columnar_base.specs.Format.{Format, slice, part_format}
 use Rattle.columnar_base.specs.Elements.{elements_rows, first_slice}
 use Rattle.columnar_base.specs.ElementLaws.{length-elements}
 use Rattle.columnar_core.specs.declared.store.DecodedStore.{DecodedStore}
@@ -19,3 +19,7 @@ first_at ss o bs l h = rw (drop_at ss o bs l h) refl
 
 pub length_at : (size : ℕ) (row_of : List ℕ → Row) (store : DecodedStore) (o : ℕ) (bs : List ℕ) → o + 1 ≤ length (slices_in store) → bs ≡ slice_index_or (slices_in store) o [] → length bs / size ≡ length (elements_rows size row_of (first_slice (drop o (slices_in store))))
 length_at size row_of store o bs l h = rw (first_at (slices_in store) o bs (omega arith) h) (sym (length-elements size row_of bs))
+
+-- ranges of the rows of equal formats
+pub same_part : {a b : Format} → a ≡ b → part_format a ≡ part_format b
+same_part p = rw p refl

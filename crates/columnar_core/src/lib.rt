@@ -5,15 +5,17 @@ pub mod byte_slice;
 pub mod bytes;
 pub mod container;
 pub mod offsets;
+pub mod owned;
+pub mod slice;
 pub mod store;
 pub mod tuple;
 pub mod values;
 pub mod vector;
+pub mod words;
 pub mod writer;
 
 pub use columnar_base::element;
 pub use columnar_base::fault;
-pub use columnar_base::slice;
 pub use columnar_base::tally;
 pub use columnar_base::traits;
 pub use columnar_base::view;

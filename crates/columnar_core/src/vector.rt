@@ -55,7 +55,12 @@ fn append_typed<T: Element>(column: &mut Vec<T>, items: &[T]) -> Result<(), Grow
 }
 
 // Appends the rows start..end of a view, or none of them.
-fn append_rows<'x, T: Element>(column: &mut Vec<T>, view: View<'x, T>, start: usize, end: usize) -> Result<(), GrowError>
+fn append_rows<'x, T: Element>(
+    column: &mut Vec<T>,
+    view: View<'x, T>,
+    start: usize,
+    end: usize,
+) -> Result<(), GrowError>
     requires view_sound { IsSound (elements_format T.size T.row_of) (⟦<View<'x, T> as Column>⟧.content view) }
     requires ordered { start ≤ end }
     requires in_range { end ≤ length (elements_rows T.size T.row_of (⟦<View<'x, T> as Column>⟧.content view)) }
@@ -84,9 +89,16 @@ impl<'x, T: Viewed + 'x> ExtendFrom<View<'x, T>> for Vec<T> {
         room.saturating_add(view.len())
     }
 
-    fn extend_from_self(&mut self, view: View<'x, T>, range: Range<usize>) -> Result<(), GrowError> {
+    fn extend_from_self(
+        &mut self,
+        view: View<'x, T>,
+        range: Range<usize>,
+    ) -> Result<(), GrowError> {
         match view.items() {
-            Items::Typed(items) => match append_typed(self, elements_between(items, range.start, range.end)) {
+            Items::Typed(items) => match append_typed(
+                self,
+                elements_between(items, range.start, range.end),
+            ) {
                 Ok(()) => Ok(()),
                 Err(error) => Err(error),
             },
@@ -143,9 +155,17 @@ impl<T: Element> Stored for Vec<T> {
         }
     }
 
-    fn judge_tallied<L>(store: &DecodedStore<'_>, offset: usize, tally: &mut Tally<L>) -> Result<(), StoreFault> {
+    fn judge_tallied<L>(
+        store: &DecodedStore<'_>,
+        offset: usize,
+        tally: &mut Tally<L>,
+    ) -> Result<(), StoreFault> {
         let bytes = store.get(offset);
-        if bytes.len() % T::size() == 0 { Ok(()) } else { Err(StoreFault::ElementSize(offset)) }
+        if bytes.len() % T::size() == 0 {
+            Ok(())
+        } else {
+            Err(StoreFault::ElementSize(offset))
+        }
     }
 
     fn rows_in(store: &DecodedStore<'_>, offset: usize) -> usize {
@@ -178,7 +198,11 @@ impl<'v, T: Element> Stored for View<'v, T> {
         }
     }
 
-    fn judge_tallied<L>(store: &DecodedStore<'_>, offset: usize, tally: &mut Tally<L>) -> Result<(), StoreFault>
+    fn judge_tallied<L>(
+        store: &DecodedStore<'_>,
+        offset: usize,
+        tally: &mut Tally<L>,
+    ) -> Result<(), StoreFault>
         requires representable { IsTrue (representable (elements_format T.size T.row_of)) }
         requires room { offset + 1 ≤ length (slices_in store.now) }
         ensures exact { verdict result ≡ first (moved offset (elements_broken T.size (first_slice (drop offset (slices_in store.now))))) }
@@ -204,7 +228,11 @@ impl<'v, T: Element> Check for View<'v, T> {
         match self.items() {
             Items::Typed(_) => Ok(()),
             Items::Bytes(bytes) => {
-                if bytes.len() % T::size() == 0 { Ok(()) } else { Err(StoreFault::ElementSize(from)) }
+                if bytes.len() % T::size() == 0 {
+                    Ok(())
+                } else {
+                    Err(StoreFault::ElementSize(from))
+                }
             }
         }
     }

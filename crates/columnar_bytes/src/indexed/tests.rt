@@ -171,13 +171,25 @@ fn names_the_first_broken_rule(rt: HostRuntime) -> Result<(), Fail> {
     let alloc = rt.alloc();
     assert_eq!(rt; tested(alloc, &[], 0)?, Err(StoreFault::Empty(0)));
     assert_eq!(rt; tested(alloc, &[0], 0)?, Err(StoreFault::FirstOffset(0)));
-    assert_eq!(rt; tested(alloc, &[0, 0, 0], 2)?, Err(StoreFault::FirstOffset(0)));
+    assert_eq!(rt;
+        tested(alloc, &[0, 0, 0], 2)?,
+        Err(StoreFault::FirstOffset(0))
+    );
     assert_eq!(rt; tested(alloc, &[4], 0)?, Err(StoreFault::FirstOffset(0)));
     assert_eq!(rt; tested(alloc, &[16], 1)?, Err(StoreFault::Table(0)));
     assert_eq!(rt; tested(alloc, &[8], 0)?, Ok(()));
-    assert_eq!(rt; tested(alloc, &[8], usize::MAX)?, Err(StoreFault::SliceCount(0)));
-    assert_eq!(rt; tested(alloc, &[16, 32, 7], 1)?, Err(StoreFault::PastEnd(0)));
-    assert_eq!(rt; tested(alloc, &[16, 8, 7], 1)?, Err(StoreFault::Backwards(0)));
+    assert_eq!(rt;
+        tested(alloc, &[8], usize::MAX)?,
+        Err(StoreFault::SliceCount(0))
+    );
+    assert_eq!(rt;
+        tested(alloc, &[16, 32, 7], 1)?,
+        Err(StoreFault::PastEnd(0))
+    );
+    assert_eq!(rt;
+        tested(alloc, &[16, 8, 7], 1)?,
+        Err(StoreFault::Backwards(0))
+    );
     assert_eq!(rt; tested(alloc, &[16, 24, 7, 9], 1)?, Ok(()));
     Ok(())
 }
@@ -283,7 +295,10 @@ fn writes_byte_by_byte(rt: HostRuntime) -> Result<(), Fail> {
     };
     write(&mut slow, &item)?;
     assert_eq!(rt; slow.taken.len(), 24);
-    assert_eq!(rt; slow.taken.as_slice(), encoded(rt.alloc(), &item)?.as_slice());
+    assert_eq!(rt;
+        slow.taken.as_slice(),
+        encoded(rt.alloc(), &item)?.as_slice()
+    );
     Ok(())
 }
 

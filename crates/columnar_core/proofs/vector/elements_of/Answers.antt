@@ -1,4 +1,3 @@
-use Rattle.std.proofs.Common.{◌≡◌}
 use Rattle.columnar_core.specs.Appended.{read_more}
 use Rattle.columnar_core.proofs.vector.elements_of.Goals as goal
 

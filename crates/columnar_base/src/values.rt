@@ -1,8 +1,10 @@
 //! Values of the language as rows.
-ghost use Rattle.columnar_base.specs.Row.{unit};
+ghost use Rattle.std.specs.Prelude.{◌%◌, ◌^◌};
+ghost use Rattle.columnar_base.specs.Row.{character, duration, number, unit};
 ghost use Rattle.columnar_base.specs.Elements.{word_row};
 
 use crate::traits::Item;
+use std::time::Duration;
 
 impl Item for () {
     ghost meaning = { λ x. unit };
@@ -12,6 +14,18 @@ impl Item for () {
 
 impl Item for usize {
     ghost meaning = { word_row };
+
+    ghost valid = { λ x. Unit {0} };
+}
+
+impl Item for char {
+    ghost meaning = { character };
+
+    ghost valid = { λ x. Unit {0} };
+}
+
+impl Item for u32 {
+    ghost meaning = { λ n. number (n % 2 ^ 32) };
 
     ghost valid = { λ x. Unit {0} };
 }

@@ -13,7 +13,7 @@ all_pass test (r ∷ rs) = test r && all_pass test rs
 -- number limits them, and each takes a byte at least.
 pub record IsFlat (f : Format) : Type 0 where
   pub exact : IsExact f.alike
-  pub limits : (e : Excess) (c : Content) (n : ℕ) (rs : List Row) → f.refuses e c n rs ≡ past_count e (n + length rs)
+  pub limits : (e : Excess) (c : Content) → IsSound f c → (n : ℕ) (rs : List Row) → f.refuses e c n rs ≡ past_count e (n + length rs)
   pub short : (c : Content) → IsSound f c → length (f.rows c) ≤ bytes_held c
 
 -- The rows of f, each read by `to`. Those of f are values: each has to pass the test.

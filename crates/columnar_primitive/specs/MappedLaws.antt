@@ -150,7 +150,7 @@ mapped_cut f to test {x} {y} {n} s g = record {
 pub mapped_refused : (f : Format) (to : Row → Row) (test : Row → Bool) {x y : Content} (us : List Row) {error : GrowError} → IsFlat f → IsSound (mapped_format f to test) x → Refused f x y us error → Refused (mapped_format f to test) x y (map to us) error
 mapped_refused f to test {x} {y} us {error} flat s g = record {
   stayed = mapped_stayed f to test s g.stayed;
-  cause = true_from f (mapped_format f to test) x x us (map to us) error (λ e h. rw (length-map, length-map) (sym (flat.limits e x (length (f.rows x)) us) ∙ h)) g.cause;
+  cause = true_from f (mapped_format f to test) x x us (map to us) error (λ e h. rw (length-map, length-map) (sym (flat.limits e x (mapped_parts f to test s).values (length (f.rows x)) us) ∙ h)) g.cause;
 }
 
 -- no rows
@@ -201,7 +201,7 @@ elements_short size row_of l (plain rs) s = cc
 pub elements_flat : (size : ℕ) (row_of : List ℕ → Row) → 1 ≤ size → IsFlat (elements_format size row_of)
 elements_flat size row_of l = record {
   exact = row_eq_exact;
-  limits = λ e c n rs. refl;
+  limits = λ e c s n rs. refl;
   short = elements_short size row_of l;
 }
 

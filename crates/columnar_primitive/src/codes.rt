@@ -7,6 +7,7 @@ ghost use Rattle.columnar_primitive.specs.Mapped.{all_pass, mapped_format};
 ghost use Rattle.columnar_primitive.specs.MappedLaws.{mapped_lawful, mapped_storable, same_mapped};
 
 use crate::flat::Flat;
+use crate::rule::{Rule, all_fit, all_fit_in};
 use columnar_core::byte_slice::ByteSlice;
 use columnar_core::bytes::{AsBytes, Check, FromBytes, Stored};
 use columnar_core::container::{Borrow, Container, ContainerBytes, ExtendFrom, Reborrow, Storage};
@@ -19,36 +20,26 @@ use std::marker::PhantomData;
 use std::ops::Range;
 
 /// A value that is kept as a number of a fixed width, its code.
-pub trait Coded: Copy + Item {
-    /// Its code.
-    type Code: Copy + Item;
-
+pub trait Coded: Copy + Item + Rule {
     // the row of a value, from the row of its code
     ghost row_of: { Row → Row };
-
-    // is a code's row that of a value
-    ghost is_code: { Row → Bool };
 
     /// The code of the value.
     fn code(self) -> Self::Code
         requires { Self.valid self }
         ensures row { row_of (Self.Code.meaning result) ≡ Self.meaning self }
-        ensures fits { is_code (Self.Code.meaning result) ≡ true }
+        ensures fits { Self.is_code (Self.Code.meaning result) ≡ true }
         ensures valid { Self.Code.valid result };
 
     /// The value of the code.
     fn from_code(code: Self::Code) -> Self
-        requires { is_code (Self.Code.meaning code) ≡ true }
+        requires { Self.is_code (Self.Code.meaning code) ≡ true }
         ensures row { Self.meaning result ≡ row_of (Self.Code.meaning code) }
         ensures valid { Self.valid result };
 
-    /// Is it the code of a value?
-    fn fits(code: Self::Code) -> bool
-        ensures { result ≡ is_code (Self.Code.meaning code) };
-
     /// Is each code that of a value?
     fn always_fits() -> bool
-        ensures { IsTrue result → (r : Row) → is_code r ≡ true };
+        ensures { IsTrue result → (r : Row) → Self.is_code r ≡ true };
 }
 
 /// A column of `T`s, each kept as its code.
@@ -200,43 +191,6 @@ impl<'b, T: Coded, V: Reborrow<'b>> Reborrow<'b> for Codes<V, T> {
             of: PhantomData,
         }
     }
-}
-
-// Is each row of the slices a code?
-fn all_fit_in<T: Coded, CV: Flat<Ref = T::Code>, L>(
-    store: &DecodedStore<'_>,
-    offset: usize,
-    tally: &mut Tally<L>,
-) -> bool
-    requires representable { IsTrue (representable CV.format) }
-    requires fits { Fits CV.format offset (slices_in store.now) }
-    ensures value { result ≡ all_pass T.is_code (CV.format.rows (CV.format.build (drop offset (slices_in store.now)))) }
-    ensures turns { tally.new.turns ≤ tally.old.turns + length (CV.format.rows (CV.format.build (drop offset (slices_in store.now)))) }
-{
-    let rows = CV::rows_in(store, offset);
-    for i in 0..rows {
-        tally.tick();
-        if !T::fits(CV::row_in(store, offset, i)) {
-            return false;
-        }
-    }
-    true
-}
-
-// Is each row of the column a code?
-fn all_fit<T: Coded, CV: Index<Ref = T::Code>, L>(values: &CV, tally: &mut Tally<L>) -> bool
-    requires { IsSound CV.format (CV.content values.now) }
-    ensures value { result ≡ all_pass T.is_code (CV.format.rows (CV.content values.now)) }
-    ensures turns { tally.new.turns ≤ tally.old.turns + length (CV.format.rows (CV.content values.now)) }
-{
-    let rows = values.len();
-    for i in 0..rows {
-        tally.tick();
-        if !T::fits(values.get(i)) {
-            return false;
-        }
-    }
-    true
 }
 
 impl<T: Coded, CV: Flat<Ref = T::Code>> Stored for Codes<CV, T> {

@@ -6,3 +6,4 @@ pub mod count;
 pub mod empties;
 pub mod flat;
 pub mod numbers;
+pub mod rule;

@@ -3,16 +3,23 @@ ghost use Rattle.std.specs.Prelude.{◌≡◌, true, IsTrue};
 ghost use Rattle.columnar_base.specs.Row.{Row};
 
 use crate::codes::{Coded, Codes};
+use crate::rule::Rule;
 
 /// A column of `usize`s, kept as 64-bit numbers.
 pub type Usizes<CV> = Codes<CV, usize>;
 
-impl Coded for usize {
+impl Rule for usize {
     type Code = u64;
 
-    ghost row_of = { λ r. r };
-
     ghost is_code = { λ r. true };
+
+    fn fits(_code: u64) -> bool {
+        true
+    }
+}
+
+impl Coded for usize {
+    ghost row_of = { λ r. r };
 
     fn code(self) -> u64 {
         self as u64
@@ -22,13 +29,7 @@ impl Coded for usize {
         code as usize
     }
 
-    fn fits(_code: u64) -> bool {
-        true
-    }
-
-    fn always_fits() -> bool
-        ensures { IsTrue result → (r : Row) → true ≡ true }
-    {
+    fn always_fits() -> bool {
         true
     }
 }

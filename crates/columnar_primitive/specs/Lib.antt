@@ -4,3 +4,4 @@ pub mod Units
 pub mod UnitLaws
 pub mod Mapped
 pub mod MappedLaws
+pub mod Characters

@@ -9,6 +9,7 @@ pub mod owned;
 pub mod slice;
 pub mod store;
 pub mod tuple;
+pub mod values;
 pub mod vector;
 pub mod words;
 pub mod writer;

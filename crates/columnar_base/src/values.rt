@@ -1,0 +1,31 @@
+//! Values of the language as rows.
+ghost use Rattle.std.specs.Prelude.{◌%◌, ◌^◌};
+ghost use Rattle.columnar_base.specs.Row.{character, duration, number, unit};
+ghost use Rattle.columnar_base.specs.Elements.{word_row};
+
+use crate::traits::Item;
+use std::time::Duration;
+
+impl Item for () {
+    ghost meaning = { λ x. unit };
+
+    ghost valid = { λ x. Unit {0} };
+}
+
+impl Item for usize {
+    ghost meaning = { word_row };
+
+    ghost valid = { λ x. Unit {0} };
+}
+
+impl Item for char {
+    ghost meaning = { character };
+
+    ghost valid = { λ x. Unit {0} };
+}
+
+impl Item for u32 {
+    ghost meaning = { λ n. number (n % 2 ^ 32) };
+
+    ghost valid = { λ x. Unit {0} };
+}

@@ -11,6 +11,8 @@ pub mod ExtendLaws
 pub mod Reads
 pub mod Elements
 pub mod ElementLaws
+pub mod Numbers
+pub mod NumberLaws
 pub mod Views
 pub mod ViewLaws
 pub mod Tuples

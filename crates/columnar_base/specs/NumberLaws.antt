@@ -1,9 +1,9 @@
 -- Numbers are read back from their bytes.
-use Rattle.std.proofs.Common.{◌≡◌, ℕ, ℤ, ◌+◌, ◌*◌, ◌%◌, ◌^◌, ◌<◌, ◌≤◌, List, length, slice_index, get_or, refl, sym, ◌∙◌, ap, arith}
+use Rattle.std.proofs.Common.{◌≡◌, ℕ, ℤ, ◌+◌, ◌-◌, ◌*◌, ◌%◌, ◌^◌, ◌<◌, ◌≤◌, List, length, slice_index, get_or, refl, sym, ◌∙◌, ap, arith}
 use Rattle.std.specs.Int.{Width, w8, w16, w32, w64, w128, byte_len, to_le_bytes, from_le_bytes, cast_signed, cast_unsigned}
 use Rattle.columnar_base.specs.Row.{Row, number, integer}
 use Rattle.columnar_base.specs.ElementLaws.{IsElement}
-use Rattle.columnar_base.specs.Numbers.{cut, byte_bytes, byte_row, byte_row_of, unsigned_row, unsigned_row_of, signed_bytes, signed_row, signed_row_of}
+use Rattle.columnar_base.specs.Numbers.{cut, unsigned_row, unsigned_row_of, signed_bytes, signed_row, signed_row_of}
 
 -- the bytes of a number read as what the width holds of it
 pub number_back : (w : Width) (n : ℕ) → from_le_bytes w (to_le_bytes w n) ≡ cut w n
@@ -12,6 +12,10 @@ number_back w16 n = omega arith
 number_back w32 n = omega arith
 number_back w64 n = omega arith
 number_back w128 n = omega arith
+
+-- n is at most 8
+pub at_most_8 : (n : ℕ) → n - 8 ≡ 0 → n ≤ 8
+at_most_8 n e = omega (arith, e)
 
 has_bytes : (w : Width) → 1 ≤ byte_len w
 has_bytes w8 = omega arith
@@ -26,9 +30,6 @@ length-number w16 n = refl
 length-number w32 n = refl
 length-number w64 n = refl
 length-number w128 n = refl
-
-pub byte_element : IsElement 1 byte_bytes byte_row_of byte_row
-byte_element = record { positive = omega arith; sized = λ n. refl; read_back = λ n. refl }
 
 pub unsigned_element : (w : Width) → IsElement (byte_len w) (to_le_bytes w) (unsigned_row_of w) (unsigned_row w)
 unsigned_element w = record { positive = has_bytes w; sized = length-number w; read_back = λ n. ap number (number_back w n) }

@@ -1,5 +1,5 @@
 -- Numbers of a fixed width: their bytes, and the rows that the bytes are.
-use Rattle.std.specs.Prelude.{ℕ, ℤ, List, [], ◌∷◌, ◌%◌, ◌^◌, ◌*◌, slice_index}
+use Rattle.std.specs.Prelude.{ℕ, ℤ, List, ◌%◌, ◌^◌, ◌*◌}
 use Rattle.std.specs.Int.{Width, byte_len, to_le_bytes, from_le_bytes, cast_signed, cast_unsigned}
 use Rattle.columnar_base.specs.Row.{Row, number, integer}
 
@@ -7,17 +7,7 @@ use Rattle.columnar_base.specs.Row.{Row, number, integer}
 abbrev pub cut : Width → ℕ → ℕ
 cut w n = n % 2 ^ (8 * byte_len w)
 
--- a byte is its own number
-abbrev pub byte_bytes : ℕ → List ℕ
-byte_bytes n = n ∷ []
-
-abbrev pub byte_row : ℕ → Row
-byte_row n = number n
-
-abbrev pub byte_row_of : List ℕ → Row
-byte_row_of bs = number (slice_index bs 0)
-
--- an unsigned number of more bytes
+-- an unsigned number
 abbrev pub unsigned_row : Width → ℕ → Row
 unsigned_row w n = number (cut w n)
 

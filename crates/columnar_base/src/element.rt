@@ -1,5 +1,5 @@
 //! What the elements of a `Vec` are: values of one size, each kept in its little-endian bytes.
-ghost use Rattle.std.specs.Prelude.{◌≡◌, ℕ, ◌<◌, ◌-◌, ◌^◌, List, length, min, Some, slice_get};
+ghost use Rattle.std.specs.Prelude.{◌≡◌, ℕ, ◌<◌, ◌≤◌, ◌-◌, ◌^◌, List, length, min, slice_index};
 ghost use Rattle.columnar_base.specs.Row.{Row, row_eq};
 ghost use Rattle.columnar_base.specs.ElementLaws.{IsElement};
 
@@ -41,7 +41,7 @@ pub trait Element: Copy + Item {
 /// An element whose `Vec` is borrowed as a `View`: all but u8, whose bytes are borrowed as they are.
 pub trait Viewed: Element {}
 
-/// A number of a fixed width.
+/// A number of a fixed width of at most 64 bits.
 pub trait Primitive: Element {
     /// The least.
     const MIN: Self;
@@ -52,7 +52,9 @@ pub trait Primitive: Element {
     /// Byte `index` of the number, the lowest first.
     fn byte(&self, index: usize) -> u8
         requires { index < Self.size }
-        ensures { slice_get (Self.le_bytes self.now) index ≡ Some result };
+        ensures { result ≡ slice_index (Self.le_bytes self.now) index };
+
+    ghost small: { Self.size ≤ 8 };
 }
 
 /// A number of more than one byte.

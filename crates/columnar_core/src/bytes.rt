@@ -29,7 +29,11 @@ pub trait Stored: Column {
 
     /// Which rule do the slices from `offset` on break first? Asks that they are there. Needs no memory; the turns
     /// that it takes are added to the tally.
-    fn judge_tallied<L>(store: &DecodedStore<'_>, offset: usize, tally: &mut Tally<L>) -> Result<(), StoreFault>
+    fn judge_tallied<L>(
+        store: &DecodedStore<'_>,
+        offset: usize,
+        tally: &mut Tally<L>,
+    ) -> Result<(), StoreFault>
         requires representable { IsTrue (representable Self.format) }
         requires room { offset + Self.format.count ≤ length (slices_in store.now) }
         ensures exact { verdict result ≡ first (moved offset (Self.format.broken (Self.format.build (drop offset (slices_in store.now))))) }
@@ -42,7 +46,11 @@ pub trait Stored: Column {
         ensures { result ≡ length (Self.format.rows (Self.format.build (drop offset (slices_in store.now)))) };
 
     /// As `validate`; the turns that it takes are added to the tally, at most 16 for each byte of its slices.
-    final fn validate_tallied<L>(store: &DecodedStore<'_>, offset: &mut usize, tally: &mut Tally<L>) -> Result<(), StoreFault>
+    final fn validate_tallied<L>(
+        store: &DecodedStore<'_>,
+        offset: &mut usize,
+        tally: &mut Tally<L>,
+    ) -> Result<(), StoreFault>
         requires { IsTrue (representable Self.format) }
         ensures exact { verdict result ≡ first (faults_at Self.format offset.old (slices_in store.now)) }
         ensures next { OnOk result (offset.new ≡ offset.old + Self.format.count) }

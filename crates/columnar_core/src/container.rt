@@ -51,7 +51,10 @@ pub trait ExtendFrom<V: Index + Copy>: Storage {
     }
 
     /// A column without rows, with room for the rows of the views.
-    final fn with_capacity_for<I: Iterator<Item = V> + Drop>(alloc: Global, views: I) -> Result<Self, GrowError>
+    final fn with_capacity_for<I: Iterator<Item = V> + Drop>(
+        alloc: Global,
+        views: I,
+    ) -> Result<Self, GrowError>
     where
         Self: Drop,
         requires callable { I.can_next views }
@@ -110,7 +113,10 @@ pub trait ReborrowRef<'b>: Item {
 }
 
 /// All that a container does with the views and rows of one lifetime.
-pub trait Container<'a>: Borrow<'a> + Storage + Push<<Self as Borrow<'a>>::Ref> + ExtendFrom<<Self as Borrow<'a>>::Borrowed> {}
+pub trait Container<'a>: Borrow<'a>
+    + Storage
+    + Push<<Self as Borrow<'a>>::Ref>
+    + ExtendFrom<<Self as Borrow<'a>>::Borrowed> {}
 
 /// A container that can be written to bytes and loaded from them. What it says of bytes is what its view says.
 pub trait ContainerBytes: Storage + Stored {

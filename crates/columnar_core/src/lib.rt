@@ -10,9 +10,4 @@ pub mod tuple;
 pub mod vector;
 pub mod writer;
 
-pub use columnar_base::element;
-pub use columnar_base::fault;
-pub use columnar_base::slice;
-pub use columnar_base::tally;
-pub use columnar_base::traits;
-pub use columnar_base::view;
+pub use columnar_base::{element, fault, slice, tally, traits, view};

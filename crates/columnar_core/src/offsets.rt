@@ -38,7 +38,12 @@ pub trait Offsets: Len {
 /// A column of offsets that can stand in a store of bytes.
 pub trait StoredOffsets: Stored {
     /// As `rises_to` of the column in the slices from `offset` on.
-    fn rises_in_tallied<L>(store: &DecodedStore<'_>, offset: usize, end: u64, tally: &mut Tally<L>) -> bool
+    fn rises_in_tallied<L>(
+        store: &DecodedStore<'_>,
+        offset: usize,
+        end: u64,
+        tally: &mut Tally<L>,
+    ) -> bool
         requires representable { IsTrue (representable Self.format) }
         requires fits { Fits Self.format offset (slices_in store.now) }
         ensures value { result ≡ rises 0 (numbers (Self.format.rows (Self.format.build (drop offset (slices_in store.now))))) end }

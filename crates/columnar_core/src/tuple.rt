@@ -14,7 +14,8 @@ use columnar_base::traits::{Index, Len};
 use std::alloc::Global;
 use std::ops::Range;
 
-impl<V: Index + Copy, W: Index + Copy, A: ExtendFrom<V>, B: ExtendFrom<W>> ExtendFrom<(V, W)> for (A, B) {
+impl<V: Index + Copy, W: Index + Copy, A: ExtendFrom<V>, B: ExtendFrom<W>> ExtendFrom<(V, W)>
+    for (A, B) {
     fn add_room(room: (A::Room, B::Room), view: (V, W)) -> (A::Room, B::Room) {
         (A::add_room(room.0, view.0), B::add_room(room.1, view.1))
     }
@@ -99,7 +100,11 @@ impl<A: Stored, B: Stored> Stored for (A, B) {
         }
     }
 
-    fn judge_tallied<L>(store: &DecodedStore<'_>, offset: usize, tally: &mut Tally<L>) -> Result<(), StoreFault> {
+    fn judge_tallied<L>(
+        store: &DecodedStore<'_>,
+        offset: usize,
+        tally: &mut Tally<L>,
+    ) -> Result<(), StoreFault> {
         match A::judge_tallied(store, offset, tally) {
             Ok(()) => {}
             Err(fault) => return Err(fault),
@@ -110,7 +115,11 @@ impl<A: Stored, B: Stored> Stored for (A, B) {
             Err(fault) => return Err(fault),
         }
         let rows = A::rows_in(store, offset);
-        if rows == B::rows_in(store, middle) { Ok(()) } else { Err(StoreFault::Parts(offset)) }
+        if rows == B::rows_in(store, middle) {
+            Ok(())
+        } else {
+            Err(StoreFault::Parts(offset))
+        }
     }
 
     fn rows_in(store: &DecodedStore<'_>, offset: usize) -> usize {
@@ -130,7 +139,11 @@ impl<A: Check + Len, B: Check + Len> Check for (A, B) {
             Err(fault) => return Err(fault),
         }
         let rows = self.0.len();
-        if rows == self.1.len() { Ok(()) } else { Err(StoreFault::Parts(from)) }
+        if rows == self.1.len() {
+            Ok(())
+        } else {
+            Err(StoreFault::Parts(from))
+        }
     }
 }
 
@@ -145,14 +158,22 @@ impl<'s, A: FromBytes<'s> + Len, B: FromBytes<'s> + Len> FromBytes<'s> for (A, B
 impl<'s, A: AsBytes<'s>, B: AsBytes<'s>> AsBytes<'s> for (A, B) {
     fn get_byte_slice(&self, index: usize) -> (u64, ByteSlice<'s>) {
         let first = A::slice_count();
-        if index < first { self.0.get_byte_slice(index) } else { self.1.get_byte_slice(index - first) }
+        if index < first {
+            self.0.get_byte_slice(index)
+        } else {
+            self.1.get_byte_slice(index - first)
+        }
     }
 }
 
 impl<A: ContainerBytes + Drop, B: ContainerBytes> ContainerBytes for (A, B) {
     fn byte_slice(&self, index: usize) -> ByteSlice<'_> {
         let first = A::slice_count();
-        if index < first { self.0.byte_slice(index) } else { self.1.byte_slice(index - first) }
+        if index < first {
+            self.0.byte_slice(index)
+        } else {
+            self.1.byte_slice(index - first)
+        }
     }
 
     fn load(alloc: Global, store: &DecodedStore<'_>, offset: usize) -> Result<Self, GrowError> {

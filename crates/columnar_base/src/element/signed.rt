@@ -1,8 +1,8 @@
 //! Signed numbers as elements, in two's complement.
-ghost use Rattle.std.specs.Prelude.{ℕ, ◌≡◌};
+ghost use Rattle.std.specs.Prelude.{ℕ, ◌≡◌, refl};
 ghost use Rattle.std.specs.Int.{w8, w16, w32, w64};
 ghost use Rattle.columnar_base.specs.Numbers.{signed_bytes, signed_row, signed_row_of};
-ghost use Rattle.columnar_base.specs.NumberLaws.{signed_element};
+ghost use Rattle.columnar_base.specs.NumberLaws.{signed_element, at_most_8};
 
 use super::{Element, Primitive, Viewed, Wide};
 use crate::traits::Item;
@@ -40,6 +40,8 @@ impl Element for i8 {
 impl Viewed for i8 {}
 
 impl Primitive for i8 {
+    ghost small = { at_most_8 1 refl };
+
     const MIN: Self = i8::MIN;
 
     const MAX: Self = i8::MAX;
@@ -84,6 +86,8 @@ impl Element for i16 {
 impl Viewed for i16 {}
 
 impl Primitive for i16 {
+    ghost small = { at_most_8 2 refl };
+
     const MIN: Self = i16::MIN;
 
     const MAX: Self = i16::MAX;
@@ -128,6 +132,8 @@ impl Element for i32 {
 impl Viewed for i32 {}
 
 impl Primitive for i32 {
+    ghost small = { at_most_8 4 refl };
+
     const MIN: Self = i32::MIN;
 
     const MAX: Self = i32::MAX;
@@ -172,6 +178,8 @@ impl Element for i64 {
 impl Viewed for i64 {}
 
 impl Primitive for i64 {
+    ghost small = { at_most_8 8 refl };
+
     const MIN: Self = i64::MIN;
 
     const MAX: Self = i64::MAX;

@@ -1,16 +1,16 @@
 //! Unsigned numbers as elements.
-ghost use Rattle.std.specs.Prelude.{ℕ, ◌≡◌};
-ghost use Rattle.std.specs.Int.{to_le_bytes, w16, w32, w64};
+ghost use Rattle.std.specs.Prelude.{ℕ, ◌≡◌, refl};
+ghost use Rattle.std.specs.Int.{to_le_bytes, w8, w16, w32, w64};
 ghost use Rattle.columnar_base.specs.Elements.{word_row, word_row_of};
 ghost use Rattle.columnar_base.specs.ElementLaws.{word_element};
-ghost use Rattle.columnar_base.specs.Numbers.{byte_bytes, byte_row, byte_row_of, unsigned_row, unsigned_row_of};
-ghost use Rattle.columnar_base.specs.NumberLaws.{byte_element, unsigned_element};
+ghost use Rattle.columnar_base.specs.Numbers.{unsigned_row, unsigned_row_of};
+ghost use Rattle.columnar_base.specs.NumberLaws.{unsigned_element, at_most_8};
 
 use super::{Element, Primitive, Viewed, Wide};
 use crate::traits::Item;
 
 impl Item for u8 {
-    ghost meaning = { byte_row };
+    ghost meaning = { unsigned_row w8 };
 
     ghost valid = { λ x. Unit {0} };
 }
@@ -18,11 +18,11 @@ impl Item for u8 {
 impl Element for u8 {
     ghost size = { 1 };
 
-    ghost le_bytes = { byte_bytes };
+    ghost le_bytes = { to_le_bytes w8 };
 
-    ghost row_of = { byte_row_of };
+    ghost row_of = { unsigned_row_of w8 };
 
-    ghost element = { byte_element };
+    ghost element = { unsigned_element w8 };
 
     ghost always_valid = { λ x. tt };
 
@@ -40,6 +40,8 @@ impl Element for u8 {
 }
 
 impl Primitive for u8 {
+    ghost small = { at_most_8 1 refl };
+
     const MIN: Self = u8::MIN;
 
     const MAX: Self = u8::MAX;
@@ -82,6 +84,8 @@ impl Element for u16 {
 impl Viewed for u16 {}
 
 impl Primitive for u16 {
+    ghost small = { at_most_8 2 refl };
+
     const MIN: Self = u16::MIN;
 
     const MAX: Self = u16::MAX;
@@ -126,6 +130,8 @@ impl Element for u32 {
 impl Viewed for u32 {}
 
 impl Primitive for u32 {
+    ghost small = { at_most_8 4 refl };
+
     const MIN: Self = u32::MIN;
 
     const MAX: Self = u32::MAX;
@@ -170,6 +176,8 @@ impl Element for u64 {
 impl Viewed for u64 {}
 
 impl Primitive for u64 {
+    ghost small = { at_most_8 8 refl };
+
     const MIN: Self = u64::MIN;
 
     const MAX: Self = u64::MAX;

@@ -39,6 +39,8 @@ impl<T: Primitive> Element for Wrapping<T> {
 impl<T: Primitive> Viewed for Wrapping<T> {}
 
 impl<T: Primitive> Primitive for Wrapping<T> {
+    ghost small = { T.small };
+
     const MIN: Self = Wrapping(T::MIN);
 
     const MAX: Self = Wrapping(T::MAX);

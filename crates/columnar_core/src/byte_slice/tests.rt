@@ -9,7 +9,7 @@ use std::test::Fail;
 
 // Is the number kept in these bytes, read back from them, and written with this alignment?
 fn is_kept<T: Primitive + Sliced>(alloc: Global, item: T, bytes: &[u8], align: u64) -> bool
-    requires { length bytes.now ≡ T.size }
+    requires whole { length bytes.now ≡ T.size }
     requires short { T.size < 2 ^ 63 }
 {
     let items = [item];

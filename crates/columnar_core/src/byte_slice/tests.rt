@@ -8,12 +8,12 @@ use std::num::Wrapping;
 use std::test::Fail;
 
 // Is the number kept in these bytes, read back from them, and written with this alignment?
-fn is_kept<T: Primitive + Sliced>(alloc: Global, item: T, bytes: &[u8], align: u64) -> bool
+fn is_kept<T: Primitive + Sliced>(alloc: Global, items: &[T], bytes: &[u8], align: u64) -> bool
+    requires one { length items.now ≡ 1 }
     requires whole { length bytes.now ≡ T.size }
     requires short { T.size < 2 ^ 63 }
 {
-    let items = [item];
-    let slice = T::byte_slice(&items);
+    let slice = T::byte_slice(items);
     let mut out: Vec<u8> = Vec::new(alloc);
     if slice.write(&mut out).is_err() {
         return false;
@@ -23,60 +23,60 @@ fn is_kept<T: Primitive + Sliced>(alloc: Global, item: T, bytes: &[u8], align: u
         && slice.align() == align
         && T::align() == align
         && T::size() == bytes.len()
-        && T::from_le_bytes(bytes).same(&item)
+        && T::from_le_bytes(bytes).same(&items[0])
 }
 
 #[test]
 fn unsigned_numbers_are_kept(rt: HostRuntime) -> Result<(), Fail> {
     let alloc = rt.alloc();
-    assert!(rt; is_kept(alloc, 7u8, &[7], 1));
-    assert!(rt; is_kept(alloc, 258u16, &[2, 1], 2));
-    assert!(rt; is_kept(alloc, 16909060u32, &[4, 3, 2, 1], 4));
+    assert!(rt; is_kept(alloc, &[7u8], &[7], 1));
+    assert!(rt; is_kept(alloc, &[258u16], &[2, 1], 2));
+    assert!(rt; is_kept(alloc, &[16909060u32], &[4, 3, 2, 1], 4));
     assert!(rt;
         is_kept(
             alloc,
-            u64::MAX - 1,
+            &[u64::MAX - 1],
             &[254, 255, 255, 255, 255, 255, 255, 255],
             8
         )
     );
-    assert!(rt; is_kept(alloc, <u32 as Primitive>::MAX, &[255, 255, 255, 255], 4));
-    assert!(rt; is_kept(alloc, <u16 as Primitive>::MIN, &[0, 0], 2));
+    assert!(rt; is_kept(alloc, &[<u32 as Primitive>::MAX], &[255, 255, 255, 255], 4));
+    assert!(rt; is_kept(alloc, &[<u16 as Primitive>::MIN], &[0, 0], 2));
     Ok(())
 }
 
 #[test]
 fn signed_numbers_are_kept_in_twos_complement(rt: HostRuntime) -> Result<(), Fail> {
     let alloc = rt.alloc();
-    assert!(rt; is_kept(alloc, -1i8, &[255], 1));
-    assert!(rt; is_kept(alloc, -2i16, &[254, 255], 2));
-    assert!(rt; is_kept(alloc, 5i32, &[5, 0, 0, 0], 4));
+    assert!(rt; is_kept(alloc, &[-1i8], &[255], 1));
+    assert!(rt; is_kept(alloc, &[-2i16], &[254, 255], 2));
+    assert!(rt; is_kept(alloc, &[5i32], &[5, 0, 0, 0], 4));
     assert!(rt;
         is_kept(
             alloc,
-            <i64 as Primitive>::MIN,
+            &[<i64 as Primitive>::MIN],
             &[0, 0, 0, 0, 0, 0, 0, 128],
             8
         )
     );
-    assert!(rt; is_kept(alloc, <i16 as Primitive>::MAX, &[255, 127], 2));
+    assert!(rt; is_kept(alloc, &[<i16 as Primitive>::MAX], &[255, 127], 2));
     Ok(())
 }
 
 #[test]
 fn wrapping_numbers_are_kept_as_the_number_inside(rt: HostRuntime) -> Result<(), Fail> {
     let alloc = rt.alloc();
-    assert!(rt; is_kept(alloc, Wrapping(200u8), &[200], 1));
-    assert!(rt; is_kept(alloc, Wrapping(258u16), &[2, 1], 2));
-    assert!(rt; is_kept(alloc, Wrapping(258u32), &[2, 1, 0, 0], 4));
-    assert!(rt; is_kept(alloc, Wrapping(1u64), &[1, 0, 0, 0, 0, 0, 0, 0], 8));
-    assert!(rt; is_kept(alloc, Wrapping(-1i8), &[255], 1));
-    assert!(rt; is_kept(alloc, Wrapping(-256i16), &[0, 255], 2));
-    assert!(rt; is_kept(alloc, Wrapping(-1i32), &[255, 255, 255, 255], 4));
+    assert!(rt; is_kept(alloc, &[Wrapping(200u8)], &[200], 1));
+    assert!(rt; is_kept(alloc, &[Wrapping(258u16)], &[2, 1], 2));
+    assert!(rt; is_kept(alloc, &[Wrapping(258u32)], &[2, 1, 0, 0], 4));
+    assert!(rt; is_kept(alloc, &[Wrapping(1u64)], &[1, 0, 0, 0, 0, 0, 0, 0], 8));
+    assert!(rt; is_kept(alloc, &[Wrapping(-1i8)], &[255], 1));
+    assert!(rt; is_kept(alloc, &[Wrapping(-256i16)], &[0, 255], 2));
+    assert!(rt; is_kept(alloc, &[Wrapping(-1i32)], &[255, 255, 255, 255], 4));
     assert!(rt;
         is_kept(
             alloc,
-            <Wrapping<i64> as Primitive>::MIN,
+            &[<Wrapping<i64> as Primitive>::MIN],
             &[0, 0, 0, 0, 0, 0, 0, 128],
             8
         )

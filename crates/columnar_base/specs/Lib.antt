@@ -13,6 +13,8 @@ pub mod Elements
 pub mod ElementLaws
 pub mod Numbers
 pub mod NumberLaws
+pub mod Arrays
+pub mod ArrayLaws
 pub mod Views
 pub mod ViewLaws
 pub mod Tuples

@@ -5,6 +5,7 @@ ghost use Rattle.columnar_base.specs.ElementLaws.{IsElement};
 
 use crate::traits::Item;
 
+mod array;
 mod signed;
 mod unsigned;
 mod wrapping;

@@ -8,6 +8,7 @@ pub mod Sent
 pub mod SentLaws
 pub mod SliceBytes
 pub mod NumberSlices
+pub mod ArraySlices
 pub mod Slices
 pub mod Store
 pub mod Column

@@ -11,6 +11,7 @@ use super::writer::WriteBytes;
 use columnar_base::element::Primitive;
 use std::num::Wrapping;
 
+pub mod flat;
 pub mod sliced;
 #[cfg(test)]
 mod tests;

@@ -2,7 +2,8 @@ use Rattle.std.proofs.Common.{◌≡◌, ℕ, zero, suc, ◌+◌, ◌-◌, ◌*�
 use Rattle.std.specs.Prelude.{slice_get, Some, None, nat_eq}
 use Rattle.std.specs.List.{flat_map}
 use Rattle.std.specs.Int.{to_le_bytes, from_le_bytes, w64}
-use Rattle.std.proofs.lemmas.List.{map-append, length-map, take-map, drop-drop}
+use Rattle.std.proofs.lemmas.Grind.{flat_map-append}
+use Rattle.std.proofs.lemmas.List.{append-nil, map-append, length-map, take-map, take-append-le, drop-drop}
 use Rattle.std.proofs.lemmas.Bool.{eqb-true, eq-eqb, ltb-true, lt-ltb}
 use Rattle.std.proofs.Math.Seq.{take-append_seam, drop-append_seam}
 use Rattle.std.proofs.lemmas.Option.{slice_get-map}
@@ -46,7 +47,7 @@ pub record IsElement {T : Type 0} (size : ℕ) (bytes : T → List ℕ) (row_of 
 count_of : (size n : ℕ) → 1 ≤ size → size * n / size ≡ n
 count_of size n l = mul-div_cancel_left n {n = size} (omega arith)
 
-map_back : {T : Type 0} {size : ℕ} {bytes : T → List ℕ} {row_of : List ℕ → Row} {meaning : T → Row} → IsElement size bytes row_of meaning → (xs : List T) → map row_of (map bytes xs) ≡ map meaning xs
+pub map_back : {T : Type 0} {size : ℕ} {bytes : T → List ℕ} {row_of : List ℕ → Row} {meaning : T → Row} → IsElement size bytes row_of meaning → (xs : List T) → map row_of (map bytes xs) ≡ map meaning xs
 map_back e [] = refl
 map_back e (x ∷ xs) = rw (e.read_back x, map_back e xs) refl
 
@@ -201,3 +202,21 @@ pub row_read : {T : Type 0} {size : ℕ} {bytes : T → List ℕ} {row_of : List
 row_read {T} {size} {bytes} {row_of} {meaning} e bs i x l h =
     let m : row_of (take size (drop (size * i) bs)) ≡ meaning x = rw (← h) (e.read_back x) in
     rw (row_at size row_of bs i l, m) refl
+
+take_none : (n : ℕ) → take {A = ℕ} n [] ≡ []
+take_none zero = refl
+take_none (suc n) = refl
+
+-- the first n bytes, and then so many more
+pub take_next : (n m : ℕ) (bs : List ℕ) → take n bs ++ take m (drop n bs) ≡ take (n + m) bs
+take_next zero m bs = let e : zero + m ≡ m = omega arith in rw e refl
+take_next (suc n) m [] = take_none m ∙ sym (take_none (suc n + m))
+take_next (suc n) m (b ∷ bs) = let e : suc n + m ≡ suc (n + m) = omega arith in rw e (ap (λ t. b ∷ t) (take_next n m bs))
+
+-- one more element read
+pub read_more : {T : Type 0} (bytes : T → List ℕ) (size i : ℕ) (xs ys : List T) (x : T) (bs : List ℕ) → flat_map bytes xs ≡ take (size * i) bs → bytes x ≡ take size (drop (size * i) bs) → ys ≡ xs ++ x ∷ [] → flat_map bytes ys ≡ take (size * (i + 1)) bs
+read_more {T} bytes size i xs ys x bs p q r =
+    let a : flat_map bytes (xs ++ x ∷ []) ≡ flat_map bytes xs ++ flat_map bytes (x ∷ []) = flat_map-append bytes xs (x ∷ []) in
+    let b : flat_map bytes (x ∷ []) ≡ bytes x = append-nil (bytes x) in
+    let e : size * (i + 1) ≡ size * i + size = omega arith in
+    rw (r, a, b, p, q, e) (take_next (size * i) size bs)

@@ -11,6 +11,10 @@ pub mod ExtendLaws
 pub mod Reads
 pub mod Elements
 pub mod ElementLaws
+pub mod Numbers
+pub mod NumberLaws
+pub mod Arrays
+pub mod ArrayLaws
 pub mod Views
 pub mod ViewLaws
 pub mod Tuples

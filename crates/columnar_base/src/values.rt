@@ -1,6 +1,5 @@
 //! Values of the language as rows.
-ghost use Rattle.std.specs.Prelude.{◌%◌, ◌^◌};
-ghost use Rattle.columnar_base.specs.Row.{character, duration, number, unit};
+ghost use Rattle.columnar_base.specs.Row.{character, unit};
 ghost use Rattle.columnar_base.specs.Elements.{word_row};
 
 use crate::traits::Item;
@@ -20,12 +19,6 @@ impl Item for usize {
 
 impl Item for char {
     ghost meaning = { character };
-
-    ghost valid = { λ x. Unit {0} };
-}
-
-impl Item for u32 {
-    ghost meaning = { λ n. number (n % 2 ^ 32) };
 
     ghost valid = { λ x. Unit {0} };
 }

@@ -1,5 +1,5 @@
 //! Views of elements: read in place, from a slice of them or from little-endian bytes.
-ghost use Rattle.std.specs.Prelude.{◌≡◌, ℕ, ◌+◌, ◌-◌, ◌*◌, ◌<◌, ◌≤◌, length, refl, take, drop};
+ghost use Rattle.std.specs.Prelude.{◌≡◌, ℕ, ◌+◌, ◌-◌, ◌*◌, ◌/◌, ◌<◌, ◌≤◌, length, refl, take, drop};
 ghost use Rattle.columnar_base.specs.Format.{slice, IsSound};
 ghost use Rattle.columnar_base.specs.Elements.{elements_format, elements_rows, elements};
 ghost use Rattle.columnar_base.specs.Views.{items_content};
@@ -62,9 +62,17 @@ impl<'v, T: Element> Len for View<'v, T> {
     {
         match self.items {
             Items::Typed(items) => items.len(),
-            Items::Bytes(bytes) => bytes.len() / T::size(),
+            Items::Bytes(bytes) => count_in::<T>(bytes),
         }
     }
+}
+
+/// How many elements the bytes hold.
+pub fn count_in<T: Element>(bytes: &[u8]) -> usize
+    ensures { result ≡ length bytes.now / T.size }
+{
+    let length = bytes.len();
+    length / T::size()
 }
 
 pub(crate) fn element_at<T: Element>(items: &[T], index: usize) -> T

@@ -46,20 +46,6 @@ appended_more {T} {meaning} {old} {mid} {new} rs start i x l h a e =
 pub appended_back : {T : Type 0} {meaning : T → Row} {old mid : List T} {rs : List Row} (n : ℕ) → Appended meaning old mid rs → n ≡ length old → take n mid ≡ old
 appended_back {T} {meaning} {old} {mid} n a e = rw (a.items, e) (take-append_seam old a.fresh)
 
--- the first n bytes, and then so many more
-pub take_next : (n m : ℕ) (bs : List ℕ) → take n bs ++ take m (drop n bs) ≡ take (n + m) bs
-take_next zero m bs = let e : zero + m ≡ m = omega arith in rw e refl
-take_next (suc n) m [] = take-nil m ∙ sym (take-nil (suc n + m))
-take_next (suc n) m (b ∷ bs) = let e : suc n + m ≡ suc (n + m) = omega arith in rw e (ap (λ t. b ∷ t) (take_next n m bs))
-
--- one more element read
-pub read_more : {T : Type 0} (bytes : T → List ℕ) (size i : ℕ) (xs ys : List T) (x : T) (bs : List ℕ) → flat_map bytes xs ≡ take (size * i) bs → bytes x ≡ take size (drop (size * i) bs) → ys ≡ xs ++ x ∷ [] → flat_map bytes ys ≡ take (size * (i + 1)) bs
-read_more {T} bytes size i xs ys x bs p q r =
-    let a : flat_map bytes (xs ++ x ∷ []) ≡ flat_map bytes xs ++ flat_map bytes (x ∷ []) = flat_map-append bytes xs (x ∷ []) in
-    let b : flat_map bytes (x ∷ []) ≡ bytes x = append-nil (bytes x) in
-    let e : size * (i + 1) ≡ size * i + size = omega arith in
-    rw (r, a, b, p, q, e) (take_next (size * i) size bs)
-
 -- the rows of a range of elements
 pub piece_means : {T : Type 0} {size : ℕ} {bytes : T → List ℕ} {row_of : List ℕ → Row} {meaning : T → Row} → IsElement size bytes row_of meaning → (xs ys : List T) (start n : ℕ) → ys ≡ take n (drop start xs) → map meaning ys ≡ take n (drop start (elements_rows size row_of (elements bytes xs)))
 piece_means {T} {size} {bytes} {row_of} {meaning} e xs ys start n h =

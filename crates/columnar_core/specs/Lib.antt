@@ -6,6 +6,9 @@ pub mod WordLaws
 pub mod ByteLaws
 pub mod Sent
 pub mod SentLaws
+pub mod SliceBytes
+pub mod NumberSlices
+pub mod ArraySlices
 pub mod Slices
 pub mod Store
 pub mod Column

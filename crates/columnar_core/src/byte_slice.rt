@@ -1,34 +1,72 @@
 //! The slices of a column, before they are written.
-ghost use Rattle.std.specs.Prelude.{ℕ, List, ◌≡◌, ◌<◌, ◌*◌, length, slice_index, OnOk, OnErr};
+ghost use Rattle.std.specs.Prelude.{ℕ, List, ◌≡◌, ◌<◌, ◌*◌, ◌+◌, ◌^◌, length, slice_index, OnOk, OnErr};
+ghost use Rattle.std.specs.List.{flat_map};
 ghost use Rattle.std.specs.Io.KnownBytes.{Appends};
 ghost use Rattle.columnar_core.specs.Bytes.{word, le_bytes, AreBytes};
-ghost use Rattle.columnar_core.specs.Slices.{bytes_in, alignment};
 ghost use Rattle.columnar_core.specs.Sent.{AppendsBeginning};
+ghost use Rattle.columnar_core.specs.SliceBytes.{IsCounted, bytes_of};
 
 use super::store::word_at;
 use super::writer::WriteBytes;
+use columnar_base::element::Primitive;
+use std::num::Wrapping;
+
+pub mod flat;
+pub mod sliced;
+#[cfg(test)]
+mod tests;
 
 /// A slice of a column: elements that stand for their bytes, each lowest first.
 #[derive(Clone, Copy)]
 pub struct ByteSlice<'a> {
     elements: Elements<'a>,
+    count: usize,
+    align: u64,
+    ghost counted: { IsCounted count (bytes_of elements) },
 }
 
 // The elements of a slice, by their type
 #[derive(Clone, Copy)]
 enum Elements<'a> {
     Bytes(&'a [u8]),
-    Words(&'a [u64]),
+    U16(&'a [u16]),
+    U32(&'a [u32]),
+    U64(&'a [u64]),
+    I8(&'a [i8]),
+    I16(&'a [i16]),
+    I32(&'a [i32]),
+    I64(&'a [i64]),
+    WrappingU8(&'a [Wrapping<u8>]),
+    WrappingU16(&'a [Wrapping<u16>]),
+    WrappingU32(&'a [Wrapping<u32>]),
+    WrappingU64(&'a [Wrapping<u64>]),
+    WrappingI8(&'a [Wrapping<i8>]),
+    WrappingI16(&'a [Wrapping<i16>]),
+    WrappingI32(&'a [Wrapping<i32>]),
+    WrappingI64(&'a [Wrapping<i64>]),
 }
 
 impl<'a> ByteSlice<'a> {
+    ghost use Rattle.columnar_core.specs.Slices.{bytes_in, alignment};
+
     /// The slice of these bytes.
     pub fn of_bytes(bytes: &'a [u8]) -> Self
         ensures bytes { bytes_in result ≡ bytes.entry.now }
         ensures align { alignment result ≡ 1 }
     {
+        ByteSlice::of_le_bytes(bytes, 1)
+    }
+
+    /// The slice of these bytes, which stand for elements of that alignment.
+    pub fn of_le_bytes(bytes: &'a [u8], align: u64) -> Self
+        ensures bytes { bytes_in result ≡ bytes.entry.now }
+        ensures align { alignment result ≡ align }
+    {
+        let count = bytes.len();
         ByteSlice {
             elements: Elements::Bytes(bytes),
+            count,
+            align,
         }
     }
 
@@ -37,8 +75,11 @@ impl<'a> ByteSlice<'a> {
         ensures bytes { bytes_in result ≡ le_bytes words.entry.now }
         ensures align { alignment result ≡ 8 }
     {
+        let count = 8 * words.len();
         ByteSlice {
-            elements: Elements::Words(words),
+            elements: Elements::U64(words),
+            count,
+            align: 8,
         }
     }
 
@@ -46,20 +87,14 @@ impl<'a> ByteSlice<'a> {
     pub fn align(&self) -> u64
         ensures { result ≡ alignment self.now }
     {
-        match self.elements {
-            Elements::Bytes(_) => 1,
-            Elements::Words(_) => 8,
-        }
+        self.align
     }
 
     /// How many bytes it has.
     pub fn len(&self) -> usize
         ensures { result ≡ length (bytes_in self.now) }
     {
-        match self.elements {
-            Elements::Bytes(bytes) => bytes.len(),
-            Elements::Words(words) => byte_count(words),
-        }
+        self.count
     }
 
     /// Word `index` of its bytes, lowest first; the last word is filled with zeros. Asks that a byte stands in that
@@ -68,9 +103,24 @@ impl<'a> ByteSlice<'a> {
         requires { 8 * index < length (bytes_in self.now) }
         ensures { result ≡ word (bytes_in self.now) index }
     {
+        let _count = self.count;
         match self.elements {
             Elements::Bytes(bytes) => word_or_zeros(bytes, index),
-            Elements::Words(words) => item_at(words, index),
+            Elements::U16(items) => word_of(items, index),
+            Elements::U32(items) => word_of(items, index),
+            Elements::U64(items) => word_of(items, index),
+            Elements::I8(items) => word_of(items, index),
+            Elements::I16(items) => word_of(items, index),
+            Elements::I32(items) => word_of(items, index),
+            Elements::I64(items) => word_of(items, index),
+            Elements::WrappingU8(items) => word_of(items, index),
+            Elements::WrappingU16(items) => word_of(items, index),
+            Elements::WrappingU32(items) => word_of(items, index),
+            Elements::WrappingU64(items) => word_of(items, index),
+            Elements::WrappingI8(items) => word_of(items, index),
+            Elements::WrappingI16(items) => word_of(items, index),
+            Elements::WrappingI32(items) => word_of(items, index),
+            Elements::WrappingI64(items) => word_of(items, index),
         }
     }
 
@@ -81,25 +131,36 @@ impl<'a> ByteSlice<'a> {
     {
         match self.elements {
             Elements::Bytes(bytes) => writer.write_all(bytes),
-            Elements::Words(words) => write_words(writer, words),
+            _ => self.write_words(writer),
+        }
+    }
+
+    // Writes its bytes, eight at a time.
+    fn write_words<W: WriteBytes>(&self, writer: &mut W) -> Result<(), W::Error>
+        ensures ok { OnOk result (Appends (W.contents writer.old) (W.contents writer.new) (bytes_in self.now)) }
+        ensures err { OnErr result (AppendsBeginning (W.contents writer.old) (W.contents writer.new) (bytes_in self.now)) }
+    {
+        let count = self.len();
+        for i in 0..count / 8 {
+            match writer.write_all(&self.word(i).to_le_bytes()) {
+                Ok(()) => {}
+                Err(fault) => return Err(fault),
+            }
+        }
+        let rest = count % 8;
+        if rest == 0 {
+            return Ok(());
+        }
+        match writer.write_all(&self.word(count / 8).to_le_bytes()[..rest]) {
+            Ok(()) => Ok(()),
+            Err(fault) => Err(fault),
         }
     }
 
     /// Does nothing when it runs; its contract says that each number it holds is a byte.
     pub fn holds_bytes(&self)
         ensures { AreBytes (bytes_in self.now) }
-    {
-        match self.elements {
-            Elements::Bytes(bytes) => are_bytes(bytes),
-            Elements::Words(words) => are_words(words),
-        }
-    }
-}
-
-fn byte_count(words: &[u64]) -> usize
-    ensures { result ≡ length (le_bytes words.now) }
-{
-    8 * words.len()
+    {}
 }
 
 fn byte_or_zero(bytes: &[u8], index: usize) -> u8
@@ -128,30 +189,33 @@ fn word_or_zeros(bytes: &[u8], index: usize) -> u64
     ])
 }
 
-fn item_at(words: &[u64], index: usize) -> u64
-    requires { 8 * index < length (le_bytes words.now) }
-    ensures { result ≡ word (le_bytes words.now) index }
+// Byte `at` of the bytes of elements, 0 past their end
+fn byte_of<T: Primitive>(items: &[T], at: usize) -> u8
+    ensures { result ≡ slice_index (flat_map T.le_bytes items.now) at }
 {
-    words[index]
-}
-
-fn write_words<W: WriteBytes>(writer: &mut W, words: &[u64]) -> Result<(), W::Error>
-    ensures ok { OnOk result (Appends (W.contents writer.old) (W.contents writer.new) (le_bytes words.now)) }
-    ensures err { OnErr result (AppendsBeginning (W.contents writer.old) (W.contents writer.new) (le_bytes words.now)) }
-{
-    for word in words {
-        match writer.write_all(&word.to_le_bytes()) {
-            Ok(()) => {}
-            Err(fault) => return Err(fault),
-        }
+    let size = T::size();
+    let index = at / size;
+    if index < items.len() {
+        items[index].byte(at % size)
+    } else {
+        0
     }
-    Ok(())
 }
 
-fn are_bytes(bytes: &[u8])
-    ensures { AreBytes bytes.now }
-{}
-
-fn are_words(words: &[u64])
-    ensures { AreBytes (le_bytes words.now) }
-{}
+fn word_of<T: Primitive>(items: &[T], index: usize) -> u64
+    requires short { length (flat_map T.le_bytes items.now) < 2 ^ 64 }
+    requires in_range { 8 * index < length (flat_map T.le_bytes items.now) }
+    ensures { result ≡ word (flat_map T.le_bytes items.now) index }
+{
+    let at = 8 * index;
+    u64::from_le_bytes([
+        byte_of(items, at),
+        byte_of(items, at + 1),
+        byte_of(items, at + 2),
+        byte_of(items, at + 3),
+        byte_of(items, at + 4),
+        byte_of(items, at + 5),
+        byte_of(items, at + 6),
+        byte_of(items, at + 7),
+    ])
+}

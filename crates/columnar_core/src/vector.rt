@@ -2,7 +2,7 @@
 ghost use Rattle.std.specs.Prelude.{◌≡◌, ℕ, ◌+◌, ◌-◌, ◌*◌, ◌%◌, ◌<◌, ◌≤◌, ◌++◌, ◌∷◌, [], length, take, drop, map, List, Some, slice_get, IsTrue, OnOk, OnErr, IfOk, IfErr, refl};
 ghost use Rattle.std.specs.List.{flat_map};
 ghost use Rattle.std.specs.Int.{to_le_bytes, w64};
-ghost use Rattle.columnar_base.specs.Format.{Fits, IsSound, bytes_held, first, moved, representable};
+ghost use Rattle.columnar_base.specs.Format.{Fits, IsSound, bytes_held, first, moved, representable, slices_of};
 ghost use Rattle.columnar_base.specs.Elements.{elements, elements_broken, elements_format, elements_rows, first_slice};
 ghost use Rattle.columnar_base.specs.ElementLaws.{elements_storable};
 ghost use Rattle.columnar_base.specs.Change.{Copied, Refused};
@@ -12,6 +12,7 @@ ghost use Rattle.columnar_core.specs.Store.{slices_in};
 ghost use Rattle.columnar_core.specs.Appended.{Appended};
 
 use crate::byte_slice::ByteSlice;
+pub use crate::byte_slice::sliced::Sliced;
 use crate::bytes::{AsBytes, Check, FromBytes, Stored};
 use crate::container::{Borrow, Container, ContainerBytes, ExtendFrom, Reborrow, ReborrowRef};
 use crate::store::DecodedStore;
@@ -19,28 +20,9 @@ use columnar_base::element::{Element, Viewed};
 use columnar_base::fault::{GrowError, StoreFault};
 use columnar_base::tally::Tally;
 use columnar_base::traits::{Column, Index, Item, Len};
-use columnar_base::view::{Items, View, element_in};
+use columnar_base::view::{Items, View, count_in, element_in};
 use std::alloc::Global;
 use std::ops::Range;
-
-/// An element whose slices can go out as bytes.
-pub trait Sliced: Element {
-    // the alignment of its slices, in bytes
-    ghost align: { ℕ };
-
-    /// The bytes of the elements.
-    fn byte_slice(items: &[Self]) -> ByteSlice<'_>
-        ensures bytes { bytes_in result ≡ flat_map Self.le_bytes items.now }
-        ensures align { alignment result ≡ align };
-}
-
-impl Sliced for u64 {
-    ghost align = { 8 };
-
-    fn byte_slice(items: &[u64]) -> ByteSlice<'_> {
-        ByteSlice::of_words(items)
-    }
-}
 
 // Appends the elements; want of memory refuses all of them.
 fn append_typed<T: Element>(column: &mut Vec<T>, items: &[T]) -> Result<(), GrowError>
@@ -169,7 +151,7 @@ impl<T: Element> Stored for Vec<T> {
     }
 
     fn rows_in(store: &DecodedStore<'_>, offset: usize) -> usize {
-        store.get(offset).len() / T::size()
+        count_in::<T>(store.get(offset))
     }
 }
 
@@ -247,10 +229,17 @@ impl<'s, T: Element> FromBytes<'s> for View<'s, T> {
 }
 
 impl<'s, T: Sliced> AsBytes<'s> for View<'s, T> {
-    fn get_byte_slice(&self, index: usize) -> (u64, ByteSlice<'s>) {
+    /// The one slice, with the alignment of the type, wherever the elements stand.
+    fn get_byte_slice(&self, index: usize) -> (u64, ByteSlice<'s>)
+        requires representable { IsTrue (representable (elements_format T.size T.row_of)) }
+        requires in_range { index < 1 }
+        ensures slice { slice_get (slices_of (⟦<View<'s, T> as Column>⟧.content self.now)) index ≡ Some (bytes_in result.1) }
+        ensures align { result.0 ≡ alignment result.1 }
+        ensures of_type { result.0 ≡ T.align }
+    {
         let slice = match self.items() {
             Items::Typed(items) => T::byte_slice(items),
-            Items::Bytes(bytes) => ByteSlice::of_bytes(bytes),
+            Items::Bytes(bytes) => ByteSlice::of_le_bytes(bytes, T::align()),
         };
         (slice.align(), slice)
     }
@@ -272,7 +261,7 @@ fn elements_of<T: Element>(alloc: Global, bytes: &[u8]) -> Result<Vec<T>, GrowEr
     ensures elements { IfOk result (λ v. flat_map T.le_bytes v.items ≡ bytes.now) }
     ensures memory { IfErr result (λ e. e ≡ GrowError.Memory) }
 {
-    let count = bytes.len() / T::size();
+    let count = count_in::<T>(bytes);
     let mut column = Vec::new(alloc);
     if column.reserve(count).is_err() {
         return Err(GrowError::Memory);

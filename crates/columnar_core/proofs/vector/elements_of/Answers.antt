@@ -1,4 +1,5 @@
-use Rattle.columnar_core.specs.Appended.{read_more}
+use Rattle.std.proofs.Common.{◌≡◌}
+use Rattle.columnar_base.specs.ElementLaws.{read_more}
 use Rattle.columnar_core.proofs.vector.elements_of.Goals as goal
 
 pub loop-i-preserved : goal.loop-i-preserved

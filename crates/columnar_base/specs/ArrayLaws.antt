@@ -1,0 +1,87 @@
+-- Arrays are read back from their bytes.
+use Rattle.std.proofs.Common.{◌≡◌, ℕ, zero, suc, ◌+◌, ◌-◌, ◌*◌, ◌^◌, ◌<◌, ◌≤◌, List, [], ◌∷◌, ◌++◌, Bool, true, false, length, take, drop, map, replicate, get_or, refl, sym, ◌∙◌, ap, arith, length-append, ⊎_elim}
+use Rattle.std.specs.Prelude.{min, ◌&&◌, slice_set}
+use Rattle.std.specs.List.{flat_map}
+use Rattle.std.proofs.lemmas.List.{length-replicate, length-take-le, take_at, take_all, take_more_set, drop_more, drop_all}
+use Rattle.std.proofs.lemmas.Bool.{cases_lt}
+use Rattle.columnar_base.specs.Row.{Row, array, list, row_eq}
+use Rattle.columnar_base.specs.Elements.{pieces}
+use Rattle.columnar_base.specs.ElementLaws.{IsElement, length-flat, pieces-flat, map_back, read_more}
+use Rattle.columnar_base.specs.Arrays.{filled, array_size, array_bytes, array_row_of, array_row}
+
+pub length-filled : (n : ℕ) (bs : List ℕ) → length (filled n bs) ≡ n
+length-filled n bs = length-take-le n (bs ++ replicate n 0) (omega (arith, length-append bs (replicate n 0), length-replicate {A = ℕ} n 0))
+
+-- bytes that are as many as they should be
+pub filled_whole : (n : ℕ) (bs : List ℕ) → length bs ≡ n → filled n bs ≡ bs
+filled_whole n bs e = take_at bs (replicate n 0) n e
+
+array_positive : (size n : ℕ) → 1 ≤ size → 1 ≤ array_size size n
+array_positive size zero l = omega arith
+array_positive size (suc n) l = let m : size * suc n ≡ size + size * n = omega arith in omega (arith, m)
+
+pub array_element : {T : Type 0} {size : ℕ} {bytes : T → List ℕ} {row_of : List ℕ → Row} {meaning : T → Row} (n : ℕ) → IsElement size bytes row_of meaning → IsElement (array_size size n) (array_bytes n size bytes) (array_row_of n size row_of) (array_row n size bytes row_of)
+array_element {T} {size} {bytes} n e = record {
+  positive = array_positive size n e.positive;
+  sized = λ xs. length-filled (array_size size n) (flat_map bytes xs);
+  read_back = λ xs. refl;
+}
+
+-- the bytes of an array, one element's behind the other's
+pub array_bytes_are : {T : Type 0} {size : ℕ} {bytes : T → List ℕ} {row_of : List ℕ → Row} {meaning : T → Row} (n : ℕ) → IsElement size bytes row_of meaning → (xs : List T) → 0 < n → length xs ≡ n → array_bytes n size bytes xs ≡ flat_map bytes xs
+array_bytes_are {T} {size} {bytes} zero e xs p l = absurd (omega arith)
+array_bytes_are {T} {size} {bytes} (suc n) e xs p l = filled_whole (size * suc n) (flat_map bytes xs) (length-flat size bytes e.sized xs ∙ ap (λ k. size * k) l)
+
+-- the row of an array holds the rows of its elements
+pub array_row_is : {T : Type 0} {size : ℕ} {bytes : T → List ℕ} {row_of : List ℕ → Row} {meaning : T → Row} (n : ℕ) → IsElement size bytes row_of meaning → (xs : List T) → length xs ≡ n → array_row n size bytes row_of xs ≡ array (list (map meaning xs))
+array_row_is zero e [] l = refl
+array_row_is zero e (x ∷ xs) l = cc
+array_row_is {T} {size} {bytes} {row_of} (suc n) e xs l =
+    let b = array_bytes_are (suc n) e xs (omega arith) l in
+    let p : pieces size (suc n) (flat_map bytes xs) ≡ map bytes xs = ap (λ k. pieces size k (flat_map bytes xs)) (sym l) ∙ pieces-flat size bytes e.sized xs in
+    ap (λ bs. array_row_of (suc n) size row_of bs) b ∙ ap (λ ps. array (list (map row_of ps))) p ∙ ap (λ rs. array (list rs)) (map_back e xs)
+
+-- how many bytes, as far as they can be counted
+pub array_size_is : (size n s : ℕ) → 1 ≤ size → s ≡ min size (2 ^ 64 - 1) → 0 < n → min (s * n) (2 ^ 64 - 1) ≡ min (array_size size n) (2 ^ 64 - 1)
+array_size_is size zero s p e l = absurd (omega arith)
+array_size_is size (suc n) s p e l =
+    ⊎_elim
+    (λ (k : size < 2 ^ 64). let r : s ≡ size = omega (arith, e) in rw r refl)
+    (λ (k : 2 ^ 64 ≤ size).
+    let a : s * suc n ≡ s + s * n = omega arith in
+    let b : size * suc n ≡ size + size * n = omega arith in
+    omega (arith, a, b, e))
+    (cases_lt size (2 ^ 64))
+
+-- what is left of two arrays decides whether they are equal
+abbrev pub RestDecides : {T : Type 0} → (T → Row) → List T → List T → Bool → ℕ → Type 0
+RestDecides meaning xs ys answer i = answer ≡ row_eq (list (map meaning (drop i xs))) (list (map meaning (drop i ys)))
+
+pub rest_first : {T : Type 0} {size : ℕ} {bytes : T → List ℕ} {row_of : List ℕ → Row} {meaning : T → Row} (n : ℕ) → IsElement size bytes row_of meaning → (xs ys : List T) → length xs ≡ n → length ys ≡ n → RestDecides meaning xs ys (row_eq (array_row n size bytes row_of xs) (array_row n size bytes row_of ys)) 0
+rest_first n e xs ys l m = rw (array_row_is n e xs l, array_row_is n e ys m) refl
+
+rest_step : {T : Type 0} (meaning : T → Row) (xs ys : List T) (i : ℕ) (x y : T) → i < length xs → i < length ys → x ≡ get_or xs i x → y ≡ get_or ys i y → row_eq (list (map meaning (drop i xs))) (list (map meaning (drop i ys))) ≡ (row_eq (meaning x) (meaning y) && row_eq (list (map meaning (drop (i + 1) xs))) (list (map meaning (drop (i + 1) ys))))
+rest_step meaning xs ys i x y l m p q =
+    let a : drop i xs ≡ x ∷ drop (i + 1) xs = drop_more xs i x l ∙ ap (λ t. t ∷ drop (i + 1) xs) (sym p) in
+    let b : drop i ys ≡ y ∷ drop (i + 1) ys = drop_more ys i y m ∙ ap (λ t. t ∷ drop (i + 1) ys) (sym q) in
+    rw (a, b) refl
+
+pub rest_more : {T : Type 0} (meaning : T → Row) (xs ys : List T) (answer : Bool) (i : ℕ) (x y : T) → i < length xs → i < length ys → x ≡ get_or xs i x → y ≡ get_or ys i y → true ≡ row_eq (meaning x) (meaning y) → RestDecides meaning xs ys answer i → RestDecides meaning xs ys answer (i + 1)
+rest_more meaning xs ys answer i x y l m p q h r = r ∙ rest_step meaning xs ys i x y l m p q ∙ rw (← h) refl
+
+pub rest_differs : {T : Type 0} (meaning : T → Row) (xs ys : List T) (answer : Bool) (i : ℕ) (x y : T) → i < length xs → i < length ys → x ≡ get_or xs i x → y ≡ get_or ys i y → false ≡ row_eq (meaning x) (meaning y) → RestDecides meaning xs ys answer i → false ≡ answer
+rest_differs meaning xs ys answer i x y l m p q h r = sym (r ∙ rest_step meaning xs ys i x y l m p q ∙ rw (← h) refl)
+
+pub rest_none : {T : Type 0} (meaning : T → Row) (xs ys : List T) (answer : Bool) (i : ℕ) → length xs ≤ i → length ys ≤ i → RestDecides meaning xs ys answer i → true ≡ answer
+rest_none meaning xs ys answer i l m r = sym (r ∙ rw (drop_all i xs l, drop_all i ys m) refl)
+
+-- an array that was read from bytes has these bytes
+pub array_read : {T : Type 0} {size : ℕ} {bytes : T → List ℕ} {row_of : List ℕ → Row} {meaning : T → Row} (n : ℕ) → IsElement size bytes row_of meaning → (xs : List T) (bs : List ℕ) → length xs ≡ n → length bs < 2 ^ 64 → length bs ≡ array_size size n → flat_map bytes (take n xs) ≡ take (size * n) bs → array_bytes n size bytes xs ≡ bs
+array_read {T} {size} {bytes} zero e xs bs l b m h = absurd (omega (arith, b, m))
+array_read {T} {size} {bytes} (suc n) e xs bs l b m h =
+    array_bytes_are (suc n) e xs (omega arith) l
+    ∙ ap (flat_map bytes) (sym (take_all (suc n) xs (omega (arith, l)))) ∙ h ∙ take_all (size * suc n) bs (omega (arith, m))
+
+-- one element more
+pub array_read_more : {T : Type 0} (bytes : T → List ℕ) (size i : ℕ) (xs : List T) (x : T) (bs : List ℕ) → i < length xs → bytes x ≡ take size (drop (size * i) bs) → flat_map bytes (take i xs) ≡ take (size * i) bs → flat_map bytes (take (i + 1) (slice_set xs i x)) ≡ take (size * (i + 1)) bs
+array_read_more bytes size i xs x bs l e h = read_more bytes size i (take i xs) (take (i + 1) (slice_set xs i x)) x bs h e (take_more_set xs i x l)

@@ -1,0 +1,27 @@
+-- Arrays of elements, as elements.
+use Rattle.std.specs.Prelude.{ℕ, zero, suc, List, ◌++◌, ◌*◌, ◌^◌, map, take, replicate}
+use Rattle.std.specs.List.{flat_map}
+use Rattle.columnar_base.specs.Row.{Row, array, list}
+use Rattle.columnar_base.specs.Elements.{pieces}
+
+-- n bytes: those of bs, and zeros where they are too few
+abbrev pub filled : ℕ → List ℕ → List ℕ
+filled n bs = take n (bs ++ replicate n 0)
+
+-- How many bytes an array of n elements of `size` bytes has. An array of no elements stands in no bytes: its size is
+-- past all that can be held, so no call over bytes takes it.
+abbrev pub array_size : ℕ → ℕ → ℕ
+array_size size zero = 2 ^ 64
+array_size size (suc n) = size * suc n
+
+-- the bytes of an array of n elements
+abbrev pub array_bytes : {T : Type 0} → ℕ → ℕ → (T → List ℕ) → List T → List ℕ
+array_bytes n size bytes xs = filled (array_size size n) (flat_map bytes xs)
+
+-- the row that so many bytes are
+abbrev pub array_row_of : ℕ → ℕ → (List ℕ → Row) → List ℕ → Row
+array_row_of n size row_of bs = array (list (map row_of (pieces size n bs)))
+
+-- the row of an array of n elements
+abbrev pub array_row : {T : Type 0} → ℕ → ℕ → (T → List ℕ) → (List ℕ → Row) → List T → Row
+array_row n size bytes row_of xs = array_row_of n size row_of (array_bytes n size bytes xs)

@@ -1,0 +1,6 @@
+use Rattle.std.proofs.Common.{refl, w16}
+use Rattle.columnar_core.specs.NumberSlices.{counted_signed}
+use Rattle.columnar_core.proofs.byte_slice.sliced.I16Sliced.byte_slice.Goals as goal
+
+pub invariant_of-result : goal.invariant_of-result
+invariant_of-result c = record { counted = counted_signed w16 c.args.items.now _ refl }

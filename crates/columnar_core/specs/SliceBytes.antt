@@ -1,0 +1,37 @@
+-- The bytes of a slice's elements.
+use Rattle.std.specs.Prelude.{ℕ, List, length, ◌≡◌}
+use Rattle.std.specs.List.{flat_map}
+use Rattle.std.specs.Int.{w8, w16, w32, w64, to_le_bytes}
+use Rattle.std.specs.declared.num.Wrapping.{Wrapping}
+use Rattle.columnar_base.specs.Numbers.{signed_bytes}
+use Rattle.columnar_core.specs.Bytes.{AreBytes}
+use Rattle.columnar_core.specs.declared.byte_slice.Elements.{Elements}
+use Rattle.columnar_core.specs.declared.byte_slice.Elements.TheVariants.{Bytes, U16, U32, U64, I8, I16, I32, I64, WrappingU8, WrappingU16, WrappingU32, WrappingU64, WrappingI8, WrappingI16, WrappingI32, WrappingI64}
+
+-- the bytes of the number inside
+abbrev pub inside : {T : Type 0} → (T → List ℕ) → Wrapping T → List ℕ
+inside bytes x = bytes x.0
+
+-- the bytes of the elements, each lowest first
+abbrev pub bytes_of : Elements → List ℕ
+bytes_of (Bytes bs) = bs.now
+bytes_of (U16 xs) = flat_map (to_le_bytes w16) xs.now
+bytes_of (U32 xs) = flat_map (to_le_bytes w32) xs.now
+bytes_of (U64 xs) = flat_map (to_le_bytes w64) xs.now
+bytes_of (I8 xs) = flat_map (signed_bytes w8) xs.now
+bytes_of (I16 xs) = flat_map (signed_bytes w16) xs.now
+bytes_of (I32 xs) = flat_map (signed_bytes w32) xs.now
+bytes_of (I64 xs) = flat_map (signed_bytes w64) xs.now
+bytes_of (WrappingU8 xs) = flat_map (inside (to_le_bytes w8)) xs.now
+bytes_of (WrappingU16 xs) = flat_map (inside (to_le_bytes w16)) xs.now
+bytes_of (WrappingU32 xs) = flat_map (inside (to_le_bytes w32)) xs.now
+bytes_of (WrappingU64 xs) = flat_map (inside (to_le_bytes w64)) xs.now
+bytes_of (WrappingI8 xs) = flat_map (inside (signed_bytes w8)) xs.now
+bytes_of (WrappingI16 xs) = flat_map (inside (signed_bytes w16)) xs.now
+bytes_of (WrappingI32 xs) = flat_map (inside (signed_bytes w32)) xs.now
+bytes_of (WrappingI64 xs) = flat_map (inside (signed_bytes w64)) xs.now
+
+-- so many they are, and each is a byte
+pub record IsCounted (count : ℕ) (bs : List ℕ) : Type 0 where
+  pub number : count ≡ length bs
+  pub bytes : AreBytes bs

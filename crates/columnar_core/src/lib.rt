@@ -1,6 +1,7 @@
 //! Columns in a store of bytes: how their slices are read, and how they go out to a writer.
 #![tactic(auto)]
 
+pub mod byte_column;
 pub mod byte_slice;
 pub mod bytes;
 pub mod container;
@@ -8,6 +9,7 @@ pub mod offsets;
 pub mod store;
 pub mod tuple;
 pub mod vector;
+pub mod viewed;
 pub mod writer;
 
 pub use columnar_base::{element, fault, slice, tally, traits, view};

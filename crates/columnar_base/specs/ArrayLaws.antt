@@ -60,21 +60,6 @@ RestDecides meaning xs ys answer i = answer ≡ row_eq (list (map meaning (drop 
 pub rest_first : {T : Type 0} {size : ℕ} {bytes : T → List ℕ} {row_of : List ℕ → Row} {meaning : T → Row} (n : ℕ) → IsElement size bytes row_of meaning → (xs ys : List T) → length xs ≡ n → length ys ≡ n → RestDecides meaning xs ys (row_eq (array_row n size bytes row_of xs) (array_row n size bytes row_of ys)) 0
 rest_first n e xs ys l m = rw (array_row_is n e xs l, array_row_is n e ys m) refl
 
-rest_step : {T : Type 0} (meaning : T → Row) (xs ys : List T) (i : ℕ) (x y : T) → i < length xs → i < length ys → x ≡ get_or xs i x → y ≡ get_or ys i y → row_eq (list (map meaning (drop i xs))) (list (map meaning (drop i ys))) ≡ (row_eq (meaning x) (meaning y) && row_eq (list (map meaning (drop (i + 1) xs))) (list (map meaning (drop (i + 1) ys))))
-rest_step meaning xs ys i x y l m p q =
-    let a : drop i xs ≡ x ∷ drop (i + 1) xs = drop_more xs i x l ∙ ap (λ t. t ∷ drop (i + 1) xs) (sym p) in
-    let b : drop i ys ≡ y ∷ drop (i + 1) ys = drop_more ys i y m ∙ ap (λ t. t ∷ drop (i + 1) ys) (sym q) in
-    rw (a, b) refl
-
-pub rest_more : {T : Type 0} (meaning : T → Row) (xs ys : List T) (answer : Bool) (i : ℕ) (x y : T) → i < length xs → i < length ys → x ≡ get_or xs i x → y ≡ get_or ys i y → true ≡ row_eq (meaning x) (meaning y) → RestDecides meaning xs ys answer i → RestDecides meaning xs ys answer (i + 1)
-rest_more meaning xs ys answer i x y l m p q h r = r ∙ rest_step meaning xs ys i x y l m p q ∙ rw (← h) refl
-
-pub rest_differs : {T : Type 0} (meaning : T → Row) (xs ys : List T) (answer : Bool) (i : ℕ) (x y : T) → i < length xs → i < length ys → x ≡ get_or xs i x → y ≡ get_or ys i y → false ≡ row_eq (meaning x) (meaning y) → RestDecides meaning xs ys answer i → false ≡ answer
-rest_differs meaning xs ys answer i x y l m p q h r = sym (r ∙ rest_step meaning xs ys i x y l m p q ∙ rw (← h) refl)
-
-pub rest_none : {T : Type 0} (meaning : T → Row) (xs ys : List T) (answer : Bool) (i : ℕ) → length xs ≤ i → length ys ≤ i → RestDecides meaning xs ys answer i → true ≡ answer
-rest_none meaning xs ys answer i l m r = sym (r ∙ rw (drop_all i xs l, drop_all i ys m) refl)
-
 -- an array that was read from bytes has these bytes
 pub array_read : {T : Type 0} {size : ℕ} {bytes : T → List ℕ} {row_of : List ℕ → Row} {meaning : T → Row} (n : ℕ) → IsElement size bytes row_of meaning → (xs : List T) (bs : List ℕ) → length xs ≡ n → length bs < 2 ^ 64 → length bs ≡ array_size size n → flat_map bytes (take n xs) ≡ take (size * n) bs → array_bytes n size bytes xs ≡ bs
 array_read {T} {size} {bytes} zero e xs bs l b m h = absurd (omega (arith, b, m))

@@ -15,6 +15,7 @@ pub mod Numbers
 pub mod NumberLaws
 pub mod Arrays
 pub mod ArrayLaws
+pub mod SameRows
 pub mod Views
 pub mod ViewLaws
 pub mod Tuples

@@ -39,9 +39,6 @@ pub trait Element: Copy + Item {
     ghost always_valid: { (x : Self) → Self.valid x };
 }
 
-/// An element whose `Vec` is borrowed as a `View`: all but u8, whose bytes are borrowed as they are.
-pub trait Viewed: Element {}
-
 /// A number of a fixed width of at most 64 bits.
 pub trait Primitive: Element {
     /// The least.
@@ -59,4 +56,4 @@ pub trait Primitive: Element {
 }
 
 /// A number of more than one byte.
-pub trait Wide: Primitive + Viewed {}
+pub trait Wide: Primitive {}

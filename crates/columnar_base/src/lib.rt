@@ -2,6 +2,7 @@
 //! that name no view.
 #![tactic(auto)]
 
+mod borrowed;
 pub mod element;
 pub mod fault;
 pub mod slice;

@@ -6,7 +6,7 @@ ghost use Rattle.columnar_base.specs.ElementLaws.{elements_lawful};
 use crate::element::Element;
 use crate::fault::GrowError;
 use crate::storage::Storage;
-use crate::traits::{Clear, Column, Index, Len, Push, PushRef};
+use crate::traits::{Clear, Column, Index, Len, Push, PushRef, PushSlice};
 use crate::view::element_at;
 use std::alloc::Global;
 
@@ -57,6 +57,15 @@ impl<'x, T: Element> Push<&'x T> for Vec<T> {
 impl<T: Element> PushRef<T> for Vec<T> {
     fn push_ref(&mut self, item: &T) -> Result<(), GrowError> {
         match Vec::push(self, *item) {
+            Ok(()) => Ok(()),
+            Err(_) => Err(GrowError::Memory),
+        }
+    }
+}
+
+impl<T: Element> PushSlice<T> for Vec<T> {
+    fn push_slice(&mut self, items: &[T]) -> Result<(), GrowError> {
+        match self.extend_from_slice(items) {
             Ok(()) => Ok(()),
             Err(_) => Err(GrowError::Memory),
         }

@@ -1,7 +1,8 @@
 //! Views of elements: read in place, from a slice of them or from little-endian bytes.
-ghost use Rattle.std.specs.Prelude.{◌≡◌, ℕ, ◌+◌, ◌-◌, ◌*◌, ◌/◌, ◌<◌, ◌≤◌, length, refl, take, drop};
+ghost use Rattle.std.specs.Prelude.{◌≡◌, ℕ, ◌+◌, ◌-◌, ◌*◌, ◌/◌, ◌<◌, ◌≤◌, length, refl, take, drop, slice_get, Some};
 ghost use Rattle.columnar_base.specs.Format.{slice, IsSound};
 ghost use Rattle.columnar_base.specs.Elements.{elements_format, elements_rows, elements};
+ghost use Rattle.columnar_base.specs.SameRows.{same_rows, same_rows_law};
 ghost use Rattle.columnar_base.specs.Views.{items_content};
 
 use crate::element::Element;
@@ -48,6 +49,31 @@ impl<'a, T: Element> View<'a, T> {
         }
     }
 
+    /// The elements lower..upper. Asks that `lower` is at most `upper`, and `upper` at most the view's length.
+    pub fn part(&self, lower: usize, upper: usize) -> Self
+        requires sound { IsSound (elements_format T.size T.row_of) (⟦<View<'a, T> as Column>⟧.content self.now) }
+        requires ordered { lower ≤ upper }
+        requires in_range { upper ≤ length (elements_rows T.size T.row_of (⟦<View<'a, T> as Column>⟧.content self.now)) }
+        ensures sound { IsSound (elements_format T.size T.row_of) (⟦<View<'a, T> as Column>⟧.content result) }
+        ensures rows { elements_rows T.size T.row_of (⟦<View<'a, T> as Column>⟧.content result) ≡ take (upper - lower) (drop lower (elements_rows T.size T.row_of (⟦<View<'a, T> as Column>⟧.content self.now))) }
+    {
+        match self.items {
+            Items::Typed(items) => View::from_slice(between(items, lower, upper)),
+            Items::Bytes(bytes) => View::from_le_bytes(bytes_between::<T>(bytes, lower, upper)),
+        }
+    }
+
+    // Element `index`.
+    fn at(&self, index: usize) -> T
+        requires { index < length (elements_rows T.size T.row_of (⟦<View<'a, T> as Column>⟧.content self.now)) }
+        ensures { slice_get (elements_rows T.size T.row_of (⟦<View<'a, T> as Column>⟧.content self.now)) index ≡ Some (T.meaning result) }
+    {
+        match self.items {
+            Items::Typed(items) => element_at(items, index),
+            Items::Bytes(bytes) => element_in(bytes, index),
+        }
+    }
+
     /// Where the elements stand.
     pub fn items(&self) -> Items<'a, T>
         ensures { items_content T.le_bytes result ≡ ⟦<View<'a, T> as Column>⟧.content self.now }
@@ -77,7 +103,7 @@ pub fn count_in<T: Element>(bytes: &[u8]) -> usize
 
 pub(crate) fn element_at<T: Element>(items: &[T], index: usize) -> T
     requires { index < length items.now }
-    ensures { Rattle.std.specs.Prelude.slice_get items.now index ≡ Rattle.std.specs.Prelude.Some result }
+    ensures { slice_get items.now index ≡ Some result }
 {
     items[index]
 }
@@ -96,10 +122,7 @@ impl<'v, T: Element> Index for View<'v, T> {
     type Ref = T;
 
     fn get(&self, index: usize) -> T {
-        match self.items {
-            Items::Typed(items) => element_at(items, index),
-            Items::Bytes(bytes) => element_in(bytes, index),
-        }
+        self.at(index)
     }
 }
 
@@ -108,4 +131,46 @@ impl<'v, T: Element> Clear for View<'v, T> {
     fn clear(&mut self) {
         self.items = Items::Bytes(&[]);
     }
+}
+
+/// Are the rows equal, one for one? Where they stand makes no difference.
+impl<'v, T: Element> PartialEq for View<'v, T> {
+    ghost eq = { λ v w. same_rows (elements_rows T.size T.row_of (items_content T.le_bytes v.items)) (elements_rows T.size T.row_of (items_content T.le_bytes w.items)) };
+
+    ghost laws = { same_rows_law (λ v. elements_rows T.size T.row_of (items_content T.le_bytes v.items)) };
+
+    fn eq(&self, other: &Self) -> bool {
+        let count = Len::len(self);
+        if count != Len::len(other) {
+            return false;
+        }
+        for i in 0..count {
+            if !self.at(i).same(&other.at(i)) {
+                return false;
+            }
+        }
+        true
+    }
+}
+
+// The elements lower..upper of a slice.
+fn between<T>(items: &[T], lower: usize, upper: usize) -> &[T]
+    requires ordered { lower ≤ upper }
+    requires in_range { upper ≤ length items.now }
+    ensures { result.now ≡ take (upper - lower) (drop lower items.now) }
+{
+    &items[lower..upper]
+}
+
+// The bytes of the elements lower..upper.
+fn bytes_between<T: Element>(bytes: &[u8], lower: usize, upper: usize) -> &[u8]
+    requires ordered { lower ≤ upper }
+    requires in_range { T.size * upper ≤ length bytes.now }
+    ensures { result.now ≡ take (T.size * (upper - lower)) (drop (T.size * lower) bytes.now) }
+{
+    if upper == 0 {
+        return between(bytes, 0, 0);
+    }
+    let size = T::size();
+    between(bytes, size * lower, size * upper)
 }

@@ -1,6 +1,7 @@
 //! Columns in a store of bytes: how their slices are read, and how they go out to a writer.
 #![tactic(auto)]
 
+pub mod byte_column;
 pub mod byte_slice;
 pub mod bytes;
 pub mod container;
@@ -11,6 +12,7 @@ pub mod store;
 pub mod tuple;
 pub mod values;
 pub mod vector;
+pub mod viewed;
 pub mod words;
 pub mod writer;
 

@@ -16,7 +16,8 @@ pub use crate::byte_slice::sliced::Sliced;
 use crate::bytes::{AsBytes, Check, FromBytes, Stored};
 use crate::container::{Borrow, Container, ContainerBytes, ExtendFrom, Reborrow, ReborrowRef};
 use crate::store::DecodedStore;
-use columnar_base::element::{Element, Viewed};
+use crate::viewed::Viewed;
+use columnar_base::element::Element;
 use columnar_base::fault::{GrowError, StoreFault};
 use columnar_base::tally::Tally;
 use columnar_base::traits::{Column, Index, Item, Len};
@@ -25,7 +26,7 @@ use std::alloc::Global;
 use std::ops::Range;
 
 // Appends the elements; want of memory refuses all of them.
-fn append_typed<T: Element>(column: &mut Vec<T>, items: &[T]) -> Result<(), GrowError>
+pub(crate) fn append_typed<T: Element>(column: &mut Vec<T>, items: &[T]) -> Result<(), GrowError>
     ensures ok { OnOk result (column.new.items ≡ column.old.items ++ items.now) }
     ensures err { OnErr result (column.new.items ≡ column.old.items) }
     ensures memory { IfErr result (λ e. e ≡ GrowError.Memory) }
@@ -53,7 +54,7 @@ fn append_rows<'x, T: Element>(
     if column.reserve(end - start).is_err() {
         return Err(GrowError::Memory);
     }
-    let before = column.len();
+    let before = column.as_slice().len();
     for i in start..end {
         match column.push(view.get(i)) {
             Ok(()) => {}
@@ -276,7 +277,7 @@ fn elements_of<T: Element>(alloc: Global, bytes: &[u8]) -> Result<Vec<T>, GrowEr
 }
 
 // The elements start..end of a slice.
-fn elements_between<T>(items: &[T], start: usize, end: usize) -> &[T]
+pub(crate) fn elements_between<T>(items: &[T], start: usize, end: usize) -> &[T]
     requires ordered { start ≤ end }
     requires in_range { end ≤ length items.now }
     ensures { result.now ≡ take (end - start) (drop start items.now) }

@@ -3,7 +3,7 @@ ghost use Rattle.std.specs.Prelude.{ℕ, ◌≡◌};
 ghost use Rattle.columnar_base.specs.Arrays.{array_bytes, array_row, array_row_of, array_size};
 ghost use Rattle.columnar_base.specs.ArrayLaws.{array_element};
 
-use super::{Element, Primitive, Viewed};
+use super::{Element, Primitive};
 use crate::traits::Item;
 use crate::view::element_in;
 
@@ -50,5 +50,3 @@ impl<T: Primitive, const N: usize> Element for [T; N] {
         true
     }
 }
-
-impl<T: Primitive, const N: usize> Viewed for [T; N] {}

@@ -4,7 +4,7 @@ ghost use Rattle.std.specs.Int.{w8, w16, w32, w64};
 ghost use Rattle.columnar_base.specs.Numbers.{signed_bytes, signed_row, signed_row_of};
 ghost use Rattle.columnar_base.specs.NumberLaws.{signed_element, at_most_8};
 
-use super::{Element, Primitive, Viewed, Wide};
+use super::{Element, Primitive, Wide};
 use crate::traits::Item;
 
 impl Item for i8 {
@@ -36,8 +36,6 @@ impl Element for i8 {
         *self == *other
     }
 }
-
-impl Viewed for i8 {}
 
 impl Primitive for i8 {
     ghost small = { at_most_8 1 refl };
@@ -83,8 +81,6 @@ impl Element for i16 {
     }
 }
 
-impl Viewed for i16 {}
-
 impl Primitive for i16 {
     ghost small = { at_most_8 2 refl };
 
@@ -128,8 +124,6 @@ impl Element for i32 {
         *self == *other
     }
 }
-
-impl Viewed for i32 {}
 
 impl Primitive for i32 {
     ghost small = { at_most_8 4 refl };
@@ -176,8 +170,6 @@ impl Element for i64 {
         *self == *other
     }
 }
-
-impl Viewed for i64 {}
 
 impl Primitive for i64 {
     ghost small = { at_most_8 8 refl };

@@ -6,7 +6,7 @@ ghost use Rattle.columnar_base.specs.ElementLaws.{word_element};
 ghost use Rattle.columnar_base.specs.Numbers.{unsigned_row, unsigned_row_of};
 ghost use Rattle.columnar_base.specs.NumberLaws.{unsigned_element, at_most_8};
 
-use super::{Element, Primitive, Viewed, Wide};
+use super::{Element, Primitive, Wide};
 use crate::traits::Item;
 
 impl Item for u8 {
@@ -81,8 +81,6 @@ impl Element for u16 {
     }
 }
 
-impl Viewed for u16 {}
-
 impl Primitive for u16 {
     ghost small = { at_most_8 2 refl };
 
@@ -126,8 +124,6 @@ impl Element for u32 {
         *self == *other
     }
 }
-
-impl Viewed for u32 {}
 
 impl Primitive for u32 {
     ghost small = { at_most_8 4 refl };
@@ -174,8 +170,6 @@ impl Element for u64 {
         *self == *other
     }
 }
-
-impl Viewed for u64 {}
 
 impl Primitive for u64 {
     ghost small = { at_most_8 8 refl };

@@ -2,7 +2,7 @@
 ghost use Rattle.std.specs.Prelude.{ℕ, ◌≡◌};
 ghost use Rattle.columnar_base.specs.NumberLaws.{element_inside};
 
-use super::{Element, Primitive, Viewed, Wide};
+use super::{Element, Primitive, Wide};
 use crate::traits::Item;
 use std::num::Wrapping;
 
@@ -35,8 +35,6 @@ impl<T: Primitive> Element for Wrapping<T> {
         self.0.same(&other.0)
     }
 }
-
-impl<T: Primitive> Viewed for Wrapping<T> {}
 
 impl<T: Primitive> Primitive for Wrapping<T> {
     ghost small = { T.small };

@@ -1,0 +1,154 @@
+//! Columns of bytes, which are borrowed as slices.
+ghost use Rattle.std.specs.Prelude.{◌≡◌, ℕ, ◌+◌, ◌-◌, ◌*◌, ◌<◌, ◌≤◌, ◌++◌, ◌∷◌, [], length, take, drop, List, Some, slice_get, IsTrue, OnOk, OnErr, IfErr, refl};
+ghost use Rattle.columnar_base.specs.Format.{Fits, bytes_held, first, moved, representable, slice, slices_of};
+ghost use Rattle.columnar_base.specs.Elements.{elements, elements_broken, elements_format, elements_rows, first_slice};
+ghost use Rattle.columnar_base.specs.ElementLaws.{elements_storable};
+ghost use Rattle.columnar_base.specs.Faults.{verdict};
+ghost use Rattle.std.specs.Int.{to_le_bytes, w8};
+ghost use Rattle.columnar_core.specs.Slices.{bytes_in, alignment};
+ghost use Rattle.columnar_core.specs.Store.{slices_in};
+
+use crate::byte_slice::ByteSlice;
+use crate::byte_slice::sliced::Sliced;
+use crate::bytes::{AsBytes, Check, FromBytes, Stored};
+use crate::container::{Borrow, Container, ExtendFrom, Reborrow, ReborrowRef};
+use crate::store::DecodedStore;
+use crate::vector::{append_typed, elements_between};
+use columnar_base::element::Element;
+use columnar_base::fault::{GrowError, StoreFault};
+use columnar_base::tally::Tally;
+use columnar_base::traits::{Column, Item};
+use std::ops::Range;
+
+impl<'x> ExtendFrom<&'x [u8]> for Vec<u8> {
+    fn add_room(room: usize, view: &'x [u8]) -> usize {
+        room.saturating_add(view.len())
+    }
+
+    fn extend_from_self(&mut self, view: &'x [u8], range: Range<usize>) -> Result<(), GrowError> {
+        match append_typed(self, elements_between(view, range.start, range.end)) {
+            Ok(()) => Ok(()),
+            Err(error) => Err(error),
+        }
+    }
+}
+
+impl<'a> Borrow<'a> for Vec<u8> {
+    type Ref = &'a u8;
+
+    type Borrowed = &'a [u8];
+
+    type Parts = u8;
+
+    ghost same_format = { refl };
+
+    fn borrow(&'a self) -> &'a [u8] {
+        self.as_slice()
+    }
+}
+
+impl<'a> Container<'a> for Vec<u8> {}
+
+impl<'a, 'b, T: Element> Reborrow<'b> for &'a [T]
+where
+    'a: 'b,
+{
+    type Short = &'b [T];
+
+    ghost same_short = { refl };
+
+    fn reborrow(self) -> &'b [T] {
+        self
+    }
+}
+
+impl<'a, 'b, T: Item> ReborrowRef<'b> for &'a T
+where
+    'a: 'b,
+{
+    type ShortRef = &'b T;
+
+    fn reborrow_ref(self) -> &'b T {
+        self
+    }
+}
+
+impl<'v, T: Element> Stored for &'v [T] {
+    ghost storable = { elements_storable T.size T.row_of };
+
+    ghost counted = { λ v. refl };
+
+    fn slice_count() -> usize
+        ensures { result ≡ 1 }
+    {
+        1
+    }
+
+    fn element_sizes(sizes: &mut Vec<usize>) -> Result<(), GrowError>
+        requires { IsTrue (representable (elements_format T.size T.row_of)) }
+        ensures ok { OnOk result (sizes.new.items ≡ sizes.old.items ++ T.size ∷ []) }
+        ensures err { OnErr result (sizes.new.items ≡ sizes.old.items) }
+        ensures memory { IfErr result (λ e. e ≡ GrowError.Memory) }
+    {
+        match Vec::<T>::element_sizes(sizes) {
+            Ok(()) => Ok(()),
+            Err(error) => Err(error),
+        }
+    }
+
+    fn judge_tallied<L>(store: &DecodedStore<'_>, offset: usize, tally: &mut Tally<L>) -> Result<(), StoreFault>
+        requires representable { IsTrue (representable (elements_format T.size T.row_of)) }
+        requires room { offset + 1 ≤ length (slices_in store.now) }
+        ensures exact { verdict result ≡ first (moved offset (elements_broken T.size (first_slice (drop offset (slices_in store.now))))) }
+        ensures turns { tally.new.turns ≤ tally.old.turns + 0 * bytes_held (first_slice (drop offset (slices_in store.now))) }
+    {
+        match Vec::<T>::judge_tallied(store, offset, tally) {
+            Ok(()) => Ok(()),
+            Err(fault) => Err(fault),
+        }
+    }
+
+    fn rows_in(store: &DecodedStore<'_>, offset: usize) -> usize
+        requires representable { IsTrue (representable (elements_format T.size T.row_of)) }
+        requires fits { Fits (elements_format T.size T.row_of) offset (slices_in store.now) }
+        ensures { result ≡ length (elements_rows T.size T.row_of (first_slice (drop offset (slices_in store.now)))) }
+    {
+        Vec::<T>::rows_in(store, offset)
+    }
+}
+
+/// A slice of elements breaks no rule.
+impl<'v, T: Element> Check for &'v [T] {
+    fn check_from_tallied<L>(&self, _from: usize, _tally: &mut Tally<L>) -> Result<(), StoreFault> {
+        Ok(())
+    }
+}
+
+impl<'s> FromBytes<'s> for &'s [u8] {
+    fn from_store(store: &DecodedStore<'s>, offset: &mut usize) -> Self {
+        let start = *offset;
+        *offset = start + 1;
+        as_elements(store.get(start))
+    }
+}
+
+impl<'s, T: Sliced> AsBytes<'s> for &'s [T] {
+    /// The one slice, with the alignment of the type.
+    fn get_byte_slice(&self, index: usize) -> (u64, ByteSlice<'s>)
+        requires representable { IsTrue (representable (elements_format T.size T.row_of)) }
+        requires in_range { index < 1 }
+        ensures slice { slice_get (slices_of (elements T.le_bytes self.now.now)) index ≡ Some (bytes_in result.1) }
+        ensures align { result.0 ≡ alignment result.1 }
+        ensures of_type { result.0 ≡ T.align }
+    {
+        let slice = T::byte_slice(*self);
+        (slice.align(), slice)
+    }
+}
+
+// The bytes; as elements they are kept in themselves.
+fn as_elements<'s>(bytes: &'s [u8]) -> &'s [u8]
+    ensures { elements (to_le_bytes w8) result.now ≡ slice bytes.entry.now }
+{
+    bytes
+}

@@ -1,5 +1,6 @@
 //! Values of the language as rows.
-ghost use Rattle.std.specs.Prelude.{◌%◌, ◌^◌};
+ghost use Rattle.std.specs.Prelude.{◌/◌, ◌%◌, ◌^◌};
+ghost use Rattle.std.specs.Duration.{as_nanos};
 ghost use Rattle.columnar_base.specs.Row.{character, duration, number, unit};
 ghost use Rattle.columnar_base.specs.Elements.{word_row};
 
@@ -26,6 +27,13 @@ impl Item for char {
 
 impl Item for u32 {
     ghost meaning = { λ n. number (n % 2 ^ 32) };
+
+    ghost valid = { λ x. Unit {0} };
+}
+
+/// Its whole seconds, and the nanoseconds besides.
+impl Item for Duration {
+    ghost meaning = { λ d. duration (as_nanos d / 1000000000) (as_nanos d % 1000000000) };
 
     ghost valid = { λ x. Unit {0} };
 }

@@ -45,7 +45,10 @@ pub(crate) fn all_fit_in<T: Rule, CV: Flat<Ref = T::Code>, L>(
 }
 
 /// Is each row of the column a code?
-pub(crate) fn all_fit<T: Rule, CV: Index<Ref = T::Code>, L>(values: &CV, tally: &mut Tally<L>) -> bool
+pub(crate) fn all_fit<T: Rule, CV: Index<Ref = T::Code>, L>(
+    values: &CV,
+    tally: &mut Tally<L>,
+) -> bool
     requires { IsSound CV.format (CV.content values.now) }
     ensures value { result ≡ all_pass T.is_code (CV.format.rows (CV.content values.now)) }
     ensures turns { tally.new.turns ≤ tally.old.turns + length (CV.format.rows (CV.content values.now)) }

@@ -1,5 +1,5 @@
 -- Tuples of three and more: nested pairs, whose own rule is told once, at the first slice of the whole.
-use Rattle.std.proofs.Common.{◌≡◌, ℕ, ◌+◌, Bool, true, false, ◌&&◌, List, [], ◌∷◌, ◌++◌, length, refl, sym, ap, append-nil}
+use Rattle.std.proofs.Common.{◌≡◌, Bool, true, false, ◌&&◌, List, [], ◌∷◌, ◌++◌, refl, sym, ap, append-nil}
 use Rattle.std.proofs.lemmas.Bool.{and_parts, and_from, eqb-true, eq-eqb}
 use Rattle.columnar_base.specs.Format.{Format, Content, slice, both, part, plain, Fault, fault, moved, unless, misfit, IsSound}
 use Rattle.columnar_base.specs.FaultLaws.{nothing_left, nothing_both, nothing_moved, moved_nothing, unless_true, true_unless}

@@ -1,9 +1,9 @@
 -- The same columns under other rules: which faults are told, and at which slices, may differ where the same contents
 -- are well formed. A tuple of three or more is read as nested pairs, but breaks its own rule at its own first slice.
-use Rattle.std.proofs.Common.{◌≡◌, ℕ, ◌≤◌, List, [], ◌∷◌, ◌++◌, length, refl}
+use Rattle.std.proofs.Common.{ℕ, List}
 use Rattle.columnar_base.specs.Row.{Row}
-use Rattle.columnar_base.specs.Format.{Format, Content, Fault, IsSound, IsLawful, Excess, refuses_more}
-use Rattle.columnar_base.specs.Change.{Keeps, Grew, Stayed, WasCut, Took, Copied, IsTrueOf, Refused}
+use Rattle.columnar_base.specs.Format.{Format, Content, Fault, IsSound, IsLawful}
+use Rattle.columnar_base.specs.Change.{Keeps, Stayed, WasCut, Took, Copied, Refused}
 use Rattle.columnar_base.specs.ChangeLaws.{true_from}
 use Rattle.columnar_base.specs.declared.fault.GrowError.{GrowError}
 

@@ -1,5 +1,4 @@
-use Rattle.std.proofs.Common.{◌≡◌, ℕ, ◌+◌, ◌-◌, ◌*◌, ◌/◌, ◌%◌, ◌<◌, ◌≤◌, List, length, refl, arith, sym, ◌∙◌}
-use Rattle.std.proofs.Math.Nat.{mul-div-le}
+use Rattle.std.proofs.Common.{◌≡◌, ℕ, List, length, refl}
 use Rattle.columnar_base.specs.declared.view.Items.{Items}
 use Rattle.columnar_base.specs.declared.view.Items.TheVariants.{Typed, Bytes}
 use Rattle.columnar_base.specs.Format.{slices_of}

@@ -23,7 +23,6 @@ impl<A: Column, B: Column> Column for (A, B) {
     ghost format = { pair_format A.format B.format };
 
     ghost content = { λ c. both (A.content c.0) (B.content c.1) };
-
 }
 
 impl<A: Len, B: Len> Len for (A, B) {
@@ -112,7 +111,8 @@ impl<S: Item, T: Item + Drop, A: Storage + Push<S>, B: Storage + Push<T>> Push<(
 }
 
 /// The parts of the item are pushed by reference.
-impl<'x, S: Item, T: Item, A: Storage + PushRef<S>, B: Storage + PushRef<T>> Push<&'x (S, T)> for (A, B) {
+impl<'x, S: Item, T: Item, A: Storage + PushRef<S>, B: Storage + PushRef<T>> Push<&'x (S, T)>
+    for (A, B) {
     fn push(&mut self, item: &'x (S, T)) -> Result<(), GrowError> {
         match self.push_ref(item) {
             Ok(()) => Ok(()),
@@ -121,7 +121,8 @@ impl<'x, S: Item, T: Item, A: Storage + PushRef<S>, B: Storage + PushRef<T>> Pus
     }
 }
 
-impl<S: Item, T: Item, A: Storage + PushRef<S>, B: Storage + PushRef<T>> PushRef<(S, T)> for (A, B) {
+impl<S: Item, T: Item, A: Storage + PushRef<S>, B: Storage + PushRef<T>> PushRef<(S, T)>
+    for (A, B) {
     fn push_ref(&mut self, item: &(S, T)) -> Result<(), GrowError> {
         let rows = self.0.len();
         match self.0.push_ref(&item.0) {

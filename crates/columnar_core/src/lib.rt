@@ -14,8 +14,4 @@ pub mod vector;
 pub mod words;
 pub mod writer;
 
-pub use columnar_base::element;
-pub use columnar_base::fault;
-pub use columnar_base::tally;
-pub use columnar_base::traits;
-pub use columnar_base::view;
+pub use columnar_base::{element, fault, tally, traits, view};

@@ -46,7 +46,11 @@ impl<'v, C: ContainerBytes> Stored for Owned<'v, C> {
         }
     }
 
-    fn judge_tallied<L>(store: &DecodedStore<'_>, offset: usize, tally: &mut Tally<L>) -> Result<(), StoreFault>
+    fn judge_tallied<L>(
+        store: &DecodedStore<'_>,
+        offset: usize,
+        tally: &mut Tally<L>,
+    ) -> Result<(), StoreFault>
         requires representable { IsTrue (representable C.format) }
         requires room { offset + C.format.count ≤ length (slices_in store.now) }
         ensures exact { verdict result ≡ first (moved offset (C.format.broken (C.format.build (drop offset (slices_in store.now))))) }

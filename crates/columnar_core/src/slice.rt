@@ -22,10 +22,6 @@ impl<'b, S: Reborrow<'b>> ReborrowRef<'b> for Slice<S> {
     type ShortRef = Slice<S::Short>;
 
     fn reborrow_ref(self) -> Slice<S::Short> {
-        Slice {
-            lower: self.lower,
-            upper: self.upper,
-            slice: self.slice.reborrow(),
-        }
+        self.reborrow()
     }
 }

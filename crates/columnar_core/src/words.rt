@@ -35,7 +35,7 @@ impl Offsets for Vec<u64> {
     ghost bounds = { words_bounds };
 
     fn offset(&self, index: usize) -> u64 {
-        self.get(index)
+        Index::get(self, index)
     }
 
     fn rises_to_tallied<L>(&self, end: u64, tally: &mut Tally<L>) -> bool {

@@ -1,14 +1,14 @@
 -- The lists that bounds cut out of values.
-use Rattle.std.proofs.Common.{◌≡◌, ℕ, zero, suc, ◌+◌, ◌^◌, ◌-◌, ◌<◌, ◌≤◌, Bool, true, false, ◌&&◌, List, [], ◌∷◌, ◌++◌, length, take, drop, map, refl, sym, ◌∙◌, ap, arith, length-append, length-take, append_assoc, length-drop, append-nil}
-use Rattle.std.proofs.Math.Seq.{take-append_seam, drop-append_seam, take-length, take-add}
-use Rattle.std.specs.Prelude.{slice_get, Some, Option, nat_eq, nat_le}
-use Rattle.std.proofs.lemmas.List.{take-append-drop, take-append-le, drop-append-le, map-append, length-map, take-map, drop-drop}
+use Rattle.std.proofs.Common.{◌≡◌, ℕ, zero, suc, ◌+◌, ◌-◌, ◌<◌, ◌≤◌, Bool, true, ◌&&◌, List, [], ◌∷◌, ◌++◌, length, take, drop, map, refl, sym, ◌∙◌, ap, arith, length-append, length-take, append_assoc, length-drop}
+use Rattle.std.proofs.Math.Seq.{take-append_seam, drop-append_seam, take-add}
+use Rattle.std.specs.Prelude.{slice_get, Some, nat_le}
+use Rattle.std.proofs.lemmas.List.{take-append-le, drop-append-le, take-map, drop-drop}
 use Rattle.std.proofs.lemmas.Option.{slice_get-map}
 use Rattle.std.proofs.lemmas.Bool.{and_parts, and_from, eqb-true, eq-eqb, leb-true, le-leb}
-use Rattle.columnar_base.specs.Row.{Row, list, number, number_of, items_of, end_of, empty, row_eq}
-use Rattle.columnar_base.specs.RowLaws.{row_eq-is, is-row_eq, same_items, row_eq-refl, items_of-list, end_of-list}
+use Rattle.columnar_base.specs.Row.{Row, list, number, items_of, end_of, empty, row_eq}
+use Rattle.columnar_base.specs.RowLaws.{row_eq-is, is-row_eq, same_items, items_of-list, end_of-list}
 use Rattle.columnar_base.specs.Format.{IsSame, IsExact, all_alike}
-use Rattle.columnar_base.specs.AlikeLaws.{alike_is, alike_all, alike_length, same_pulled, same_both, row_eq_same, row_eq_exact, alike_back, alike_on, alike_take, alike_drop}
+use Rattle.columnar_base.specs.AlikeLaws.{alike_is, alike_all, same_pulled, same_both, row_eq_same, row_eq_exact, alike_back, alike_on, alike_take, alike_drop}
 use Rattle.columnar_core.specs.Bounds.{rises, numbers}
 use Rattle.columnar_lists.specs.Lists.{list_alike, joined, cut, last_or, ends, shifted}
 
@@ -168,9 +168,11 @@ pub lists_same : (same : Row → Row → Bool) → IsSame same → IsSame (list_
 lists_same same e = same_both (λ r s. row_eq (end_of r) (end_of s)) (λ r s. all_alike same (items_of r) (items_of s)) (same_pulled row_eq end_of row_eq_same) (all_same same e)
 
 pub list_exact : (same : Row → Row → Bool) → IsExact same → IsExact (list_alike same)
-list_exact same p = record { exact = λ r s h.
-  let u = and_parts (row_eq (end_of r) (end_of s)) (all_alike same (items_of r) (items_of s)) h in
-  same_items r s (alike_is same p (items_of r) (items_of s) u.1) (row_eq-is (end_of r) (end_of s) u.0) }
+list_exact same p = record {
+  exact = λ r s h.
+      let u = and_parts (row_eq (end_of r) (end_of s)) (all_alike same (items_of r) (items_of s)) h in
+      same_items r s (alike_is same p (items_of r) (items_of s) u.1) (row_eq-is (end_of r) (end_of s) u.0);
+}
 
 -- values that are the items of lists, cut at the ends of these lists, are they
 pub cut_exactly : (from : ℕ) (vs rs : List Row) → are_lists rs ≡ true → drop from vs ≡ joined rs → cut from (numbers (ends from rs)) vs ≡ rs

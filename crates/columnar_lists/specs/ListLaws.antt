@@ -1,22 +1,22 @@
 -- What the format of lists keeps to, and what growth, a refusal and a cut of its parts leave of it.
-use Rattle.std.proofs.Common.{◌≡◌, ℕ, zero, suc, ◌+◌, ◌*◌, ◌%◌, ◌^◌, ◌-◌, ◌<◌, ◌≤◌, Bool, true, false, ◌&&◌, ◌||◌, List, [], ◌∷◌, ◌++◌, length, take, drop, map, refl, sym, ◌∙◌, ap, arith, length-append, length-take, append_assoc, length-drop, append-nil}
-use Rattle.std.proofs.Math.Seq.{take-append_seam, drop-append_seam, take-length, take-add}
-use Rattle.std.specs.Prelude.{slice_get, Some, Option, nat_eq, nat_le}
-use Rattle.std.proofs.lemmas.List.{take-append-drop, take-append-le, drop-append-le, map-append, length-map, take-map, drop-drop}
-use Rattle.std.proofs.lemmas.Bool.{or_left, or_right, and_parts, and_from, eqb-true, eq-eqb, leb-true, le-leb}
-use Rattle.columnar_base.specs.Row.{Row, list, number, number_of, items_of, end_of, empty, row_eq}
-use Rattle.columnar_base.specs.RowLaws.{row_eq-is, is-row_eq, items_of-list, end_of-list}
+use Rattle.std.proofs.Common.{◌≡◌, ℕ, zero, suc, ◌+◌, ◌%◌, ◌^◌, ◌-◌, ◌<◌, ◌≤◌, Bool, true, false, ◌&&◌, ◌||◌, List, [], ◌∷◌, ◌++◌, length, take, drop, refl, sym, ◌∙◌, ap, arith, length-append, length-take, append_assoc, length-drop, append-nil}
+use Rattle.std.proofs.Math.Seq.{drop-append_seam, take-length}
+use Rattle.std.specs.Prelude.{slice_get, Some, nat_le}
+use Rattle.std.proofs.lemmas.List.{take-append-drop, take-append-le, map-append, length-map, take-map, drop-drop}
+use Rattle.std.proofs.lemmas.Bool.{or_right, and_parts, and_from, leb-true, le-leb}
+use Rattle.columnar_base.specs.Row.{Row, list, number, number_of, items_of, end_of, empty}
+use Rattle.columnar_base.specs.RowLaws.{is-row_eq, items_of-list, end_of-list}
 use Rattle.columnar_base.specs.Elements.{word_row}
 use Rattle.columnar_base.specs.FaultLaws.{nothing_left, nothing_both, nothing_moved, moved_nothing, unless_true, true_unless}
-use Rattle.columnar_base.specs.AlikeLaws.{alike_is, alike_length}
-use Rattle.columnar_base.specs.Format.{Format, Content, slice, both, part, plain, part_format, Fits, IsSound, IsLawful, IsStorable, IsSame, IsExact, lengths, slices_of, bytes_held, moved, unless, fault, Fault, all_alike, Excess, refuses_more}
-use Rattle.columnar_base.specs.Change.{Keeps, Grew, Stayed, WasCut, Took, Copied, Refused, IsTrueOf}
-use Rattle.columnar_base.specs.ChangeLaws.{grew_exactly, true_from, unchanged, keeps_all, undone}
+use Rattle.columnar_base.specs.AlikeLaws.{alike_length}
+use Rattle.columnar_base.specs.Format.{Format, Content, slice, both, part, plain, part_format, Fits, IsSound, IsLawful, IsStorable, lengths, slices_of, moved, unless, fault, Excess, refuses_more}
+use Rattle.columnar_base.specs.Change.{Keeps, Grew, Stayed, WasCut, Took, Copied, Refused}
+use Rattle.columnar_base.specs.ChangeLaws.{grew_exactly, true_from}
 use Rattle.columnar_base.specs.TwoParts.{TwoParts, two_sized, two_counted, two_slices}
 use Rattle.columnar_base.specs.declared.fault.GrowError.{GrowError}
 use Rattle.columnar_core.specs.Bounds.{rises, numbers, IsBounds}
-use Rattle.columnar_lists.specs.Lists.{lists_format, lists_broken, lists_rows, lists_extent, lists_refuses, list_alike, joined, cut, last_or, end_at, ends, shifted}
-use Rattle.columnar_lists.specs.CutLaws.{rises-last, rises-from, rises-append, rises-take, rises-drop, last-take, length-cut, cut-take, cut-drop, cut-append, cut-more, are_lists, cut_lists, joined-cut, joined-append, ends-append, ends_rise, cut_alike, cut_exactly, lists_same, ends_cut, rises-range, cut-range, shifted-range, rises_get, last_at, number_get, bound_between}
+use Rattle.columnar_lists.specs.Lists.{lists_format, lists_rows, lists_refuses, joined, cut, last_or, end_at, ends, shifted}
+use Rattle.columnar_lists.specs.CutLaws.{rises-last, rises-from, rises-append, rises-take, last-take, length-cut, cut-take, cut-append, cut-more, are_lists, cut_lists, joined-cut, joined-append, ends-append, ends_rise, cut_alike, cut_exactly, lists_same, ends_cut, rises-range, cut-range, shifted-range, rises_get, last_at, number_get, bound_between}
 
 -- what the soundness of lists is made of
 pub record SoundLists (b t : Format) (x y : Content) : Type 0 where
@@ -91,8 +91,8 @@ either false false c d p q h = cc
 lists_more : (b t : Format) → IsLawful b → IsLawful t → (e : Excess) (c : Content) (n : ℕ) (rs ss : List Row) → lists_refuses b t e c n rs ≡ true → lists_refuses b t e c n (rs ++ ss) ≡ true
 lists_more b t lb lt e (both x y) n rs ss h =
     either (b.refuses e x n (ends (end_at b x n) rs)) (t.refuses e y (end_at b x n) (joined rs)) (b.refuses e x n (ends (end_at b x n) (rs ++ ss))) (t.refuses e y (end_at b x n) (joined (rs ++ ss)))
-      (λ k. rw (ends-append (end_at b x n) rs ss) (lb.more e x n (ends (end_at b x n) rs) (ends (end_at b x n + length (joined rs)) ss) k))
-      (λ k. rw (joined-append rs ss) (lt.more e y (end_at b x n) (joined rs) (joined ss) k)) h
+    (λ k. rw (ends-append (end_at b x n) rs ss) (lb.more e x n (ends (end_at b x n) rs) (ends (end_at b x n + length (joined rs)) ss) k))
+    (λ k. rw (joined-append rs ss) (lt.more e y (end_at b x n) (joined rs) (joined ss) k)) h
 lists_more b t lb lt e (slice bs) n rs ss h = cc
 lists_more b t lb lt e (part l u x) n rs ss h = cc
 lists_more b t lb lt e (plain us) n rs ss h = cc
@@ -136,15 +136,15 @@ lists_kept b t {x} {x'} {y} {y'} ms p e g h =
     let c : length (cut 0 (numbers (b.rows x)) (t.rows y)) ≡ length (numbers (b.rows x)) = length-cut 0 (numbers (b.rows x)) (t.rows y) in
     record {
       extents = λ m l.
-        let i : take m (numbers (b.rows x')) ≡ take m (numbers (b.rows x)) = rw e (take-append-le m (numbers (b.rows x)) ms (omega arith)) in
-        let u = g.extents m (omega arith) in
-        let v = h.extents (last_or 0 (take m (numbers (b.rows x)))) (last-take m 0 (numbers (b.rows x)) (length (t.rows y)) p.rise) in
-        cc;
+          let i : take m (numbers (b.rows x')) ≡ take m (numbers (b.rows x)) = rw e (take-append-le m (numbers (b.rows x)) ms (omega arith)) in
+          let u = g.extents m (omega arith) in
+          let v = h.extents (last_or 0 (take m (numbers (b.rows x)))) (last-take m 0 (numbers (b.rows x)) (length (t.rows y)) p.rise) in
+          cc;
       limits = λ m l f rs.
-        let i : take m (numbers (b.rows x')) ≡ take m (numbers (b.rows x)) = rw e (take-append-le m (numbers (b.rows x)) ms (omega arith)) in
-        let u = g.limits m (omega arith) f (ends (last_or 0 (take m (numbers (b.rows x)))) rs) in
-        let v = h.limits (last_or 0 (take m (numbers (b.rows x)))) (last-take m 0 (numbers (b.rows x)) (length (t.rows y)) p.rise) f (joined rs) in
-        rw (i, u, v) refl;
+          let i : take m (numbers (b.rows x')) ≡ take m (numbers (b.rows x)) = rw e (take-append-le m (numbers (b.rows x)) ms (omega arith)) in
+          let u = g.limits m (omega arith) f (ends (last_or 0 (take m (numbers (b.rows x)))) rs) in
+          let v = h.limits (last_or 0 (take m (numbers (b.rows x)))) (last-take m 0 (numbers (b.rows x)) (length (t.rows y)) p.rise) f (joined rs) in
+          rw (i, u, v) refl;
     }
 
 pub lists_stayed : (b t : Format) {x x' y y' : Content} → IsSound (lists_format b t) (both x y) → Stayed b x x' → Stayed t y y' → Stayed (lists_format b t) (both x y) (both x' y')
@@ -167,9 +167,9 @@ lists_grew b t {x} {x'} {y} {y'} {us} rs s n g h =
     record {
       sound = lists_sound b t (record { bounds = h.sound; values = g.sound; rise = rw e (rises-append 0 (numbers (b.rows x)) (numbers (ends (length (t.rows y)) rs)) (length (t.rows y)) (length (t.rows y')) p.rise (ends_rise (length (t.rows y)) rs (length (t.rows y')) longer)) });
       rows =
-        let c1 = cut-append 0 (numbers (b.rows x)) (numbers (ends (length (t.rows y)) rs)) (t.rows y') in
-        let c2 : cut 0 (numbers (b.rows x)) (t.rows y') ≡ cut 0 (numbers (b.rows x)) (t.rows y) = rw g.rows (cut-more 0 (numbers (b.rows x)) (t.rows y) us p.rise) in
-        ap (λ ms. cut 0 ms (t.rows y')) e ∙ (c1 ∙ (rw (last, c2) refl));
+          let c1 = cut-append 0 (numbers (b.rows x)) (numbers (ends (length (t.rows y)) rs)) (t.rows y') in
+          let c2 : cut 0 (numbers (b.rows x)) (t.rows y') ≡ cut 0 (numbers (b.rows x)) (t.rows y) = rw g.rows (cut-more 0 (numbers (b.rows x)) (t.rows y) us p.rise) in
+          ap (λ ms. cut 0 ms (t.rows y')) e ∙ (c1 ∙ (rw (last, c2) refl));
       kept = lists_kept b t (numbers (ends (length (t.rows y)) rs)) p e h.kept g.kept;
     }
 
@@ -194,11 +194,11 @@ lists_took b t {x} {x'} {y} {y'} rs nb s l g h =
       grew = k;
       alike = cut_alike t.alike (length (t.rows y)) (t.rows y') rs l (rw d g.alike);
       adds = λ e ss r.
-        rw (lists_refuse_more b t e p (rs ++ ss)) (
+          rw (lists_refuse_more b t e p (rs ++ ss)) (
           either (refuses_more b e x' (ends (length (t.rows y')) ss)) (refuses_more t e y' (joined ss)) (refuses_more b e x (ends (length (t.rows y)) (rs ++ ss))) (refuses_more t e y (joined (rs ++ ss)))
-            (λ v. rw (ends-append (length (t.rows y)) rs ss, ← longer) (h.adds e (ends (length (t.rows y')) ss) v))
-            (λ v. rw (joined-append rs ss) (g.adds e (joined ss) v))
-            (rw (lists_refuse_more b t e q ss) at r));
+          (λ v. rw (ends-append (length (t.rows y)) rs ss, ← longer) (h.adds e (ends (length (t.rows y')) ss) v))
+          (λ v. rw (joined-append rs ss) (g.adds e (joined ss) v))
+          (rw (lists_refuse_more b t e q ss) at r));
     }
 
 -- the values refused the items, and the bounds stayed
@@ -232,28 +232,28 @@ lists_cut b t {x} {x'} {y} {y'} {n} s g h =
     record {
       sound = lists_sound b t (record { bounds = g.sound; values = h.sound; rise = rw (e, k) r });
       rows =
-        let whole : take (last_or 0 (take n (numbers (b.rows x)))) (t.rows y) ++ drop (last_or 0 (take n (numbers (b.rows x)))) (t.rows y) ≡ t.rows y = take-append-drop (last_or 0 (take n (numbers (b.rows x)))) (t.rows y) in
-        let len : length (take (last_or 0 (take n (numbers (b.rows x)))) (t.rows y)) ≡ last_or 0 (take n (numbers (b.rows x))) = ap length (sym h.rows) ∙ k in
-        let c1 : cut 0 (take n (numbers (b.rows x))) (t.rows y) ≡ cut 0 (take n (numbers (b.rows x))) (take (last_or 0 (take n (numbers (b.rows x)))) (t.rows y)) =
+          let whole : take (last_or 0 (take n (numbers (b.rows x)))) (t.rows y) ++ drop (last_or 0 (take n (numbers (b.rows x)))) (t.rows y) ≡ t.rows y = take-append-drop (last_or 0 (take n (numbers (b.rows x)))) (t.rows y) in
+          let len : length (take (last_or 0 (take n (numbers (b.rows x)))) (t.rows y)) ≡ last_or 0 (take n (numbers (b.rows x))) = ap length (sym h.rows) ∙ k in
+          let c1 : cut 0 (take n (numbers (b.rows x))) (t.rows y) ≡ cut 0 (take n (numbers (b.rows x))) (take (last_or 0 (take n (numbers (b.rows x)))) (t.rows y)) =
           ap (cut 0 (take n (numbers (b.rows x)))) (sym whole) ∙ cut-more 0 (take n (numbers (b.rows x))) (take (last_or 0 (take n (numbers (b.rows x)))) (t.rows y)) (drop (last_or 0 (take n (numbers (b.rows x)))) (t.rows y)) (rw len r) in
-        let c2 = cut-take n 0 (numbers (b.rows x)) (t.rows y) in
-        rw (e, h.rows) (sym c1 ∙ c2);
+          let c2 = cut-take n 0 (numbers (b.rows x)) (t.rows y) in
+          rw (e, h.rows) (sym c1 ∙ c2);
       lengths_cut = let u = g.lengths_cut in let v = h.lengths_cut in cc;
       kept = record {
         extents = λ m l.
-          let i : take m (take n (numbers (b.rows x))) ≡ take m (numbers (b.rows x)) = take_twice m n (numbers (b.rows x)) l in
-          let j : take m (numbers (b.rows x')) ≡ take m (numbers (b.rows x)) = rw e i in
-          let u = g.kept.extents m l in
-          let below = last-take m 0 (take n (numbers (b.rows x))) (last_or 0 (take n (numbers (b.rows x)))) r in
-          let v = h.kept.extents (last_or 0 (take m (numbers (b.rows x)))) (rw i at below) in
-          cc;
+            let i : take m (take n (numbers (b.rows x))) ≡ take m (numbers (b.rows x)) = take_twice m n (numbers (b.rows x)) l in
+            let j : take m (numbers (b.rows x')) ≡ take m (numbers (b.rows x)) = rw e i in
+            let u = g.kept.extents m l in
+            let below = last-take m 0 (take n (numbers (b.rows x))) (last_or 0 (take n (numbers (b.rows x)))) r in
+            let v = h.kept.extents (last_or 0 (take m (numbers (b.rows x)))) (rw i at below) in
+            cc;
         limits = λ m l f rs.
-          let i : take m (take n (numbers (b.rows x))) ≡ take m (numbers (b.rows x)) = take_twice m n (numbers (b.rows x)) l in
-          let j : take m (numbers (b.rows x')) ≡ take m (numbers (b.rows x)) = rw e i in
-          let u = g.kept.limits m l f (ends (last_or 0 (take m (numbers (b.rows x)))) rs) in
-          let below = last-take m 0 (take n (numbers (b.rows x))) (last_or 0 (take n (numbers (b.rows x)))) r in
-          let v = h.kept.limits (last_or 0 (take m (numbers (b.rows x)))) (rw i at below) f (joined rs) in
-          rw (j, u, v) refl;
+            let i : take m (take n (numbers (b.rows x))) ≡ take m (numbers (b.rows x)) = take_twice m n (numbers (b.rows x)) l in
+            let j : take m (numbers (b.rows x')) ≡ take m (numbers (b.rows x)) = rw e i in
+            let u = g.kept.limits m l f (ends (last_or 0 (take m (numbers (b.rows x)))) rs) in
+            let below = last-take m 0 (take n (numbers (b.rows x))) (last_or 0 (take n (numbers (b.rows x)))) r in
+            let v = h.kept.limits (last_or 0 (take m (numbers (b.rows x)))) (rw i at below) f (joined rs) in
+            rw (j, u, v) refl;
       };
     }
 

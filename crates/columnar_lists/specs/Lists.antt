@@ -1,5 +1,5 @@
 -- Columns of lists: the items of all lists one after another, and where each list ends.
-use Rattle.std.specs.Prelude.{ℕ, Bool, true, false, List, [], ◌∷◌, ◌++◌, length, ◌≡◌, ◌≤◌, ◌+◌, ◌-◌, take, drop, ◌&&◌, ◌||◌, map}
+use Rattle.std.specs.Prelude.{ℕ, Bool, false, List, [], ◌∷◌, ◌++◌, length, ◌+◌, ◌-◌, take, drop, ◌&&◌, ◌||◌, map}
 use Rattle.columnar_base.specs.Row.{Row, list, number, items_of, end_of, row_eq}
 use Rattle.columnar_base.specs.Format.{Format, Content, slice, both, part, plain, Fault, fault, moved, unless, misfit, all_alike, Excess}
 use Rattle.columnar_core.specs.Bounds.{numbers, rises}

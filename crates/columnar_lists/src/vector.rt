@@ -13,7 +13,9 @@ use columnar_base::tally::Tally;
 use columnar_base::traits::{Clear, Column, Index, Item, Len, Push};
 use columnar_core::byte_slice::ByteSlice;
 use columnar_core::bytes::{AsBytes, Check, FromBytes, Stored};
-use columnar_core::container::{Borrow, Container, ContainerBytes, ExtendFrom, Named, Reborrow, Storage};
+use columnar_core::container::{
+    Borrow, Container, ContainerBytes, ExtendFrom, Named, Reborrow, Storage,
+};
 use columnar_core::offsets::{Offsets, StoredOffsets};
 use columnar_core::store::DecodedStore;
 use std::alloc::Global;
@@ -35,14 +37,17 @@ fn start_of<BC: Offsets>(bounds: &BC, index: usize) -> u64
     requires in_range { index ≤ length (BC.format.rows (BC.content bounds.now)) }
     ensures { slice_get (0 ∷ numbers (BC.format.rows (BC.content bounds.now))) index ≡ Some result }
 {
-    if index == 0 { 0 } else { bounds.offset(index - 1) }
+    if index == 0 {
+        0
+    } else {
+        bounds.offset(index - 1)
+    }
 }
 
 impl<TC: Column, BC: Column> Column for Vecs<TC, BC> {
     ghost format = { lists_format BC.format TC.format };
 
     ghost content = { λ v. both (BC.content v.bounds) (TC.content v.values) };
-
 }
 
 impl<TC: Len, BC: Len> Len for Vecs<TC, BC> {
@@ -72,10 +77,13 @@ impl<TC: Clear, BC: Clear> Clear for Vecs<TC, BC> {
     }
 }
 
-impl<V: Index + Copy, TC: ExtendFrom<V>, BC: Storage + Offsets + Push<u64>> Push<Slice<V>> for Vecs<TC, BC> {
+impl<V: Index + Copy, TC: ExtendFrom<V>, BC: Offsets + Push<u64>> Push<Slice<V>> for Vecs<TC, BC> {
     fn push(&mut self, item: Slice<V>) -> Result<(), GrowError> {
         let before = self.values.len();
-        match self.values.extend_from_self(item.slice, item.lower..item.upper) {
+        match self
+            .values
+            .extend_from_self(item.slice, item.lower..item.upper)
+        {
             Ok(()) => {}
             Err(error) => return Err(error),
         }
@@ -151,7 +159,13 @@ impl<'a, TC: Borrow<'a>, BC: Borrow<'a, Borrowed: Offsets>> Borrow<'a> for Vecs<
 }
 
 // Pushes bounds of a view, those of the range, each moved from `lower` to `start`; or none of them.
-fn push_shifted<W: Offsets, BC: Storage + Push<u64>>(bounds: &mut BC, view: &W, range: Range<usize>, lower: u64, start: usize) -> Result<(), GrowError>
+fn push_shifted<W: Offsets, BC: Storage + Push<u64>>(
+    bounds: &mut BC,
+    view: &W,
+    range: Range<usize>,
+    lower: u64,
+    start: usize,
+) -> Result<(), GrowError>
     requires sound { IsSound BC.format (BC.content bounds.old) }
     requires view_sound { IsSound W.format (W.content view.now) }
     requires ordered { range.start ≤ range.«end» }
@@ -174,7 +188,12 @@ fn push_shifted<W: Offsets, BC: Storage + Push<u64>>(bounds: &mut BC, view: &W, 
     Ok(())
 }
 
-impl<V: Index + Copy, W: Index + Offsets + Copy, TC: ExtendFrom<V>, BC: ExtendFrom<W> + Offsets + Push<u64>> ExtendFrom<Vecs<V, W>> for Vecs<TC, BC> {
+impl<
+    V: Index + Copy,
+    W: Index + Offsets + Copy,
+    TC: ExtendFrom<V>,
+    BC: ExtendFrom<W> + Offsets + Push<u64>,
+> ExtendFrom<Vecs<V, W>> for Vecs<TC, BC> {
     fn add_room(room: (BC::Room, TC::Room), view: Vecs<V, W>) -> (BC::Room, TC::Room) {
         (
             BC::add_room(room.0, view.bounds),
@@ -186,10 +205,14 @@ impl<V: Index + Copy, W: Index + Offsets + Copy, TC: ExtendFrom<V>, BC: ExtendFr
         let before = self.values.len();
         let lower = start_of(&view.bounds, range.start);
         let upper = start_of(&view.bounds, range.end);
-        match self.values.extend_from_self(view.values, lower as usize..upper as usize) {
+        match self
+            .values
+            .extend_from_self(view.values, lower as usize..upper as usize)
+        {
             Ok(()) => {}
             Err(error) => return Err(error),
         }
+        // All values have a number of 64 bits, so the moved bounds do.
         let _end = self.values.len();
         match push_shifted(&mut self.bounds, &view.bounds, range, lower, before) {
             Ok(()) => Ok(()),
@@ -201,7 +224,11 @@ impl<V: Index + Copy, W: Index + Offsets + Copy, TC: ExtendFrom<V>, BC: ExtendFr
     }
 }
 
-impl<'a, TC: Container<'a>, BC: Container<'a> + Borrow<'a, Borrowed: Offsets> + Offsets + Push<u64>> Container<'a> for Vecs<TC, BC> {}
+impl<
+    'a,
+    TC: Container<'a>,
+    BC: Container<'a> + Borrow<'a, Borrowed: Offsets> + Offsets + Push<u64>,
+> Container<'a> for Vecs<TC, BC> {}
 
 impl<'b, TC: Reborrow<'b>, BC: Reborrow<'b>> Reborrow<'b> for Vecs<TC, BC> {
     type Short = Vecs<TC::Short, BC::Short>;
@@ -241,7 +268,11 @@ impl<TC: Stored, BC: StoredOffsets> Stored for Vecs<TC, BC> {
         }
     }
 
-    fn judge_tallied<L>(store: &DecodedStore<'_>, offset: usize, tally: &mut Tally<L>) -> Result<(), StoreFault> {
+    fn judge_tallied<L>(
+        store: &DecodedStore<'_>,
+        offset: usize,
+        tally: &mut Tally<L>,
+    ) -> Result<(), StoreFault> {
         match BC::judge_tallied(store, offset, tally) {
             Ok(()) => {}
             Err(fault) => return Err(fault),
@@ -270,7 +301,10 @@ impl<TC: Check + Len, BC: Check + StoredOffsets + Offsets> Check for Vecs<TC, BC
             Ok(()) => {}
             Err(fault) => return Err(fault),
         }
-        match self.values.check_from_tallied(from + BC::slice_count(), tally) {
+        match self
+            .values
+            .check_from_tallied(from + BC::slice_count(), tally)
+        {
             Ok(()) => {}
             Err(fault) => return Err(fault),
         }
@@ -283,7 +317,8 @@ impl<TC: Check + Len, BC: Check + StoredOffsets + Offsets> Check for Vecs<TC, BC
     }
 }
 
-impl<'s, TC: FromBytes<'s> + Len, BC: FromBytes<'s> + StoredOffsets + Offsets> FromBytes<'s> for Vecs<TC, BC> {
+impl<'s, TC: FromBytes<'s> + Len, BC: FromBytes<'s> + StoredOffsets + Offsets> FromBytes<'s>
+    for Vecs<TC, BC> {
     fn from_store(store: &DecodedStore<'s>, offset: &mut usize) -> Self {
         let bounds = BC::from_store(store, offset);
         let values = TC::from_store(store, offset);
@@ -302,7 +337,8 @@ impl<'s, TC: AsBytes<'s>, BC: AsBytes<'s> + StoredOffsets> AsBytes<'s> for Vecs<
     }
 }
 
-impl<TC: ContainerBytes, BC: ContainerBytes + Offsets + StoredOffsets + Drop> ContainerBytes for Vecs<TC, BC> {
+impl<TC: ContainerBytes, BC: ContainerBytes + Offsets + StoredOffsets + Drop> ContainerBytes
+    for Vecs<TC, BC> {
     fn byte_slice(&self, index: usize) -> ByteSlice<'_> {
         let first = BC::slice_count();
         if index < first {
@@ -345,7 +381,12 @@ mod tests {
     }
 
     // Pushes rows of a view as one row; false where they are not there, or where the push is refused.
-    fn pushed<V: Index + Copy, C: Push<Slice<V>>>(column: &mut C, view: V, lower: usize, upper: usize) -> bool
+    fn pushed<V: Index + Copy, C: Push<Slice<V>>>(
+        column: &mut C,
+        view: V,
+        lower: usize,
+        upper: usize,
+    ) -> bool
         requires sound { IsSound C.format (C.content column.old) }
         requires view_sound { IsSound V.format (V.content view) }
         ensures { IsSound C.format (C.content column.new) }
@@ -362,7 +403,12 @@ mod tests {
     }
 
     // Copies rows of a view behind those of a container; false where they are not there, or where the copy is refused.
-    fn copied<V: Index + Copy, C: ExtendFrom<V>>(column: &mut C, view: V, start: usize, end: usize) -> bool
+    fn copied<V: Index + Copy, C: ExtendFrom<V>>(
+        column: &mut C,
+        view: V,
+        start: usize,
+        end: usize,
+    ) -> bool
         requires sound { IsSound C.format (C.content column.old) }
         requires view_sound { IsSound V.format (V.content view) }
         ensures { IsSound C.format (C.content column.new) }
@@ -378,7 +424,11 @@ mod tests {
         requires { IsSound V.format (V.content view.now) }
         ensures { IfSome result V.Ref.valid }
     {
-        if index < view.len() { Some(view.get(index)) } else { None }
+        if index < view.len() {
+            Some(view.get(index))
+        } else {
+            None
+        }
     }
 
     #[test]
@@ -462,7 +512,10 @@ mod tests {
         assert!(rt; copied(&mut copy, nested.borrow(), 0, 2));
         assert_eq!(rt; count(&copy), 4);
         assert_eq!(rt; copy.bounds.as_slice(), [2, 3, 5, 6].as_slice());
-        assert_eq!(rt; copy.values.bounds.as_slice(), [0, 4, 6, 6, 10, 12].as_slice());
+        assert_eq!(rt;
+            copy.values.bounds.as_slice(),
+            [0, 4, 6, 6, 10, 12].as_slice()
+        );
         let list = row_at(&copy.borrow(), 1).expect(&rt, "row 1");
         let inner_list = row_at(&list, 0).expect(&rt, "row 0 of row 1");
         assert_eq!(rt; row_at(&inner_list, 1), Some(2));

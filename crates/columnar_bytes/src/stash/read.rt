@@ -52,6 +52,7 @@ impl<C: ContainerBytes, B: ByteStore> Stash<C, B> {
         ensures fault { IfErr result (IsFirstFault C.format (B.bytes store)) }
         ensures variant { IfOk result (λ s. variant_of s ≡ bytes) }
         ensures bytes { IfOk result (λ s. HoldsBytes s (B.bytes store)) }
+        ensures sound { IfOk result (λ s. IsSound C.format (stash_content s)) }
     {
         match validate::<C>(store.as_slice()) {
             Ok(()) => {}
@@ -68,7 +69,8 @@ impl<C: ContainerBytes, B: ByteStore> Stash<C, B> {
     pub fn borrow<'a>(&'a self) -> <C as Borrow<'a>>::Borrowed
     where
         C: Borrow<'a, Borrowed: FromBytes<'a>>,
-        ensures { C.Borrowed.content result ≡ stash_content self.now }
+        ensures content { C.Borrowed.content result ≡ stash_content self.now }
+        ensures sound { IsSound C.format (stash_content self.now) → IsSound C.Borrowed.format (C.Borrowed.content result) }
     {
         match self {
             Stash::Typed(column) => column.borrow(),

@@ -1,4 +1,4 @@
-use Rattle.std.proofs.Common.{◌≡◌, ◌+◌, ◌-◌, ◌<◌, ◌≤◌, ◌∙◌, length, arith, refl}
+use Rattle.std.proofs.Common.{◌-◌, arith, refl}
 use Rattle.columnar_base.specs.Format.{slices_of}
 use Rattle.columnar_base.specs.TwoParts.{representable_left, representable_right, flat_left, flat_right}
 use Rattle.columnar_core.specs.Slices.{bytes_in}

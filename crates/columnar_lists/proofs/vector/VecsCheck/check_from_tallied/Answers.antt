@@ -1,4 +1,4 @@
-use Rattle.std.proofs.Common.{◌≡◌, ◌+◌, ◌≤◌, ◌∙◌, length, sym, arith}
+use Rattle.std.proofs.Common.{◌+◌, ◌∙◌, sym}
 use Rattle.columnar_base.specs.Faults.{fault_of}
 use Rattle.columnar_base.specs.FaultLaws.{sound_from}
 use Rattle.columnar_base.specs.TwoParts.{representable_left, representable_right, two_right, two_fine, two_own}

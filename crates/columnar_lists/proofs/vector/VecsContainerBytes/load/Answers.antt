@@ -1,4 +1,3 @@
-use Rattle.std.proofs.Common.{◌+◌}
 use Rattle.columnar_base.specs.TwoParts.{representable_left, representable_right}
 use Rattle.columnar_core.specs.Store.{slices_in}
 use Rattle.columnar_lists.specs.ListLaws.{lists_two, lists_fit_bounds, lists_fit_values}

@@ -1,6 +1,6 @@
-use Rattle.std.proofs.Common.{◌≡◌, ℕ, ◌+◌, ◌-◌, ◌<◌, ◌≤◌, ◌∙◌, length, take, drop, arith, length-append}
+use Rattle.std.proofs.Common.{◌≡◌, ◌+◌, ◌-◌, take, drop, arith, length-append}
 use Rattle.columnar_base.specs.ChangeLaws.{unchanged, undone}
-use Rattle.columnar_lists.specs.ListLaws.{RangeOf, range_of, range_held, range_length, range_copied, range_refused_values, range_refused_bounds, took_length, lists_parts, lists_within_le}
+use Rattle.columnar_lists.specs.ListLaws.{range_of, range_held, range_length, range_copied, range_refused_values, range_refused_bounds, took_length, lists_parts, lists_within_le}
 use Rattle.columnar_lists.proofs.vector.VecsExtendFrom.extend_from_self.Goals as goal
 
 pub len-before-requires : goal.len-before-requires

@@ -1,4 +1,4 @@
-use Rattle.std.proofs.Common.{◌≡◌, ◌<◌, ◌^◌, ◌%◌, arith, ap, length-append}
+use Rattle.std.proofs.Common.{arith, length-append}
 use Rattle.columnar_base.specs.ChangeLaws.{unchanged, undone}
 use Rattle.columnar_lists.specs.ListLaws.{lists_parts, piece_parts, list_took, list_refused_values, list_refused_bounds, word_end}
 use Rattle.columnar_lists.proofs.vector.VecsPushSlice.push.Goals as goal

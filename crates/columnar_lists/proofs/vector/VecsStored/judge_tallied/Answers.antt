@@ -1,4 +1,4 @@
-use Rattle.std.proofs.Common.{◌≡◌, ◌+◌, ◌≤◌, ◌∙◌, length, sym, arith}
+use Rattle.std.proofs.Common.{◌+◌, ◌∙◌, sym, arith}
 use Rattle.columnar_base.specs.Faults.{fault_of}
 use Rattle.columnar_base.specs.FaultLaws.{fits_from}
 use Rattle.columnar_base.specs.TwoParts.{representable_left, representable_right, two_right_at, two_fine_at, two_own_at}

@@ -1,7 +1,6 @@
 //! Columns in bytes.
 
-pub use columnar_bytes::indexed;
-pub use columnar_bytes::stash;
+pub use columnar_bytes::{indexed, stash};
 pub use columnar_core::byte_slice::ByteSlice;
 pub use columnar_core::bytes::ByteSlices;
 pub use columnar_core::writer::WriteBytes;

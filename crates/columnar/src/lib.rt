@@ -7,6 +7,8 @@ pub mod bytes;
 pub mod common;
 pub mod fault;
 pub mod primitive;
+#[cfg(test)]
+mod tests;
 pub mod vector;
 
 pub use columnar_core::bytes::{AsBytes, Check, FromBytes, Stored};
@@ -15,7 +17,5 @@ pub use columnar_core::container::{
 };
 pub use columnar_core::offsets::{Offsets, StoredOffsets};
 pub use columnar_core::slice::Slice;
-pub use columnar_core::traits::{
-    Clear, Column, CopyAs, Index, IndexAs, Item, Len, Push, PushRef,
-};
+pub use columnar_core::traits::{Clear, Column, CopyAs, Index, IndexAs, Item, Len, Push, PushRef};
 pub use columnar_lists::vector::Vecs;

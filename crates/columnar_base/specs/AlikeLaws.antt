@@ -1,4 +1,4 @@
-use Rattle.std.proofs.Common.{◌≡◌, ℕ, zero, suc, ◌+◌, ◌-◌, ◌<◌, ◌≤◌, Bool, true, false, ◌&&◌, List, [], ◌∷◌, ◌++◌, length, take, drop, refl, sym, ◌∙◌, ap, arith, append_assoc}
+use Rattle.std.proofs.Common.{◌≡◌, ℕ, zero, suc, Bool, true, ◌&&◌, List, [], ◌∷◌, ◌++◌, length, take, drop, refl, sym, ◌∙◌, ap}
 use Rattle.std.proofs.lemmas.Bool.{and_parts, and_from}
 use Rattle.columnar_base.specs.Row.{Row, row_eq}
 use Rattle.columnar_base.specs.RowLaws.{row_eq-refl, row_eq-is, is-row_eq}
@@ -74,9 +74,9 @@ same_both a b p q = record {
   reflexive = λ r. and_from _ _ (p.reflexive r) (q.reflexive r);
   symmetric = λ r s h. let u = and_parts (a r s) (b r s) h in and_from _ _ (p.symmetric r s u.0) (q.symmetric r s u.1);
   transitive = λ r s t h k.
-    let u = and_parts (a r s) (b r s) h in
-    let v = and_parts (a s t) (b s t) k in
-    and_from _ _ (p.transitive r s t u.0 v.0) (q.transitive r s t u.1 v.1);
+      let u = and_parts (a r s) (b r s) h in
+      let v = and_parts (a s t) (b s t) k in
+      and_from _ _ (p.transitive r s t u.0 v.0) (q.transitive r s t u.1 v.1);
 }
 
 pub alike_take : (same : Row → Row → Bool) (n : ℕ) (rs ss : List Row) → all_alike same rs ss ≡ true → all_alike same (take n rs) (take n ss) ≡ true

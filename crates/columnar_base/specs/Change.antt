@@ -1,5 +1,5 @@
 -- What growth, a refusal and a cut leave.
-use Rattle.std.specs.Prelude.{ℕ, Bool, true, false, List, [], ◌∷◌, ◌++◌, length, ◌≡◌, ◌≤◌, ◌<◌, ◌+◌, ◌-◌, ◌^◌, take}
+use Rattle.std.specs.Prelude.{ℕ, true, List, [], ◌++◌, length, ◌≡◌, ◌≤◌, ◌<◌, ◌+◌, take}
 use Rattle.columnar_base.specs.Row.{Row}
 use Rattle.columnar_base.specs.Format.{Format, Content, IsSound, lengths, all_alike, Excess, too_many, misplaced, refuses_more}
 use Rattle.columnar_base.specs.declared.fault.GrowError.{GrowError}

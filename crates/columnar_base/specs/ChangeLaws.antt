@@ -1,12 +1,12 @@
 use Rattle.std.specs.Prelude.{slice_get, Some}
-use Rattle.std.proofs.Common.{◌≡◌, ℕ, zero, suc, ◌+◌, ◌-◌, ◌<◌, ◌≤◌, Bool, true, false, ◌&&◌, List, [], ◌∷◌, ◌++◌, length, take, drop, refl, append-nil, sym, ◌∙◌, ap, arith, length-append, append_assoc}
+use Rattle.std.proofs.Common.{◌≡◌, ℕ, zero, suc, ◌+◌, ◌-◌, ◌<◌, ◌≤◌, true, List, [], ◌∷◌, ◌++◌, length, take, drop, refl, append-nil, sym, ◌∙◌, ap, arith, length-append, append_assoc}
 use Rattle.std.proofs.Math.Seq.{take-append_seam}
 use Rattle.columnar_base.specs.Row.{Row}
-use Rattle.columnar_base.specs.Format.{Format, Content, IsSound, IsLawful, IsSame, IsExact, lengths, all_alike, Excess, too_many, misplaced, refuses_more}
-use Rattle.columnar_base.specs.AlikeLaws.{alike_all, alike_is, all_alike-append}
+use Rattle.columnar_base.specs.Format.{Format, Content, IsSound, IsLawful, IsExact, Excess, too_many, misplaced, refuses_more}
+use Rattle.columnar_base.specs.AlikeLaws.{alike_is, all_alike-append}
 use Rattle.columnar_base.specs.declared.fault.GrowError.{GrowError}
 use Rattle.columnar_base.specs.declared.fault.GrowError.TheVariants.{Memory, Length, Offset, Format as FormatError}
-use Rattle.columnar_base.specs.Change.{Keeps, Grew, Stayed, WasCut, Took, Copied, IsTrueOf, Refused, StoppedAt}
+use Rattle.columnar_base.specs.Change.{Keeps, Grew, Stayed, WasCut, Took, IsTrueOf, Refused}
 
 pub keeps_all : {f : Format} {c : Content} {n : ℕ} → Keeps f c c n
 keeps_all = record { extents = λ n l. refl; limits = λ n l e rs. refl }
@@ -121,9 +121,9 @@ pub refused_more : {f : Format} {x y z : Content} {error : GrowError} (rs : List
 refused_more {f} {x} {y} {z} {error} rs from i to r law l m h t cause st = record {
   stayed = st;
   cause = true_from f f y x (r ∷ []) (take (to - from) (drop from rs)) error (λ e k.
-    let d = slice_get-drop from rs i (i - from) r (omega arith) h in
-    let g = take-suc_get (i - from) (drop from rs) r d in
-    let q = take-front (suc (i - from)) (to - from) (drop from rs) (omega arith) in
-    let w : take (to - from) (drop from rs) ≡ (take (i - from) (drop from rs) ++ r ∷ []) ++ q.0 = rw g at q.1 in
-    rw w (law.more e x (length (f.rows x)) (take (i - from) (drop from rs) ++ r ∷ []) q.0 (t.adds e (r ∷ []) k))) cause;
+      let d = slice_get-drop from rs i (i - from) r (omega arith) h in
+      let g = take-suc_get (i - from) (drop from rs) r d in
+      let q = take-front (suc (i - from)) (to - from) (drop from rs) (omega arith) in
+      let w : take (to - from) (drop from rs) ≡ (take (i - from) (drop from rs) ++ r ∷ []) ++ q.0 = rw g at q.1 in
+      rw w (law.more e x (length (f.rows x)) (take (i - from) (drop from rs) ++ r ∷ []) q.0 (t.adds e (r ∷ []) k))) cause;
 }

@@ -1,20 +1,19 @@
-use Rattle.std.proofs.Common.{◌≡◌, ℕ, zero, suc, ◌+◌, ◌-◌, ◌*◌, ◌/◌, ◌%◌, ◌^◌, ◌<◌, ◌≤◌, Bool, true, false, List, [], ◌∷◌, ◌++◌, length, take, drop, map, refl, sym, ◌∙◌, ap, arith, length-append, length-take, length-drop, append_assoc, get_or}
-use Rattle.std.specs.Prelude.{slice_get, Some, None, Option, nat_eq, nat_lt}
+use Rattle.std.proofs.Common.{◌≡◌, ℕ, zero, suc, ◌+◌, ◌-◌, ◌*◌, ◌/◌, ◌%◌, ◌^◌, ◌<◌, ◌≤◌, true, List, [], ◌∷◌, ◌++◌, length, take, drop, map, refl, sym, ◌∙◌, ap, arith, length-append, length-take}
+use Rattle.std.specs.Prelude.{slice_get, Some, None, nat_eq}
 use Rattle.std.specs.List.{flat_map}
 use Rattle.std.specs.Int.{to_le_bytes, from_le_bytes, w64}
 use Rattle.std.proofs.lemmas.Grind.{flat_map-append}
-use Rattle.std.proofs.lemmas.List.{append-nil, map-append, length-map, take-map, take-append-le, drop-drop}
+use Rattle.std.proofs.lemmas.List.{append-nil, map-append, length-map, take-map, drop-drop}
 use Rattle.std.proofs.lemmas.Bool.{eqb-true, eq-eqb, ltb-true, lt-ltb}
-use Rattle.std.proofs.Math.Seq.{take-append_seam, drop-append_seam, take-length}
+use Rattle.std.proofs.Math.Seq.{take-append_seam, drop-append_seam}
 use Rattle.std.proofs.lemmas.Option.{slice_get-map}
-use Rattle.std.proofs.lemmas.Nat.{from_le_bytes-to_le_bytes_8}
 use Rattle.std.proofs.Math.Nat.{mul-div_cancel_left, mul-mod_right, div-add-mod, mul-div-le, mul-le-mul_left}
 use Rattle.columnar_base.specs.Row.{Row, number, row_eq}
-use Rattle.columnar_base.specs.AlikeLaws.{row_eq_same, row_eq_exact, alike_all}
+use Rattle.columnar_base.specs.AlikeLaws.{row_eq_same, alike_all}
 use Rattle.columnar_base.specs.FaultLaws.{unless_true, true_unless}
-use Rattle.columnar_base.specs.Format.{Format, Content, slice, both, part, plain, IsSound, IsLawful, IsStorable, IsSame, Excess, too_many, misplaced, fault, unless, slices_of, lengths, refuses_more, first, moved}
-use Rattle.columnar_base.specs.Change.{Keeps, Grew, Stayed, WasCut, Took, Copied, IsTrueOf, Refused}
-use Rattle.columnar_base.specs.Elements.{pieces, past_count, elements_broken, elements_rows, elements_format, elements, first_slice, word_row, word_row_of, words_format}
+use Rattle.columnar_base.specs.Format.{Content, slice, both, part, plain, IsSound, IsLawful, IsStorable, Excess, too_many, misplaced, fault, slices_of, lengths, first, moved}
+use Rattle.columnar_base.specs.Change.{Keeps, Grew, WasCut, Took, Copied}
+use Rattle.columnar_base.specs.Elements.{pieces, past_count, elements_broken, elements_rows, elements_format, elements, first_slice, word_row, word_row_of}
 
 pub length-pieces : (size n : ℕ) (bs : List ℕ) → length (pieces size n bs) ≡ n
 length-pieces size zero bs = refl
@@ -150,9 +149,9 @@ elements_took {T} {size} {bytes} {row_of} {meaning} e xs ys = record {
   grew = elements_grew e xs ys;
   alike = alike_all row_eq row_eq_same (map meaning ys);
   adds = λ x rs h.
-    let a = length-typed e (xs ++ ys) in
-    let b = length-typed e xs in
-    past_more x (length (elements_rows size row_of (elements bytes (xs ++ ys))) + length rs) (length (elements_rows size row_of (elements bytes xs)) + length (map meaning ys ++ rs)) (omega (arith, a, b, length-append xs ys, length-append (map meaning ys) rs, length-map ys meaning)) h;
+      let a = length-typed e (xs ++ ys) in
+      let b = length-typed e xs in
+      past_more x (length (elements_rows size row_of (elements bytes (xs ++ ys))) + length rs) (length (elements_rows size row_of (elements bytes xs)) + length (map meaning ys ++ rs)) (omega (arith, a, b, length-append xs ys, length-append (map meaning ys) rs, length-map ys meaning)) h;
 }
 
 -- one element was pushed

@@ -1,7 +1,7 @@
 -- Columns of elements of one size, each in its little-endian bytes.
-use Rattle.std.specs.Prelude.{ℕ, zero, suc, Bool, true, false, List, [], ◌∷◌, ◌++◌, length, ◌≡◌, ◌≤◌, ◌+◌, ◌*◌, ◌/◌, ◌%◌, ◌^◌, ◌-◌, map, take, drop, nat_eq, nat_lt}
+use Rattle.std.specs.Prelude.{ℕ, zero, suc, Bool, false, List, [], ◌∷◌, length, ◌+◌, ◌*◌, ◌/◌, ◌%◌, ◌^◌, ◌-◌, map, take, drop, nat_eq, nat_lt}
 use Rattle.std.specs.List.{flat_map}
-use Rattle.std.specs.Int.{to_le_bytes, from_le_bytes, w64}
+use Rattle.std.specs.Int.{from_le_bytes, w64}
 use Rattle.columnar_base.specs.Row.{Row, number, row_eq}
 use Rattle.columnar_base.specs.Format.{Format, Content, slice, both, part, plain, Fault, fault, unless, misfit, Excess, too_many, misplaced}
 

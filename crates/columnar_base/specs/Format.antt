@@ -1,5 +1,5 @@
 -- How a column is read: its content, and the format that its type determines.
-use Rattle.std.specs.Prelude.{ℕ, Bool, true, false, List, [], ◌∷◌, ◌++◌, length, ◌≡◌, ◌≤◌, ◌<◌, ◌+◌, ◌-◌, ◌*◌, ◌^◌, take, drop, ◌&&◌, nat_le, nat_lt, map, sum, Option, Some, None, cond}
+use Rattle.std.specs.Prelude.{ℕ, Bool, true, false, List, [], ◌∷◌, ◌++◌, length, ◌≡◌, ◌≤◌, ◌+◌, ◌-◌, ◌^◌, take, drop, ◌&&◌, nat_le, nat_lt, map, Option, Some, None, cond}
 use Rattle.columnar_base.specs.Row.{Row}
 
 -- What a column holds: its byte slices, part by part. `part l u c` is the rows l..u of c, and `plain` has no bytes.

@@ -20,3 +20,5 @@ pub mod Views
 pub mod ViewLaws
 pub mod Tuples
 pub mod TupleLaws
+pub mod Rules
+pub mod LongTuples

@@ -1,5 +1,5 @@
 -- What a row is, whatever column holds it.
-use Rattle.std.specs.Prelude.{zero, suc, Option, Some, None, ℕ, ℤ, Bool, true, false, List, [], ◌∷◌, nat_eq, ◌&&◌}
+use Rattle.std.specs.Prelude.{ℕ, ℤ, Bool, true, false, List, [], ◌∷◌, nat_eq, ◌&&◌}
 use Rattle.std.specs.Ordering.{int_eq}
 
 -- A row of any type. A list of rows is `empty` or `more`; a tuple of three is a tuple of the first and the tuple of

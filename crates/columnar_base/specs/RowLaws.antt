@@ -1,9 +1,8 @@
-use Rattle.std.proofs.Common.{◌≡◌, ℕ, zero, suc, Bool, true, false, ◌&&◌, List, [], ◌∷◌, ◌++◌, length, refl, sym, ◌∙◌, ap, arith}
-use Rattle.std.specs.Prelude.{nat_eq, ℤ}
-use Rattle.std.specs.Ordering.{int_eq}
+use Rattle.std.proofs.Common.{◌≡◌, ℕ, Bool, true, false, List, [], ◌∷◌, refl, sym, ◌∙◌, ap}
+use Rattle.std.specs.Prelude.{nat_eq}
 use Rattle.std.proofs.lemmas.Bool.{and_parts, and_from, eqb-true, eq-eqb}
 use Rattle.std.proofs.lemmas.Bool.Decides.{Decides-int_eq}
-use Rattle.columnar_base.specs.Row.{Row, number, integer, character, truth, unit, duration, text, array, tuple, none, some, ok, err, empty, more, variant, solo, team, tree, list, number_of, first_of, second_of, bare_tuple, items_of, end_of, numbers_eq, truth_eq, row_eq}
+use Rattle.columnar_base.specs.Row.{Row, number, integer, character, truth, unit, duration, text, array, tuple, none, some, ok, err, empty, more, variant, solo, team, tree, list, first_of, second_of, bare_tuple, items_of, end_of, numbers_eq, truth_eq, row_eq}
 
 numbers_eq-refl : (xs : List ℕ) → numbers_eq xs xs ≡ true
 numbers_eq-refl [] = refl

@@ -76,7 +76,6 @@ two_fine_at {f} {a} {b} t ss o n m h = rw (two_built t ss o) (two_fine t (a.buil
 pub two_own_at : {f a b : Format} {test : Content → Content → Bool} {rule : ℕ} → TwoParts f a b test rule → (ss : List (List ℕ)) (o : ℕ) → None ≡ first (moved o (a.broken (a.build (drop o ss)))) → None ≡ first (moved (o + a.count) (b.broken (b.build (drop (o + a.count) ss)))) → test (a.build (drop o ss)) (b.build (drop (o + a.count) ss)) ≡ false → Some (fault rule o) ≡ first (moved o (f.broken (f.build (drop o ss))))
 two_own_at {f} {a} {b} t ss o n m h = rw (two_built t ss o) (two_own t (a.build (drop o ss)) (b.build (drop (o + a.count) ss)) o n m h)
 
-
 sizes_left : (xs ys : List ℕ) → are_sizes (xs ++ ys) ≡ true → are_sizes xs ≡ true
 sizes_left [] ys h = refl
 sizes_left (x ∷ xs) ys h =

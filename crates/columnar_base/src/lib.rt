@@ -10,5 +10,6 @@ pub mod storage;
 pub mod tally;
 pub mod traits;
 pub mod tuple;
+pub mod values;
 pub mod vector;
 pub mod view;

@@ -120,7 +120,11 @@ pub trait Index: Len {
         ensures valid { IfSome result Self.Ref.valid }
     {
         let count = self.len();
-        if count == 0 { None } else { Some(self.get(count - 1)) }
+        if count == 0 {
+            None
+        } else {
+            Some(self.get(count - 1))
+        }
     }
 }
 
@@ -162,7 +166,11 @@ pub trait IndexAs<T: Item>: Len {
         ensures valid { IfSome result T.valid }
     {
         let count = self.len();
-        if count == 0 { None } else { Some(self.index_as(count - 1)) }
+        if count == 0 {
+            None
+        } else {
+            Some(self.index_as(count - 1))
+        }
     }
 }
 

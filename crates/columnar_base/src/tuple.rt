@@ -11,17 +11,18 @@ use crate::storage::Storage;
 use crate::traits::{Clear, Column, Index, Item, Len, Push, PushRef};
 use std::alloc::Global;
 
+/// As a row, it is the tuple of the rows of its parts.
 impl<S: Item, T: Item> Item for (S, T) {
     ghost meaning = { λ p. tuple (S.meaning p.0) (T.meaning p.1) };
 
     ghost valid = { λ p. S.valid p.0 × T.valid p.1 };
 }
 
+/// The slices of the first part, and then those of the second; a row is the tuple of their rows.
 impl<A: Column, B: Column> Column for (A, B) {
     ghost format = { pair_format A.format B.format };
 
     ghost content = { λ c. both (A.content c.0) (B.content c.1) };
-
 }
 
 impl<A: Len, B: Len> Len for (A, B) {
@@ -90,6 +91,7 @@ impl<A: Storage, B: Storage> Storage for (A, B) {
     }
 }
 
+/// Each part takes its own of the item. Where one of them refuses it, neither has taken any.
 impl<S: Item, T: Item + Drop, A: Storage + Push<S>, B: Storage + Push<T>> Push<(S, T)> for (A, B) {
     fn push(&mut self, item: (S, T)) -> Result<(), GrowError> {
         let before = self.0.len();
@@ -108,7 +110,9 @@ impl<S: Item, T: Item + Drop, A: Storage + Push<S>, B: Storage + Push<T>> Push<(
     }
 }
 
-impl<'x, S: Item, T: Item, A: Storage + PushRef<S>, B: Storage + PushRef<T>> Push<&'x (S, T)> for (A, B) {
+/// The parts of the item are pushed by reference.
+impl<'x, S: Item, T: Item, A: Storage + PushRef<S>, B: Storage + PushRef<T>> Push<&'x (S, T)>
+    for (A, B) {
     fn push(&mut self, item: &'x (S, T)) -> Result<(), GrowError> {
         match self.push_ref(item) {
             Ok(()) => Ok(()),
@@ -117,7 +121,8 @@ impl<'x, S: Item, T: Item, A: Storage + PushRef<S>, B: Storage + PushRef<T>> Pus
     }
 }
 
-impl<S: Item, T: Item, A: Storage + PushRef<S>, B: Storage + PushRef<T>> PushRef<(S, T)> for (A, B) {
+impl<S: Item, T: Item, A: Storage + PushRef<S>, B: Storage + PushRef<T>> PushRef<(S, T)>
+    for (A, B) {
     fn push_ref(&mut self, item: &(S, T)) -> Result<(), GrowError> {
         let rows = self.0.len();
         match self.0.push_ref(&item.0) {

@@ -7,4 +7,9 @@ pub mod Written
 pub mod Accepted
 pub mod AcceptedLaws
 pub mod Stashes
+pub mod FramedContent
 pub mod StashLaws
+pub mod StashLends
+pub mod Machine
+pub mod States
+pub mod MachineLaws

@@ -7,7 +7,13 @@ use Rattle.columnar_core.specs.declared.traits.Column.{Ghosts as ColumnOf}
 use Rattle.columnar_bytes.specs.declared.stash.ByteStore.{Ghosts as BytesOf}
 use Rattle.columnar_bytes.specs.declared.stash.Checked.{Checked}
 use Rattle.columnar_bytes.specs.declared.stash.Stash.{Stash}
-use Rattle.columnar_bytes.specs.declared.stash.Stash.TheVariants.{Typed, Bytes}
+use Rattle.columnar_bytes.specs.declared.stash.Stash.TheVariants.{Typed, Bytes, Align}
+
+-- the variants of a stash
+pub data Variant : Type 0 where
+  typed : Variant
+  bytes : Variant
+  aligned : Variant
 
 -- the bytes that were accepted
 abbrev pub checked_bytes : {C B : Type 0} {column : ColumnOf C} {store : BytesOf B} → Checked C B column store → List ℕ
@@ -17,18 +23,22 @@ checked_bytes {C} {B} {column} {store} k = store.bytes k.store
 abbrev pub stash_content : {C B : Type 0} {column : ColumnOf C} {store : BytesOf B} → Stash C B column store → Content
 stash_content {C} {B} {column} {store} (Typed c) = column.content c
 stash_content {C} {B} {column} {store} (Bytes k) = column.format.build (framed_slices (checked_bytes k))
+stash_content {C} {B} {column} {store} (Align k) = column.format.build (framed_slices (checked_bytes k))
 
--- is it a column
-abbrev pub is_typed : {C B : Type 0} {column : ColumnOf C} {store : BytesOf B} → Stash C B column store → Bool
-is_typed (Typed c) = true
-is_typed (Bytes k) = false
+-- which variant it is
+abbrev pub variant_of : {C B : Type 0} {column : ColumnOf C} {store : BytesOf B} → Stash C B column store → Variant
+variant_of (Typed c) = typed
+variant_of (Bytes k) = bytes
+variant_of (Align k) = aligned
 
 -- it is bytes, and these
 abbrev pub HoldsBytes : {C B : Type 0} {column : ColumnOf C} {store : BytesOf B} → Stash C B column store → List ℕ → Type 0
 HoldsBytes (Typed c) bs = ⊥
 HoldsBytes (Bytes k) bs = checked_bytes k ≡ bs
+HoldsBytes (Align k) bs = checked_bytes k ≡ bs
 
 -- what a stash writes: the bytes of a column's words, or its bytes as they are
 abbrev pub written_bytes : {C B : Type 0} {column : ColumnOf C} {store : BytesOf B} → Stash C B column store → List ℕ
 written_bytes {C} {B} {column} {store} (Typed c) = store_bytes (slices_of (column.content c))
 written_bytes {C} {B} {column} {store} (Bytes k) = checked_bytes k
+written_bytes {C} {B} {column} {store} (Align k) = checked_bytes k

@@ -15,3 +15,8 @@ IsLeftBy old new slices (Writer e) = (8 * length (words slices) < 2 ^ 64) × App
 abbrev pub IsLeftOf : {E : Type 0} → Option (List ℕ) → Option (List ℕ) → List ℕ → WriteFault E → Type 0
 IsLeftOf old new bytes Length = (2 ^ 64 ≤ length bytes) × Keeps old new
 IsLeftOf old new bytes (Writer e) = AppendsBeginning old new bytes
+
+-- `Length` stands for bytes that can't be counted in 64 bits, `Writer` for a fault of the writer alone
+abbrev pub IsCause : {E : Type 0} → List (List ℕ) → WriteFault E → Type 0
+IsCause slices Length = 2 ^ 64 ≤ 8 * length (words slices)
+IsCause slices (Writer e) = 8 * length (words slices) < 2 ^ 64

@@ -21,6 +21,6 @@ pub use columnar_core::store::{Decode, DecodedStore};
 pub use decoding::{decode, decode_index};
 pub use encoding::encode;
 pub use lengths::{length_in_bytes, length_in_words};
-pub use structure::validate_structure;
-pub use validation::validate;
+pub use structure::{validate_structure, validate_structure_tallied};
+pub use validation::{validate, validate_tallied};
 pub use writing::write;

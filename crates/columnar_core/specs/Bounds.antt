@@ -1,5 +1,5 @@
 -- Columns of offsets, and the lists that they cut out of values.
-use Rattle.std.specs.Prelude.{ℕ, Bool, true, false, List, [], ◌∷◌, ◌≡◌, ◌≤◌, ◌-◌, ◌&&◌, nat_eq, nat_le, map}
+use Rattle.std.specs.Prelude.{ℕ, Bool, List, [], ◌∷◌, ◌≤◌, ◌&&◌, nat_eq, nat_le, map}
 use Rattle.columnar_base.specs.Row.{Row, number_of}
 use Rattle.columnar_base.specs.Format.{Format, IsExact}
 

@@ -14,6 +14,7 @@ pub mod Store
 pub mod Column
 pub mod ColumnLaws
 pub mod Bounds
+pub mod BoundLaws
 pub mod StoreLaws
 pub mod Appended
 pub use Rattle.columnar_base.specs.Row

@@ -1,8 +1,9 @@
 -- Slices of a store, by their number.
-use Rattle.std.proofs.Common.{◌≡◌, ℕ, zero, suc, ◌+◌, ◌/◌, ◌%◌, ◌<◌, ◌≤◌, List, [], ◌∷◌, length, drop, refl, sym, ◌∙◌, ap, arith}
-use Rattle.std.specs.Prelude.{slice_get, slice_index_or, Some, None}
+use Rattle.std.proofs.Common.{◌≡◌, ℕ, zero, suc, ◌+◌, ◌/◌, ◌<◌, ◌≤◌, List, [], ◌∷◌, length, drop, refl, sym, arith}
+use Rattle.std.specs.Prelude.{slice_index_or, min}
+use Rattle.std.proofs.Math.Seq.{drop-nil}
 use Rattle.columnar_base.specs.Row.{Row}
-use Rattle.columnar_base.specs.Format.{slice}
+use Rattle.columnar_base.specs.Format.{Format, slice, part_format}
 use Rattle.columnar_base.specs.Elements.{elements_rows, first_slice}
 use Rattle.columnar_base.specs.ElementLaws.{length-elements}
 use Rattle.columnar_core.specs.declared.store.DecodedStore.{DecodedStore}
@@ -19,3 +20,13 @@ first_at ss o bs l h = rw (drop_at ss o bs l h) refl
 
 pub length_at : (size : ℕ) (row_of : List ℕ → Row) (store : DecodedStore) (o : ℕ) (bs : List ℕ) → o + 1 ≤ length (slices_in store) → bs ≡ slice_index_or (slices_in store) o [] → length bs / size ≡ length (elements_rows size row_of (first_slice (drop o (slices_in store))))
 length_at size row_of store o bs l h = rw (first_at (slices_in store) o bs (omega arith) h) (sym (length-elements size row_of bs))
+
+-- ranges of the rows of equal formats
+pub same_part : {a b : Format} → a ≡ b → part_format a ≡ part_format b
+same_part p = rw p refl
+
+-- no slices are left from behind the end on, wherever that is
+pub left_from : {A : Type 0} (xs : List A) (i j : ℕ) → j ≡ min i (length xs) → drop j xs ≡ drop i xs
+left_from [] i j e = let z : j ≡ 0 = omega arith in rw z (sym (drop-nil i))
+left_from (x ∷ xs) zero j e = let z : j ≡ 0 = omega arith in rw z refl
+left_from (x ∷ xs) (suc i) j e = let z : j ≡ suc (min i (length xs)) = omega arith in rw z (left_from xs i (min i (length xs)) refl)

@@ -2,11 +2,11 @@
 ghost use Rattle.std.specs.Prelude.{◌≡◌, ℕ, ◌+◌, ◌*◌, ◌^◌, ◌<◌, ◌≤◌, ◌++◌, Some, IsTrue, slice_get, length, drop, OnOk, OnErr, IfErr};
 ghost use Rattle.columnar_base.specs.Format.{Format, Fits, IsSound, IsStorable, bytes_held, faults_at, first, moved, representable, slices_of};
 ghost use Rattle.columnar_base.specs.Faults.{verdict};
-ghost use Rattle.columnar_core.specs.Store.{slices_in};
+ghost use Rattle.columnar_core.specs.Store.{slices_in, slices_left};
 ghost use Rattle.columnar_core.specs.Slices.{bytes_in, alignment};
 
 use super::byte_slice::ByteSlice;
-use super::store::DecodedStore;
+use super::store::{Decode, DecodedStore};
 use columnar_base::fault::{GrowError, StoreFault};
 use columnar_base::tally::Tally;
 use columnar_base::traits::Column;
@@ -205,4 +205,19 @@ impl<'s, 'a, V: AsBytes<'a>> Iterator for ByteSlices<'s, 'a, V> {
         };
         (left, Some(left))
     }
+}
+
+/// The view of the next slices that `decode` gives, which moves past them. Asks that they are there; the view is well
+/// formed where `validate` accepts them.
+pub fn from_bytes<'a, V: FromBytes<'a>>(slices: &mut Decode<'a>) -> V
+    requires representable { IsTrue (representable V.format) }
+    requires room { V.format.count ≤ length (slices_left slices.old) }
+    ensures content { V.content result ≡ V.format.build (slices_left slices.old) }
+    ensures rest { slices_left slices.new ≡ drop V.format.count (slices_left slices.old) }
+{
+    let store = slices.store;
+    let mut index = slices.index.min(store.len());
+    let view = V::from_store(&store, &mut index);
+    slices.index = index;
+    view
 }

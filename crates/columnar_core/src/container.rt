@@ -1,7 +1,7 @@
 //! The traits of containers: columns that grow, are cut, and are borrowed as views.
 ghost use Rattle.std.specs.Prelude.{◌≡◌, ℕ, ◌+◌, ◌-◌, ◌<◌, ◌≤◌, length, List, [], ◌∷◌, take, drop, OnOk, OnErr, IfOk, IfErr, IsTrue, slice_get, Some};
 ghost use Rattle.std.specs.Iterator.{IsFinite};
-ghost use Rattle.columnar_base.specs.Row.{Row};
+ghost use Rattle.columnar_base.specs.Row.{Row, unit};
 ghost use Rattle.columnar_base.specs.Format.{Content, Format, Fits, IsSound, representable, slices_of};
 ghost use Rattle.columnar_core.specs.Store.{slices_in};
 ghost use Rattle.columnar_core.specs.Slices.{bytes_in};
@@ -14,6 +14,7 @@ use columnar_base::fault::GrowError;
 pub use columnar_base::storage::Storage;
 use columnar_base::traits::{Column, Index, Item, Len, Push};
 use std::alloc::Global;
+use std::marker::PhantomData;
 use std::ops::Range;
 
 /// A column that copies ranges of rows out of views of type `V`.
@@ -88,6 +89,18 @@ pub trait Borrow<'a>: Len + Clone {
         ensures { Self.Borrowed.content result ≡ Self.content self.now };
 
     ghost same_format: { Self.Borrowed.format ≡ Self.format };
+}
+
+/// Names two types of items, for `Parts` of a column of two parts. Nothing reads a value of it.
+pub struct Named<A, B> {
+    first: PhantomData<A>,
+    second: PhantomData<B>,
+}
+
+impl<A: Item, B: Item> Item for Named<A, B> {
+    ghost meaning = { λ n. unit };
+
+    ghost valid = { λ n. Unit {0} };
 }
 
 /// A view that can be shortened to the lifetime `'b`; nothing else changes.

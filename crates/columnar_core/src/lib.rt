@@ -6,10 +6,14 @@ pub mod byte_slice;
 pub mod bytes;
 pub mod container;
 pub mod offsets;
+pub mod owned;
+pub mod slice;
 pub mod store;
 pub mod tuple;
+pub mod values;
 pub mod vector;
 pub mod viewed;
+pub mod words;
 pub mod writer;
 
-pub use columnar_base::{element, fault, slice, tally, traits, view};
+pub use columnar_base::{element, fault, tally, traits, view};

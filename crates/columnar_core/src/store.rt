@@ -68,8 +68,8 @@ impl<'a> DecodedStore<'a> {
 /// The slices of a store, in order.
 #[derive(Clone, Copy)]
 pub struct Decode<'a> {
-    store: DecodedStore<'a>,
-    index: usize,
+    pub(crate) store: DecodedStore<'a>,
+    pub(crate) index: usize,
 }
 
 impl<'a> Decode<'a> {

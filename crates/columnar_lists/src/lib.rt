@@ -1,2 +1,4 @@
-//! Under construction.
+//! Columns of lists: the items of all lists one after another, and where each list ends.
 #![tactic(auto)]
+
+pub mod vector;

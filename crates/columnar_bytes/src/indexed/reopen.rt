@@ -1,9 +1,10 @@
 //! Columns that are written and opened again.
-ghost use Rattle.std.specs.Prelude.{ℕ, [], ◌≡◌, slice_index_or, true, IsTrue, IfOk};
+ghost use Rattle.std.specs.Prelude.{ℕ, [], ◌≡◌, ◌≤◌, ◌*◌, ◌^◌, ◌↔◌, length, slice_index_or, true, Err, IsTrue, IfOk, IfErr};
 ghost use Rattle.columnar_core.specs.Format.{representable, slices_of};
 ghost use Rattle.columnar_core.specs.Bytes.{AreBytes};
 ghost use Rattle.columnar_core.specs.Frame.{IsStore, framed_slices};
-ghost use Rattle.columnar_core.specs.Words.{store_bytes};
+ghost use Rattle.columnar_core.specs.Words.{words, store_bytes};
+ghost use Rattle.columnar_bytes.specs.Written.{IsCause};
 
 use super::encoding::encode;
 use super::slices::{byte_slice, slice_count};
@@ -35,6 +36,7 @@ pub fn written<'a, S: AsBytes<'a>>(
     ensures bytes { IfOk result (λ v. v.items ≡ store_bytes (slices_of (S.content item.now))) }
     ensures store { IfOk result (λ v. IsStore v.items) }
     ensures slices { IfOk result (λ v. framed_slices v.items ≡ slices_of (S.content item.now)) }
+    ensures err { IfErr result (IsCause (slices_of (S.content item.now))) }
 {
     let mut bytes = Vec::new(alloc);
     match write(&mut bytes, item) {
@@ -50,6 +52,7 @@ pub fn encoded<'a, S: AsBytes<'a>>(alloc: Global, item: &S) -> Result<Vec<u8>, E
     ensures bytes { IfOk result (λ v. v.items ≡ store_bytes (slices_of (S.content item.now))) }
     ensures store { IfOk result (λ v. IsStore v.items) }
     ensures slices { IfOk result (λ v. framed_slices v.items ≡ slices_of (S.content item.now)) }
+    ensures length { (result ≡ Err EncodeError.Length) ↔ (2 ^ 64 ≤ 8 * length (words (slices_of (S.content item.now)))) }
 {
     holds_bytes(item);
     let mut words = Vec::new(alloc);
@@ -70,7 +73,8 @@ pub fn is_legal_once_written<'a, S: AsBytes<'a>>(
     item: &S,
 ) -> Result<bool, WriteFault<io::Error>>
     requires { IsTrue (representable S.format) }
-    ensures { IfOk result (λ legal. legal ≡ true) }
+    ensures ok { IfOk result (λ legal. legal ≡ true) }
+    ensures err { IfErr result (IsCause (slices_of (S.content item.now))) }
 {
     let bytes = written(alloc, item)?;
     Ok(validate_structure(&bytes, slice_count(item)).is_ok())

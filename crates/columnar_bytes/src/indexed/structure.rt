@@ -1,19 +1,39 @@
 //! The structure of a store.
-ghost use Rattle.std.specs.Prelude.{◌≡◌, ◌↔◌, length, IsOk, IfErr, OnOk};
+ghost use Rattle.std.specs.Prelude.{◌≡◌, ◌+◌, ◌≤◌, ◌↔◌, length, IsOk, IfErr, OnOk};
 ghost use Rattle.columnar_core.specs.Frame.{IsLegal, IsStore, framed_slices};
 ghost use Rattle.columnar_bytes.specs.Faults.{IsFirstBroken};
 
 use columnar_core::fault::StoreFault;
 use columnar_core::store::{round_up, word_at};
+use columnar_core::tally::Tally;
 
 /// Tests that the bytes are whole words that frame `expected` slices. A fault names the first rule that is broken, and
 /// the slice at which it is: the rules of the whole store first, then those of the slices in order. Takes no memory.
-#[tactic(auto, using(crate::specs::FaultLaws::broken_refused))]
 pub fn validate_structure(bytes: &[u8], expected: usize) -> Result<(), StoreFault>
     ensures exact { IsOk result ↔ IsLegal bytes.now expected }
     ensures fault { IfErr result (IsFirstBroken bytes.now expected) }
     ensures store { OnOk result (IsStore bytes.now) }
     ensures count { OnOk result (length (framed_slices bytes.now) ≡ expected) }
+{
+    match validate_structure_tallied(bytes, expected, &mut Tally::new()) {
+        Ok(()) => Ok(()),
+        Err(fault) => Err(fault),
+    }
+}
+
+/// As `validate_structure`; the turns that it takes are added to the tally, at most one for each slice that is
+/// expected, so fewer than the table has words.
+#[tactic(auto, using(crate::specs::FaultLaws::broken_refused))]
+pub fn validate_structure_tallied<L>(
+    bytes: &[u8],
+    expected: usize,
+    tally: &mut Tally<L>,
+) -> Result<(), StoreFault>
+    ensures exact { IsOk result ↔ IsLegal bytes.now expected }
+    ensures fault { IfErr result (IsFirstBroken bytes.now expected) }
+    ensures store { OnOk result (IsStore bytes.now) }
+    ensures count { OnOk result (length (framed_slices bytes.now) ≡ expected) }
+    ensures turns { tally.new.turns ≤ tally.old.turns + expected }
 {
     let len = bytes.len();
     if len % 8 != 0 {
@@ -34,6 +54,7 @@ pub fn validate_structure(bytes: &[u8], expected: usize) -> Result<(), StoreFaul
     }
     let mut start = first;
     for i in 0..expected {
+        tally.tick();
         let end = word_at(bytes, i + 1) as usize;
         if end > len {
             return Err(StoreFault::PastEnd(i));

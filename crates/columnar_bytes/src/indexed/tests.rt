@@ -10,40 +10,13 @@ use super::{
 };
 use columnar_core::byte_slice::ByteSlice;
 use columnar_core::bytes::{AsBytes, ByteSlices, Stored};
-use columnar_core::fault::{StoreFault, WriteFault};
+use columnar_core::fault::{GrowError, StoreFault, WriteFault};
+use columnar_core::tally::Tally;
 use columnar_core::traits::Column;
+use columnar_core::view::View;
 use std::alloc::{AllocError, Global};
 use std::io::{Error, ErrorKind, Write};
 use std::test::Fail;
-
-// A column of words: one slice
-#[derive(Clone, Copy)]
-struct Words<'a> {
-    words: &'a [u64],
-}
-
-impl<'v> Column for Words<'v> {
-    ghost format = { record { count = 1; sizes = 8 ∷ []; turns = 0; broken = λ c. []; rows = λ c. []; extent = λ c n. []; build = λ ss. slice []; alike = λ r s. false; kin = λ r s. false; refuses = λ e c n rs. false } };
-
-    ghost content = { λ s. slice (le_bytes s.words.now) };
-
-    ghost counted = { λ s. refl };
-}
-
-impl<'v> Stored for Words<'v> {
-    fn slice_count() -> usize
-        ensures { result ≡ 1 }
-    {
-        1
-    }
-}
-
-impl<'v> AsBytes<'v> for Words<'v> {
-    fn get_byte_slice(&self, _index: usize) -> (u64, ByteSlice<'v>) {
-        let slice = ByteSlice::of_words(self.words);
-        (slice.align(), slice)
-    }
-}
 
 // A column of bytes beside one of words: two slices
 #[derive(Clone, Copy)]
@@ -56,15 +29,51 @@ impl<'v> Column for BytesAndWords<'v> {
     ghost format = { record { count = 2; sizes = 1 ∷ 8 ∷ []; turns = 0; broken = λ c. []; rows = λ c. []; extent = λ c n. []; build = λ ss. slice []; alike = λ r s. false; kin = λ r s. false; refuses = λ e c n rs. false } };
 
     ghost content = { λ s. both (slice s.bytes.now) (slice (le_bytes s.words.now)) };
-
-    ghost counted = { λ s. refl };
 }
 
 impl<'v> Stored for BytesAndWords<'v> {
+    ghost use Rattle.std.specs.Prelude.{◌+◌, ◌*◌, ◌++◌, ◌≤◌, length, drop, None, OnOk, OnErr, IfErr};
+    ghost use Rattle.columnar_core.specs.Format.{bytes_held};
+    ghost use Rattle.columnar_core.specs.Faults.{verdict};
+    ghost use Rattle.columnar_core.specs.Store.{slices_in};
+    ghost use Rattle.std.proofs.Common.{arith};
+
+    ghost storable = { record { swift = Prim.omega arith; sized = refl } };
+
+    ghost counted = { λ s. refl };
+
     fn slice_count() -> usize
         ensures { result ≡ 2 }
     {
         2
+    }
+
+    fn element_sizes(sizes: &mut Vec<usize>) -> Result<(), GrowError>
+        ensures ok { OnOk result (sizes.new.items ≡ sizes.old.items ++ 1 ∷ 8 ∷ []) }
+        ensures err { OnErr result (sizes.new.items ≡ sizes.old.items) }
+        ensures memory { IfErr result (λ e. e ≡ GrowError.Memory) }
+    {
+        match sizes.extend_from_slice(&[1, 8]) {
+            Ok(()) => Ok(()),
+            Err(_) => Err(GrowError::Memory),
+        }
+    }
+
+    fn judge_tallied<L>(
+        _store: &DecodedStore<'_>,
+        _offset: usize,
+        tally: &mut Tally<L>,
+    ) -> Result<(), StoreFault>
+        ensures exact { verdict result ≡ None }
+        ensures turns { tally.new.turns ≤ tally.old.turns + 0 * bytes_held (slice []) }
+    {
+        Ok(())
+    }
+
+    fn rows_in(_store: &DecodedStore<'_>, _offset: usize) -> usize
+        ensures { result ≡ 0 }
+    {
+        0
     }
 }
 
@@ -131,7 +140,7 @@ impl Write for Slow {
 #[test]
 fn encodes_the_worked_stores(rt: HostRuntime) -> Result<(), Fail> {
     let mut store = Vec::new(rt.alloc());
-    encode(&mut store, &Words { words: &[7] })?;
+    encode(&mut store, &View::<u64>::from_slice(&[7]))?;
     assert_eq!(rt; store.as_slice(), [16, 24, 7].as_slice());
     encode(
         &mut store,
@@ -144,18 +153,18 @@ fn encodes_the_worked_stores(rt: HostRuntime) -> Result<(), Fail> {
         store.as_slice(),
         [16, 24, 7, 24, 27, 40, 197121, 7].as_slice()
     );
-    assert_eq!(rt; length_in_words(&Words { words: &[7] }), Some(3));
-    assert_eq!(rt; length_in_bytes(&Words { words: &[7] }), Some(24));
+    assert_eq!(rt; length_in_words(&View::<u64>::from_slice(&[7])), Some(3));
+    assert_eq!(rt; length_in_bytes(&View::<u64>::from_slice(&[7])), Some(24));
 
     let mut empty = Vec::new(rt.alloc());
-    encode(&mut empty, &Words { words: &[] })?;
+    encode(&mut empty, &View::<u64>::from_slice(&[]))?;
     assert_eq!(rt; empty.as_slice(), [16, 16].as_slice());
     Ok(())
 }
 
 #[test]
 fn the_last_bytes_are_those_of_the_word(rt: HostRuntime) -> Result<(), Fail> {
-    let item = Words { words: &[7] };
+    let item = View::<u64>::from_slice(&[7]);
     let bytes = encoded(rt.alloc(), &item)?;
     let want: [u8; 24] = [
         16, 0, 0, 0, 0, 0, 0, 0, 24, 0, 0, 0, 0, 0, 0, 0, 7, 0, 0, 0, 0, 0, 0, 0,
@@ -171,13 +180,25 @@ fn names_the_first_broken_rule(rt: HostRuntime) -> Result<(), Fail> {
     let alloc = rt.alloc();
     assert_eq!(rt; tested(alloc, &[], 0)?, Err(StoreFault::Empty(0)));
     assert_eq!(rt; tested(alloc, &[0], 0)?, Err(StoreFault::FirstOffset(0)));
-    assert_eq!(rt; tested(alloc, &[0, 0, 0], 2)?, Err(StoreFault::FirstOffset(0)));
+    assert_eq!(rt;
+        tested(alloc, &[0, 0, 0], 2)?,
+        Err(StoreFault::FirstOffset(0))
+    );
     assert_eq!(rt; tested(alloc, &[4], 0)?, Err(StoreFault::FirstOffset(0)));
     assert_eq!(rt; tested(alloc, &[16], 1)?, Err(StoreFault::Table(0)));
     assert_eq!(rt; tested(alloc, &[8], 0)?, Ok(()));
-    assert_eq!(rt; tested(alloc, &[8], usize::MAX)?, Err(StoreFault::SliceCount(0)));
-    assert_eq!(rt; tested(alloc, &[16, 32, 7], 1)?, Err(StoreFault::PastEnd(0)));
-    assert_eq!(rt; tested(alloc, &[16, 8, 7], 1)?, Err(StoreFault::Backwards(0)));
+    assert_eq!(rt;
+        tested(alloc, &[8], usize::MAX)?,
+        Err(StoreFault::SliceCount(0))
+    );
+    assert_eq!(rt;
+        tested(alloc, &[16, 32, 7], 1)?,
+        Err(StoreFault::PastEnd(0))
+    );
+    assert_eq!(rt;
+        tested(alloc, &[16, 8, 7], 1)?,
+        Err(StoreFault::Backwards(0))
+    );
     assert_eq!(rt; tested(alloc, &[16, 24, 7, 9], 1)?, Ok(()));
     Ok(())
 }
@@ -275,7 +296,7 @@ fn generic_code_goes_over_the_slices(rt: HostRuntime) -> Result<(), Fail> {
 
 #[test]
 fn writes_byte_by_byte(rt: HostRuntime) -> Result<(), Fail> {
-    let item = Words { words: &[7] };
+    let item = View::<u64>::from_slice(&[7]);
     let mut slow = Slow {
         taken: Vec::new(rt.alloc()),
         limit: 100,
@@ -283,13 +304,16 @@ fn writes_byte_by_byte(rt: HostRuntime) -> Result<(), Fail> {
     };
     write(&mut slow, &item)?;
     assert_eq!(rt; slow.taken.len(), 24);
-    assert_eq!(rt; slow.taken.as_slice(), encoded(rt.alloc(), &item)?.as_slice());
+    assert_eq!(rt;
+        slow.taken.as_slice(),
+        encoded(rt.alloc(), &item)?.as_slice()
+    );
     Ok(())
 }
 
 #[test]
 fn a_fault_ends_the_writing(rt: HostRuntime) -> Result<(), Fail> {
-    let item = Words { words: &[7] };
+    let item = View::<u64>::from_slice(&[7]);
     for kind in [
         Some(ErrorKind::BrokenPipe),
         Some(ErrorKind::Interrupted),

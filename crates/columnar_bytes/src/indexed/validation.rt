@@ -1,12 +1,14 @@
 //! Whether a store holds a column of a type.
-ghost use Rattle.std.specs.Prelude.{◌≡◌, ◌↔◌, IsTrue, IsOk, IfErr, OnOk};
-ghost use Rattle.columnar_core.specs.Format.{representable};
+ghost use Rattle.std.specs.Prelude.{◌≡◌, ◌+◌, ◌*◌, ◌≤◌, ◌↔◌, IsTrue, IsOk, IfErr, OnOk};
+ghost use Rattle.columnar_core.specs.Format.{bytes_held, representable};
+ghost use Rattle.columnar_core.specs.Frame.{framed_slices};
 ghost use Rattle.columnar_bytes.specs.Accepted.{Accepts, Accepted, IsFirstFault};
 
-use super::structure::validate_structure;
+use super::structure::validate_structure_tallied;
 use columnar_core::bytes::Stored;
 use columnar_core::fault::StoreFault;
 use columnar_core::store::DecodedStore;
+use columnar_core::tally::{Plain, Tally};
 
 /// Do the bytes frame a well-formed column of type `T`, a view or a container? Ok exactly where they do; else the
 /// fault is the first broken rule, at its slice: the structure's, then the parts' in slice order, then the column's
@@ -17,12 +19,27 @@ pub fn validate<T: Stored>(bytes: &[u8]) -> Result<(), StoreFault>
     ensures fault { IfErr result (IsFirstFault T.format bytes.now) }
     ensures accepted { OnOk result (Accepted T.format bytes.now) }
 {
-    match validate_structure(bytes, T::slice_count()) {
+    match validate_tallied::<T, Plain>(bytes, &mut Tally::new()) {
+        Ok(()) => Ok(()),
+        Err(fault) => Err(fault),
+    }
+}
+
+/// As `validate`; the turns that it takes are added to the tally: at most one for each slice, and 16 for each byte of
+/// the slices.
+pub fn validate_tallied<T: Stored, L>(bytes: &[u8], tally: &mut Tally<L>) -> Result<(), StoreFault>
+    requires { IsTrue (representable T.format) }
+    ensures exact { IsOk result ↔ Accepts T.format bytes.now }
+    ensures fault { IfErr result (IsFirstFault T.format bytes.now) }
+    ensures accepted { OnOk result (Accepted T.format bytes.now) }
+    ensures turns { tally.new.turns ≤ tally.old.turns + (T.format.count + 16 * bytes_held (T.format.build (framed_slices bytes.now))) }
+{
+    match validate_structure_tallied(bytes, T::slice_count(), tally) {
         Ok(()) => {}
         Err(fault) => return Err(fault),
     }
     let mut offset = 0;
-    match T::validate(&DecodedStore::new(bytes), &mut offset) {
+    match T::validate_tallied(&DecodedStore::new(bytes), &mut offset, tally) {
         Ok(()) => Ok(()),
         Err(fault) => Err(fault),
     }

@@ -1,4 +1,4 @@
-use Rattle.std.proofs.Common.{List, ◌++◌, ◌∷◌, []}
+use Rattle.std.proofs.Common.{◌++◌, ◌∷◌, []}
 use Rattle.columnar_base.specs.ExtendLaws.{yields_more, all_last, extend_more, extend_stopped}
 use Rattle.columnar_base.proofs.traits.Push.extend.Goals as goal
 

@@ -1,4 +1,4 @@
-use Rattle.std.proofs.Common.{◌≡◌, [], ◌∷◌, refl}
+use Rattle.std.proofs.Common.{[], ◌∷◌, refl}
 use Rattle.columnar_base.specs.ChangeLaws.{undone, unchanged}
 use Rattle.columnar_base.specs.TupleLaws.{pair_parts, pair_took, pair_refused_left, pair_refused_right}
 use Rattle.columnar_base.proofs.tuple.Tuple2Push.push.Goals as goal

@@ -1,4 +1,3 @@
-use Rattle.std.proofs.Common.{◌≡◌}
 use Rattle.columnar_base.specs.ChangeLaws.{unchanged}
 use Rattle.columnar_base.specs.TupleLaws.{pair_parts, pair_stayed}
 use Rattle.columnar_base.proofs.tuple.Tuple2Storage.reserve_room.Goals as goal

@@ -1,4 +1,3 @@
-use Rattle.std.proofs.Common.{◌≡◌, ◌≤◌, length}
 use Rattle.columnar_base.specs.TupleLaws.{pair_parts, pair_top, pair_cut}
 use Rattle.columnar_base.proofs.tuple.Tuple2Storage.truncate.Goals as goal
 

@@ -1,4 +1,3 @@
-use Rattle.std.proofs.Common.{◌≡◌}
 use Rattle.columnar_base.specs.ElementLaws.{elements_cut, length-typed}
 use Rattle.columnar_base.proofs.vector.VecStorage.truncate.Goals as goal
 

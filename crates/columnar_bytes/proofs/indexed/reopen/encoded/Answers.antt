@@ -1,4 +1,4 @@
-use Rattle.std.proofs.Common.{List, ℕ, ◌≡◌, ◌++◌, ap, ◌∙◌, subst, sym}
+use Rattle.std.proofs.Common.{List, ℕ, ◌≡◌, ◌++◌, ap, ◌∙◌, subst, sym, arith}
 use Rattle.columnar_core.specs.Format.{slices_of}
 use Rattle.columnar_core.specs.Bytes.{le_bytes}
 use Rattle.columnar_core.specs.Slices.{bytes_in}
@@ -19,4 +19,5 @@ returns-in-Ok-write g c =
       bytes = e;
       store = subst (λ (t : List ℕ). IsStore t) (sym e) (store-store_bytes slices c.in-Ok.ensures.counted);
       slices = subst (λ (t : List ℕ). framed_slices t ≡ slices) (sym e) (slices-store_bytes slices c.in-Ok.ensures.counted);
+      length = (λ h. cc, λ h. absurd (omega (arith, c.in-Ok.ensures.counted)));
     }

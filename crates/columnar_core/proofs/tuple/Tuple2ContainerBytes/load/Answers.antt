@@ -1,13 +1,6 @@
-use Rattle.std.proofs.Common.{◌≡◌, ◌+◌, ◌-◌, ◌<◌, ◌≤◌, List, [], ◌∷◌, length, drop, take, refl, sym, ◌∙◌, arith}
-use Rattle.columnar_base.specs.TwoParts.{representable_left, representable_right, flat_left, flat_right, two_right, two_fine, two_own, two_right_at, two_fine_at, two_own_at}
-use Rattle.columnar_base.specs.TupleLaws.{pair_two, pair_parts, pair_top, pair_fits, fits_level, pair_copied_piece, pair_refused_left_piece, pair_refused_right_piece}
-use Rattle.columnar_base.specs.ChangeLaws.{undone, unchanged}
-use Rattle.columnar_base.specs.FaultLaws.{sound_from, fits_from}
-use Rattle.columnar_base.specs.Format.{slices_of}
-use Rattle.columnar_base.specs.Faults.{fault_of}
-use Rattle.columnar_core.specs.Slices.{bytes_in}
+use Rattle.columnar_base.specs.TwoParts.{representable_left, representable_right}
+use Rattle.columnar_base.specs.TupleLaws.{pair_two, pair_fits}
 use Rattle.columnar_core.specs.Store.{slices_in}
-use Rattle.std.proofs.lemmas.Bool.{eq-eqb, ne_eqb}
 use Rattle.columnar_core.proofs.tuple.Tuple2ContainerBytes.load.Goals as goal
 
 pub load-requires-clause-representable : goal.load-requires-clause-representable

@@ -1,4 +1,4 @@
-use Rattle.std.proofs.Common.{◌≡◌, ◌-◌, ◌≤◌, length, take, drop, sym, subst}
+use Rattle.std.proofs.Common.{◌-◌, ◌≤◌, length, take, drop, sym, subst}
 use Rattle.columnar_base.specs.Format.{Content}
 use Rattle.columnar_base.specs.Elements.{elements, elements_format, elements_rows}
 use Rattle.columnar_base.specs.Change.{Copied}

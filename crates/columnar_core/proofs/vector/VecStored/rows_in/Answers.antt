@@ -1,4 +1,3 @@
-use Rattle.std.proofs.Common.{◌≡◌}
 use Rattle.columnar_core.specs.StoreLaws.{length_at}
 use Rattle.columnar_core.proofs.vector.VecStored.rows_in.Goals as goal
 

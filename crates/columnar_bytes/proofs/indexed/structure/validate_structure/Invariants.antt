@@ -1,9 +1,0 @@
-use Rattle.std.proofs.Common.{◌≡◌, ◌<◌, ℕ}
-use Rattle.columnar_core.specs.Frame.{start_of, IsPlaced}
-use Rattle.columnar_bytes.proofs.indexed.structure.validate_structure.Given as goal
-
-abbrev pub invariant-loop-i : goal.invariant-loop-i
-invariant-loop-i l = record {
-  here : l.start ≡ start_of l.bytes l.i;
-  before : (j : ℕ) → j < l.i → IsPlaced l.bytes j;
-}

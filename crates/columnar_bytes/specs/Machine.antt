@@ -1,0 +1,143 @@
+-- The list machine: what commands mean, and what replies say of them.
+use Rattle.std.specs.Prelude.{ℕ, Bool, true, false, List, [], ◌∷◌, ◌++◌, take, drop, ◌-◌, ◌*◌, ◌^◌, ◌≤◌, ◌≡◌, length, ◌&&◌, nat_le}
+use Rattle.columnar_core.specs.Row.{Row}
+use Rattle.columnar_core.specs.Format.{Format, Content, IsSound, all_alike, slices_of}
+use Rattle.columnar_core.specs.Change.{IsTrueOf}
+use Rattle.columnar_core.specs.Words.{words}
+use Rattle.columnar_core.specs.declared.fault.GrowError.{GrowError}
+use Rattle.columnar_core.specs.declared.fault.EncodeError.{EncodeError}
+use Rattle.columnar_core.specs.declared.fault.EncodeError.TheVariants.{Memory as NoMemory, Length as TooLong}
+use Rattle.columnar_bytes.specs.declared.stash.commands.Command.{Command}
+use Rattle.columnar_bytes.specs.declared.stash.commands.Command.TheVariants.{Push, Clear, Copy, Truncate, MakeTyped, MakeAligned, Reopen}
+use Rattle.columnar_bytes.specs.declared.stash.commands.Refusal.{Refusal}
+use Rattle.columnar_bytes.specs.declared.stash.commands.Refusal.TheVariants.{Grow, Range, Encode}
+use Rattle.columnar_bytes.specs.declared.stash.commands.Reply.{Reply}
+use Rattle.columnar_bytes.specs.declared.stash.commands.Reply.TheVariants.{Done, Refused}
+use Rattle.columnar_bytes.specs.Stashes.{Variant, typed, bytes, aligned}
+
+-- what is pushed is valid
+abbrev pub IsValid : {T : Type 0} → (T → Type 0) → Command T → Type 0
+IsValid valid (Push t) = valid t
+IsValid valid Clear = Unit {0}
+IsValid valid (Copy from to) = Unit {0}
+IsValid valid (Truncate n) = Unit {0}
+IsValid valid MakeTyped = Unit {0}
+IsValid valid MakeAligned = Unit {0}
+IsValid valid Reopen = Unit {0}
+
+-- a command, with the row that a pushed item means
+pub data Order : Type 0 where
+  push : Row → Order
+  clear : Order
+  copy : ℕ → ℕ → Order
+  truncate : ℕ → Order
+  make_typed : Order
+  make_aligned : Order
+  reopen : Order
+
+abbrev pub order_of : {T : Type 0} → (T → Row) → Command T → Order
+order_of meaning (Push t) = push (meaning t)
+order_of meaning Clear = clear
+order_of meaning (Copy from to) = copy from to
+order_of meaning (Truncate n) = truncate n
+order_of meaning MakeTyped = make_typed
+order_of meaning MakeAligned = make_aligned
+order_of meaning Reopen = reopen
+
+-- A copy is in range where it begins before its end, and its end is within the source; a cut where there are as many
+-- rows.
+abbrev pub in_range : ℕ → ℕ → Order → Bool
+in_range source rows (copy from to) = nat_le from to && nat_le to source
+in_range source rows (truncate n) = nat_le n rows
+in_range source rows _ = true
+
+-- the rows that an order adds
+abbrev pub added : List Row → Order → List Row
+added source (push r) = r ∷ []
+added source (copy from to) = take (to - from) (drop from source)
+added source _ = []
+
+-- the rows that an order makes of rows
+abbrev pub act : List Row → List Row → Order → List Row
+act source rows (push r) = rows ++ r ∷ []
+act source rows clear = []
+act source rows (copy from to) = rows ++ take (to - from) (drop from source)
+act source rows (truncate n) = take n rows
+act source rows _ = rows
+
+-- the variant that an order leaves once it is done
+abbrev pub variant_after : Order → Variant
+variant_after make_aligned = aligned
+variant_after reopen = bytes
+variant_after _ = typed
+
+-- May the order be refused for want of room? Never a clear, nor on a column a cut or a conversion to a column.
+abbrev pub can_refuse : Variant → Order → Bool
+can_refuse v (push r) = true
+can_refuse v clear = false
+can_refuse v (copy from to) = true
+can_refuse typed (truncate n) = false
+can_refuse bytes (truncate n) = true
+can_refuse aligned (truncate n) = true
+can_refuse typed make_typed = false
+can_refuse bytes make_typed = true
+can_refuse aligned make_typed = true
+can_refuse v make_aligned = false
+can_refuse v reopen = false
+
+-- the order makes an encoding
+abbrev pub encodes : Order → Bool
+encodes make_aligned = true
+encodes reopen = true
+encodes _ = false
+
+-- what a stash holds, and as which variant
+pub record State : Type 0 where
+  pub variant : Variant
+  pub content : Content
+
+-- The order was in range, and the machine's step was taken, up to alike; the variant is the order's.
+pub record IsStep (f : Format) (source : List Row) (old new : State) (order : Order) : Type 0 where
+  pub within : in_range (length source) (length (f.rows old.content)) order ≡ true
+  pub alike : all_alike f.alike (f.rows new.content) (act source (f.rows old.content) order) ≡ true
+  pub variant : new.variant ≡ variant_after order
+
+-- No row changed, nor the variant.
+pub record IsUnchanged (f : Format) (old new : State) : Type 0 where
+  pub rows : f.rows new.content ≡ f.rows old.content
+  pub variant : new.variant ≡ old.variant
+
+-- The order was in range, it is one that grows or loads a column, and the error is true of the rows.
+pub record IsRefusedGrowth (f : Format) (source : List Row) (old new : State) (order : Order) (error : GrowError) : Type 0 where
+  pub within : in_range (length source) (length (f.rows old.content)) order ≡ true
+  pub unchanged : IsUnchanged f old new
+  pub can : can_refuse old.variant order ≡ true
+  pub cause : IsTrueOf error f old.content (added source order)
+
+-- Length is true of an encoding whose bytes pass 2^64 - 1.
+abbrev pub IsTooLong : EncodeError → Content → Type 0
+IsTooLong NoMemory c = Unit {0}
+IsTooLong TooLong c = 2 ^ 64 ≤ 8 * length (words (slices_of c))
+
+pub record IsRefusedEncoding (f : Format) (old new : State) (order : Order) (error : EncodeError) : Type 0 where
+  pub unchanged : IsUnchanged f old new
+  pub can : encodes order ≡ true
+  pub cause : IsTooLong error old.content
+
+pub record IsOutOfRange (f : Format) (source : List Row) (old new : State) (order : Order) : Type 0 where
+  pub without : in_range (length source) (length (f.rows old.content)) order ≡ false
+  pub unchanged : IsUnchanged f old new
+
+-- what a reply says of an order
+abbrev pub Answers : Format → List Row → State → State → Order → Reply → Type 0
+Answers f source old new order Done = IsStep f source old new order
+Answers f source old new order (Refused (Grow e)) = IsRefusedGrowth f source old new order e
+Answers f source old new order (Refused Range) = IsOutOfRange f source old new order
+Answers f source old new order (Refused (Encode e)) = IsRefusedEncoding f old new order e
+
+-- One reply for each order, one after the other, each true of the well-formed column that was held then.
+abbrev pub Ran : Format → List Row → State → List Order → List Reply → State → Type 0
+Ran f source old [] [] new = new ≡ old
+Ran f source old (o ∷ os) (r ∷ rs) new = (mid : State) × (IsSound f mid.content × Answers f source old mid o r × Ran f source mid os rs new)
+Ran f source old [] (r ∷ rs) new = ⊥
+Ran f source old (o ∷ os) [] new = ⊥

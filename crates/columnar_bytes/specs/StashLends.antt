@@ -1,0 +1,13 @@
+-- What a stash ends as, once the column that it lent has come back.
+use Rattle.std.specs.Borrow.{Fml, RattleType, MutBor, LendsIfOk}
+use Rattle.std.specs.Prelude.{Result}
+use Rattle.columnar_core.specs.declared.traits.Column.{Ghosts as ColumnOf}
+use Rattle.columnar_bytes.specs.declared.stash.ByteStore.{Ghosts as BytesOf}
+use Rattle.columnar_bytes.specs.declared.stash.Stash.{Stash}
+use Rattle.columnar_bytes.specs.declared.stash.Stash.TheVariants.{Typed}
+use Rattle.columnar_bytes.specs.contracts.stash.Stash.{the_row}
+
+module _ (C B : RattleType) (column : ColumnOf C.Denot) (store : BytesOf B.Denot) (s : MutBor (Stash C.Denot B.Denot column store)) where
+  -- the stash holds the column as the caller left it; where none was lent, it is as it was
+  abbrev pub lends_typed : {E : Type 0} → Result (MutBor C.Denot) E → Fml
+  lends_typed r = LendsIfOk (the_row C B column store) C s r Typed s.now

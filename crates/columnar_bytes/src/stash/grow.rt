@@ -1,0 +1,241 @@
+//! How a stash grows and is cut. On bytes a column is loaded aside first, so that a refusal leaves the variant too.
+ghost use Rattle.std.specs.Prelude.{◌≡◌, ◌≢◌, ◌-◌, ◌≤◌, length, [], ◌∷◌, take, drop, IfOk, IfErr, OnOk, OnErr};
+ghost use Rattle.std.specs.Iterator.{IsFinite};
+ghost use Rattle.columnar_core.specs.Format.{IsSound};
+ghost use Rattle.columnar_core.specs.Change.{Took, Copied, Refused, Stayed, WasCut};
+
+use super::{ByteStore, Stash};
+use columnar_core::container::{ContainerBytes, ExtendFrom};
+use columnar_core::fault::GrowError;
+use columnar_core::traits::{Clear, Index, Item, Push, PushRef};
+use std::alloc::Global;
+use std::ops::Range;
+
+impl<C: ContainerBytes, B: ByteStore> Clear for Stash<C, B> {
+    ghost use Rattle.columnar_bytes.specs.Stashes.{stash_content, variant_of, typed};
+
+    /// Takes all rows away: bytes become a column. Takes no memory.
+    fn clear(&mut self)
+        ensures sound { IsSound C.format (stash_content self.new) }
+        ensures rows { C.format.rows (stash_content self.new) ≡ [] }
+        ensures variant { variant_of self.new ≡ typed }
+    {
+        match self {
+            Stash::Typed(column) => column.clear(),
+            Stash::Bytes(checked) => {
+                let column = C::empty(checked.alloc);
+                *self = Stash::Typed(column);
+            }
+            Stash::Align(checked) => {
+                let column = C::empty(checked.alloc);
+                *self = Stash::Typed(column);
+            }
+        }
+    }
+}
+
+impl<T: Item + Drop, C: ContainerBytes + Push<T>, B: ByteStore> Push<T> for Stash<C, B> {
+    ghost use Rattle.columnar_bytes.specs.Stashes.{stash_content, variant_of, typed};
+
+    /// Pushes into the column; want of memory for the loaded column refuses too. A refusal leaves the variant.
+    fn push(&mut self, item: T) -> Result<(), GrowError>
+        requires sound { IsSound C.format (stash_content self.old) }
+        requires valid { T.valid item }
+        ensures ok { OnOk result (Took C.format (stash_content self.old) (stash_content self.new) (T.meaning item ∷ [])) }
+        ensures err { IfErr result (λ e. Refused C.format (stash_content self.old) (stash_content self.new) (T.meaning item ∷ []) e) }
+        ensures typed { OnOk result (variant_of self.new ≡ typed) }
+        ensures variant { OnErr result (variant_of self.new ≡ variant_of self.old) }
+    {
+        let loaded = match self {
+            Stash::Typed(column) => {
+                return match column.push(item) {
+                    Ok(()) => Ok(()),
+                    Err(error) => Err(error),
+                };
+            }
+            Stash::Bytes(checked) => checked.load(checked.alloc),
+            Stash::Align(checked) => checked.load(checked.alloc),
+        };
+        let mut column = match loaded {
+            Ok(column) => column,
+            Err(error) => return Err(error),
+        };
+        match column.push(item) {
+            Ok(()) => {
+                *self = Stash::Typed(column);
+                Ok(())
+            }
+            Err(error) => Err(error),
+        }
+    }
+}
+
+impl<T: Item, C: ContainerBytes + PushRef<T>, B: ByteStore> PushRef<T> for Stash<C, B> {
+    ghost use Rattle.columnar_bytes.specs.Stashes.{stash_content, variant_of, typed};
+
+    /// As a push of `&T`.
+    fn push_ref(&mut self, item: &T) -> Result<(), GrowError>
+        requires sound { IsSound C.format (stash_content self.old) }
+        requires valid { T.valid item.now }
+        ensures ok { OnOk result (Took C.format (stash_content self.old) (stash_content self.new) (T.meaning item.now ∷ [])) }
+        ensures err { IfErr result (λ e. Refused C.format (stash_content self.old) (stash_content self.new) (T.meaning item.now ∷ []) e) }
+        ensures typed { OnOk result (variant_of self.new ≡ typed) }
+        ensures variant { OnErr result (variant_of self.new ≡ variant_of self.old) }
+    {
+        let loaded = match self {
+            Stash::Typed(column) => {
+                return match column.push_ref(item) {
+                    Ok(()) => Ok(()),
+                    Err(error) => Err(error),
+                };
+            }
+            Stash::Bytes(checked) => checked.load(checked.alloc),
+            Stash::Align(checked) => checked.load(checked.alloc),
+        };
+        let mut column = match loaded {
+            Ok(column) => column,
+            Err(error) => return Err(error),
+        };
+        match column.push_ref(item) {
+            Ok(()) => {
+                *self = Stash::Typed(column);
+                Ok(())
+            }
+            Err(error) => Err(error),
+        }
+    }
+}
+
+impl<C: ContainerBytes, B: ByteStore> Stash<C, B> {
+    ghost use Rattle.columnar_bytes.specs.Stashes.{stash_content, variant_of, typed};
+
+    /// A stash of a column without rows, with room for the rows of the views; want of memory alone refuses it.
+    pub fn with_capacity_for<V: Index + Copy, I: Iterator<Item = V> + Drop>(
+        alloc: Global,
+        views: I,
+    ) -> Result<Self, GrowError>
+    where
+        C: ExtendFrom<V>,
+        requires callable { I.can_next views }
+        requires finite { IsFinite (I.remaining views) }
+        ensures variant { IfOk result (λ s. variant_of s ≡ typed) }
+        ensures sound { IfOk result (λ s. IsSound C.format (stash_content s)) }
+        ensures rows { IfOk result (λ s. C.format.rows (stash_content s) ≡ []) }
+        ensures memory { IfErr result (λ e. e ≡ GrowError.Memory) }
+    {
+        match C::with_capacity_for(alloc, views) {
+            Ok(column) => Ok(Stash::Typed(column)),
+            Err(error) => Err(error),
+        }
+    }
+
+    /// Makes room for the rows of the views in the column; the rows stay. Want of memory alone refuses it, and leaves
+    /// the variant.
+    pub fn reserve_for<V: Index + Copy, I: Iterator<Item = V> + Drop>(
+        &mut self,
+        views: I,
+    ) -> Result<(), GrowError>
+    where
+        C: ExtendFrom<V>,
+        requires sound { IsSound C.format (stash_content self.old) }
+        requires callable { I.can_next views }
+        requires finite { IsFinite (I.remaining views) }
+        ensures stayed { Stayed C.format (stash_content self.old) (stash_content self.new) }
+        ensures typed { OnOk result (variant_of self.new ≡ typed) }
+        ensures variant { OnErr result (variant_of self.new ≡ variant_of self.old) }
+        ensures memory { IfErr result (λ e. e ≡ GrowError.Memory) }
+    {
+        let loaded = match self {
+            Stash::Typed(column) => {
+                return match column.reserve_for(views) {
+                    Ok(()) => Ok(()),
+                    Err(error) => Err(error),
+                };
+            }
+            Stash::Bytes(checked) => checked.load(checked.alloc),
+            Stash::Align(checked) => checked.load(checked.alloc),
+        };
+        let mut column = match loaded {
+            Ok(column) => column,
+            Err(error) => return Err(error),
+        };
+        match column.reserve_for(views) {
+            Ok(()) => {
+                *self = Stash::Typed(column);
+                Ok(())
+            }
+            Err(error) => Err(error),
+        }
+    }
+
+    /// Adds rows that are alike to the rows of the range, or none of them, as the column's own call; a refusal leaves
+    /// the variant.
+    pub fn extend_from_self<V: Index + Copy>(
+        &mut self,
+        view: V,
+        range: Range<usize>,
+    ) -> Result<(), GrowError>
+    where
+        C: ExtendFrom<V>,
+        requires sound { IsSound C.format (stash_content self.old) }
+        requires view_sound { IsSound V.format (V.content view) }
+        requires ordered { range.start ≤ range.«end» }
+        requires in_range { range.«end» ≤ length (V.format.rows (V.content view)) }
+        ensures ok { OnOk result (Copied C.format (stash_content self.old) (stash_content self.new) range.start (take (range.«end» - range.start) (drop range.start (V.format.rows (V.content view))))) }
+        ensures err { IfErr result (λ e. Refused C.format (stash_content self.old) (stash_content self.new) (take (range.«end» - range.start) (drop range.start (V.format.rows (V.content view)))) e) }
+        ensures typed { OnOk result (variant_of self.new ≡ typed) }
+        ensures variant { OnErr result (variant_of self.new ≡ variant_of self.old) }
+    {
+        let loaded = match self {
+            Stash::Typed(column) => {
+                return match column.extend_from_self(view, range) {
+                    Ok(()) => Ok(()),
+                    Err(error) => Err(error),
+                };
+            }
+            Stash::Bytes(checked) => checked.load(checked.alloc),
+            Stash::Align(checked) => checked.load(checked.alloc),
+        };
+        let mut column = match loaded {
+            Ok(column) => column,
+            Err(error) => return Err(error),
+        };
+        match column.extend_from_self(view, range) {
+            Ok(()) => {
+                *self = Stash::Typed(column);
+                Ok(())
+            }
+            Err(error) => Err(error),
+        }
+    }
+
+    /// Keeps the first `n` rows. On a column it never fails; on bytes want of memory alone refuses it, and leaves the
+    /// rows and the variant.
+    pub fn truncate(&mut self, n: usize) -> Result<(), GrowError>
+        requires sound { IsSound C.format (stash_content self.old) }
+        requires in_range { n ≤ length (C.format.rows (stash_content self.old)) }
+        ensures ok { OnOk result (WasCut C.format (stash_content self.old) (stash_content self.new) n) }
+        ensures typed { OnOk result (variant_of self.new ≡ typed) }
+        ensures stays { OnErr result (self.new ≡ self.old) }
+        ensures bytes { OnErr result (variant_of self.old ≢ typed) }
+        ensures memory { IfErr result (λ e. e ≡ GrowError.Memory) }
+    {
+        let loaded = match self {
+            Stash::Typed(column) => {
+                column.truncate(n);
+                return Ok(());
+            }
+            Stash::Bytes(checked) => checked.load(checked.alloc),
+            Stash::Align(checked) => checked.load(checked.alloc),
+        };
+        match loaded {
+            Ok(column) => {
+                let mut column = column;
+                column.truncate(n);
+                *self = Stash::Typed(column);
+                Ok(())
+            }
+            Err(error) => Err(error),
+        }
+    }
+}

@@ -1,0 +1,122 @@
+//! How a stash is opened, read and written.
+ghost use Rattle.std.specs.Prelude.{◌≡◌, ◌↔◌, ◌*◌, ◌^◌, ◌≤◌, length, IsTrue, IsNone, IsOk, IfOk, IfSome, IfErr, OnOk, []};
+ghost use Rattle.std.specs.Io.KnownBytes.{Appends};
+ghost use Rattle.columnar_core.specs.Format.{IsSound, representable, slices_of};
+ghost use Rattle.columnar_core.specs.Frame.{framed_slices};
+ghost use Rattle.columnar_core.specs.Words.{words};
+ghost use Rattle.columnar_bytes.specs.Accepted.{Accepts, IsFirstFault};
+ghost use Rattle.columnar_bytes.specs.Written.{IsLeftOf};
+
+use super::{ByteStore, Checked, Stash};
+use crate::indexed::{length_in_bytes, validate, write};
+use columnar_core::bytes::{AsBytes, FromBytes};
+use columnar_core::container::{Borrow, ContainerBytes};
+use columnar_core::fault::{StoreFault, WriteFault};
+use columnar_core::owned::Owned;
+use columnar_core::store::DecodedStore;
+use columnar_core::writer::WriteBytes;
+use std::alloc::Global;
+use std::marker::PhantomData;
+
+impl<C: ContainerBytes, B: ByteStore> Checked<C, B> {
+    ghost use Rattle.columnar_bytes.specs.Stashes.{checked_bytes};
+
+    // The view of the bytes.
+    fn view<'a>(&'a self) -> <C as Borrow<'a>>::Borrowed
+    where
+        C: Borrow<'a, Borrowed: FromBytes<'a>>,
+        ensures { C.Borrowed.content result ≡ C.format.build (framed_slices (checked_bytes self.now)) }
+    {
+        let mut offset = 0;
+        <C as Borrow<'a>>::Borrowed::from_store(&DecodedStore::new(self.bytes()), &mut offset)
+    }
+}
+
+impl<C: ContainerBytes, B: ByteStore> Stash<C, B> {
+    ghost use Rattle.columnar_bytes.specs.Stashes.{stash_content, variant_of, typed, bytes, HoldsBytes, written_bytes};
+
+    /// A stash of a column without rows.
+    pub fn empty(alloc: Global) -> Self
+        ensures variant { variant_of result ≡ typed }
+        ensures sound { IsSound C.format (stash_content result) }
+        ensures rows { C.format.rows (stash_content result) ≡ [] }
+    {
+        Stash::Typed(C::empty(alloc))
+    }
+
+    /// The bytes, where they are accepted for columns of type `C`; else the first broken rule, at its slice, and the
+    /// bytes are given up. Takes no memory.
+    pub fn try_from_bytes(alloc: Global, store: B) -> Result<Self, StoreFault>
+        requires { IsTrue (representable C.format) }
+        ensures exact { IsOk result ↔ Accepts C.format (B.bytes store) }
+        ensures fault { IfErr result (IsFirstFault C.format (B.bytes store)) }
+        ensures variant { IfOk result (λ s. variant_of s ≡ bytes) }
+        ensures bytes { IfOk result (λ s. HoldsBytes s (B.bytes store)) }
+        ensures sound { IfOk result (λ s. IsSound C.format (stash_content s)) }
+    {
+        match validate::<C>(store.as_slice()) {
+            Ok(()) => {}
+            Err(fault) => return Err(fault),
+        }
+        Ok(Stash::Bytes(Checked {
+            alloc,
+            store,
+            of: PhantomData,
+        }))
+    }
+
+    /// The view of the column, or of the bytes. It never fails, and takes no memory.
+    pub fn borrow<'a>(&'a self) -> <C as Borrow<'a>>::Borrowed
+    where
+        C: Borrow<'a, Borrowed: FromBytes<'a>>,
+        ensures content { C.Borrowed.content result ≡ stash_content self.now }
+        ensures sound { IsSound C.format (stash_content self.now) → IsSound C.Borrowed.format (C.Borrowed.content result) }
+    {
+        match self {
+            Stash::Typed(column) => column.borrow(),
+            Stash::Bytes(checked) => checked.view(),
+            Stash::Align(checked) => checked.view(),
+        }
+    }
+
+    /// How many bytes the encoding of the view takes; None where they pass 64 bits.
+    pub fn length_in_bytes(&self) -> Option<usize>
+        requires { IsTrue (representable C.format) }
+        ensures value { IfSome result (λ n. n ≡ 8 * length (words (slices_of (stash_content self.now)))) }
+        ensures none { IsNone result ↔ (2 ^ 64 ≤ 8 * length (words (slices_of (stash_content self.now)))) }
+    {
+        match self {
+            Stash::Typed(column) => length_in_bytes(&Owned(column)),
+            Stash::Bytes(checked) => length_in_bytes(&checked.framed()),
+            Stash::Align(checked) => length_in_bytes(&checked.framed()),
+        }
+    }
+
+    /// Writes the column's encoding, or the bytes as they are. Refused with `Length` only where the encoding's bytes
+    /// would pass 2^64 - 1, before any byte; ended with `Writer` where the writer failed, after a beginning of the
+    /// bytes.
+    pub fn write_bytes<W: WriteBytes>(&self, writer: &mut W) -> Result<(), WriteFault<W::Error>>
+    where
+        W::Error: Drop,
+        requires { IsTrue (representable C.format) }
+        ensures ok { OnOk result (Appends (W.contents writer.old) (W.contents writer.new) (written_bytes self.now)) }
+        ensures err { IfErr result (IsLeftOf (W.contents writer.old) (W.contents writer.new) (written_bytes self.now)) }
+        ensures accepted { OnOk result (IsSound C.format (stash_content self.now) → Accepts C.format (written_bytes self.now)) }
+        ensures content { OnOk result (IsSound C.format (stash_content self.now) → C.format.build (framed_slices (written_bytes self.now)) ≡ stash_content self.now) }
+    {
+        match self {
+            Stash::Typed(column) => match write(writer, &Owned(column)) {
+                Ok(()) => Ok(()),
+                Err(fault) => Err(fault),
+            },
+            Stash::Bytes(checked) => match writer.write_all(checked.bytes()) {
+                Ok(()) => Ok(()),
+                Err(error) => Err(WriteFault::Writer(error)),
+            },
+            Stash::Align(checked) => match writer.write_all(checked.bytes()) {
+                Ok(()) => Ok(()),
+                Err(error) => Err(WriteFault::Writer(error)),
+            },
+        }
+    }
+}

@@ -1,0 +1,79 @@
+//! An owned column, lent as its slices where no view can be named.
+ghost use Rattle.std.specs.Prelude.{◌≡◌, ℕ, ◌+◌, ◌*◌, ◌<◌, ◌≤◌, ◌++◌, IsTrue, OnOk, OnErr, IfErr, length, drop};
+ghost use Rattle.columnar_base.specs.Format.{Fits, bytes_held, first, moved, representable};
+ghost use Rattle.columnar_base.specs.Faults.{verdict};
+ghost use Rattle.columnar_core.specs.Store.{slices_in};
+
+use crate::byte_slice::ByteSlice;
+use crate::bytes::{AsBytes, Stored};
+use crate::container::ContainerBytes;
+use crate::store::DecodedStore;
+use columnar_base::fault::{GrowError, StoreFault};
+use columnar_base::tally::Tally;
+use columnar_base::traits::Column;
+
+/// An owned column, lent as its slices.
+#[derive(Clone, Copy)]
+pub struct Owned<'a, C>(pub &'a C);
+
+impl<'v, C: Column> Column for Owned<'v, C> {
+    ghost format = { C.format };
+
+    ghost content = { λ o. C.content o.0.now };
+}
+
+impl<'v, C: ContainerBytes> Stored for Owned<'v, C> {
+    ghost storable = { C.storable };
+
+    ghost counted = { λ o. C.counted o.0.now };
+
+    fn slice_count() -> usize
+        requires { IsTrue (representable C.format) }
+        ensures { result ≡ C.format.count }
+    {
+        C::slice_count()
+    }
+
+    fn element_sizes(sizes: &mut Vec<usize>) -> Result<(), GrowError>
+        requires { IsTrue (representable C.format) }
+        ensures ok { OnOk result (sizes.new.items ≡ sizes.old.items ++ C.format.sizes) }
+        ensures err { OnErr result (sizes.new.items ≡ sizes.old.items) }
+        ensures memory { IfErr result (λ e. e ≡ GrowError.Memory) }
+    {
+        match C::element_sizes(sizes) {
+            Ok(()) => Ok(()),
+            Err(error) => Err(error),
+        }
+    }
+
+    fn judge_tallied<L>(
+        store: &DecodedStore<'_>,
+        offset: usize,
+        tally: &mut Tally<L>,
+    ) -> Result<(), StoreFault>
+        requires representable { IsTrue (representable C.format) }
+        requires room { offset + C.format.count ≤ length (slices_in store.now) }
+        ensures exact { verdict result ≡ first (moved offset (C.format.broken (C.format.build (drop offset (slices_in store.now))))) }
+        ensures turns { tally.new.turns ≤ tally.old.turns + C.format.turns * bytes_held (C.format.build (drop offset (slices_in store.now))) }
+    {
+        match C::judge_tallied(store, offset, tally) {
+            Ok(()) => Ok(()),
+            Err(fault) => Err(fault),
+        }
+    }
+
+    fn rows_in(store: &DecodedStore<'_>, offset: usize) -> usize
+        requires representable { IsTrue (representable C.format) }
+        requires fits { Fits C.format offset (slices_in store.now) }
+        ensures { result ≡ length (C.format.rows (C.format.build (drop offset (slices_in store.now)))) }
+    {
+        C::rows_in(store, offset)
+    }
+}
+
+impl<'a, C: ContainerBytes> AsBytes<'a> for Owned<'a, C> {
+    fn get_byte_slice(&self, index: usize) -> (u64, ByteSlice<'a>) {
+        let slice = self.0.byte_slice(index);
+        (slice.align(), slice)
+    }
+}

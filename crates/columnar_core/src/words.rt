@@ -1,0 +1,88 @@
+//! Columns of 64-bit numbers as offsets.
+ghost use Rattle.std.specs.Prelude.{◌≡◌, ℕ, ◌+◌, ◌*◌, ◌≤◌, length, drop, IsTrue};
+ghost use Rattle.columnar_base.specs.Format.{Fits, IsSound, bytes_held, representable};
+ghost use Rattle.columnar_base.specs.Elements.{elements_rows, first_slice, word_row_of, words_format};
+ghost use Rattle.columnar_core.specs.Bounds.{rises, numbers};
+ghost use Rattle.columnar_core.specs.BoundLaws.{words_bounds};
+ghost use Rattle.columnar_core.specs.Store.{slices_in};
+
+use crate::bytes::Stored;
+use crate::offsets::{Offsets, StoredOffsets};
+use crate::store::DecodedStore;
+use columnar_base::tally::Tally;
+use columnar_base::traits::{Column, Index, Len};
+use columnar_base::view::View;
+
+// As `rises_to` of a column of numbers: reads them one by one, a turn for each.
+fn rises_by_reading<C: Index<Ref = u64>, L>(column: &C, end: u64, tally: &mut Tally<L>) -> bool
+    requires { IsSound C.format (C.content column.now) }
+    ensures value { result ≡ rises 0 (numbers (C.format.rows (C.content column.now))) end }
+    ensures turns { tally.new.turns ≤ tally.old.turns + length (C.format.rows (C.content column.now)) }
+{
+    let mut last = 0u64;
+    for i in 0..column.len() {
+        tally.tick();
+        let next = column.get(i);
+        if next < last {
+            return false;
+        }
+        last = next;
+    }
+    last == end
+}
+
+impl Offsets for Vec<u64> {
+    ghost bounds = { words_bounds };
+
+    fn offset(&self, index: usize) -> u64 {
+        Index::get(self, index)
+    }
+
+    fn rises_to_tallied<L>(&self, end: u64, tally: &mut Tally<L>) -> bool {
+        rises_by_reading(self, end, tally)
+    }
+}
+
+impl<'v> Offsets for View<'v, u64> {
+    ghost bounds = { words_bounds };
+
+    fn offset(&self, index: usize) -> u64 {
+        self.get(index)
+    }
+
+    fn rises_to_tallied<L>(&self, end: u64, tally: &mut Tally<L>) -> bool {
+        rises_by_reading(self, end, tally)
+    }
+}
+
+impl StoredOffsets for Vec<u64> {
+    ghost stored_bounds = { words_bounds };
+
+    fn rises_in_tallied<L>(
+        store: &DecodedStore<'_>,
+        offset: usize,
+        end: u64,
+        tally: &mut Tally<L>,
+    ) -> bool {
+        let view = View::<u64>::from_le_bytes(store.get(offset));
+        rises_by_reading(&view, end, tally)
+    }
+}
+
+impl<'v> StoredOffsets for View<'v, u64> {
+    ghost stored_bounds = { words_bounds };
+
+    fn rises_in_tallied<L>(
+        store: &DecodedStore<'_>,
+        offset: usize,
+        end: u64,
+        tally: &mut Tally<L>,
+    ) -> bool
+        requires representable { IsTrue (representable words_format) }
+        requires fits { Fits words_format offset (slices_in store.now) }
+        ensures value { result ≡ rises 0 (numbers (elements_rows 8 word_row_of (first_slice (drop offset (slices_in store.now))))) end }
+        ensures turns { tally.new.turns ≤ tally.old.turns + 8 * bytes_held (first_slice (drop offset (slices_in store.now))) }
+    {
+        Vec::<u64>::rises_in_tallied(store, offset, end, tally)
+    }
+}

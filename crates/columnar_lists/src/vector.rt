@@ -1,0 +1,525 @@
+//! Lists of rows: their items one after another in one column, and where each list ends in another.
+ghost use Rattle.std.specs.Prelude.{◌≡◌, ℕ, ◌+◌, ◌-◌, ◌^◌, ◌<◌, ◌≤◌, length, List, [], ◌∷◌, slice_get, Some, take, drop, OnOk, IfErr, IfSome};
+ghost use Rattle.columnar_base.specs.Format.{both, IsSound};
+ghost use Rattle.columnar_base.specs.Change.{Took, Refused};
+ghost use Rattle.columnar_base.specs.TwoParts.{two_counted};
+ghost use Rattle.columnar_core.specs.Bounds.{numbers};
+ghost use Rattle.columnar_lists.specs.Lists.{lists_format, shifted};
+ghost use Rattle.columnar_lists.specs.ListLaws.{same_lists, lists_lawful, lists_storable};
+
+use columnar_base::fault::{GrowError, StoreFault};
+use columnar_base::slice::Slice;
+use columnar_base::tally::Tally;
+use columnar_base::traits::{Clear, Column, Index, Item, Len, Push};
+use columnar_core::byte_slice::ByteSlice;
+use columnar_core::bytes::{AsBytes, Check, FromBytes, Stored};
+use columnar_core::container::{
+    Borrow, Container, ContainerBytes, ExtendFrom, Named, Reborrow, Storage,
+};
+use columnar_core::offsets::{Offsets, StoredOffsets};
+use columnar_core::store::DecodedStore;
+use std::alloc::Global;
+use std::ops::Range;
+
+/// A column of lists. List i has the values from bound i - 1, or from 0 where there is none, up to bound i; it is
+/// well formed where the bounds never fall and the last one is the number of the values, 0 where there is none.
+#[derive(Clone, Copy, Drop)]
+pub struct Vecs<TC, BC> {
+    /// Where each list ends.
+    pub bounds: BC,
+    /// The items of all lists.
+    pub values: TC,
+}
+
+// Where list `index` begins.
+fn start_of<BC: Offsets>(bounds: &BC, index: usize) -> u64
+    requires sound { IsSound BC.format (BC.content bounds.now) }
+    requires in_range { index ≤ length (BC.format.rows (BC.content bounds.now)) }
+    ensures { slice_get (0 ∷ numbers (BC.format.rows (BC.content bounds.now))) index ≡ Some result }
+{
+    if index == 0 {
+        0
+    } else {
+        bounds.offset(index - 1)
+    }
+}
+
+impl<TC: Column, BC: Column> Column for Vecs<TC, BC> {
+    ghost format = { lists_format BC.format TC.format };
+
+    ghost content = { λ v. both (BC.content v.bounds) (TC.content v.values) };
+}
+
+impl<TC: Len, BC: Len> Len for Vecs<TC, BC> {
+    fn len(&self) -> usize {
+        self.bounds.len()
+    }
+}
+
+impl<TC: Index + Copy, BC: Offsets> Index for Vecs<TC, BC> {
+    type Ref = Slice<TC>;
+
+    fn get(&self, index: usize) -> Slice<TC> {
+        let lower = start_of(&self.bounds, index);
+        let upper = self.bounds.offset(index);
+        Slice {
+            lower: lower as usize,
+            upper: upper as usize,
+            slice: self.values,
+        }
+    }
+}
+
+impl<TC: Clear, BC: Clear> Clear for Vecs<TC, BC> {
+    fn clear(&mut self) {
+        self.bounds.clear();
+        self.values.clear();
+    }
+}
+
+impl<V: Index + Copy, TC: ExtendFrom<V>, BC: Offsets + Push<u64>> Push<Slice<V>> for Vecs<TC, BC> {
+    fn push(&mut self, item: Slice<V>) -> Result<(), GrowError> {
+        let before = self.values.len();
+        match self
+            .values
+            .extend_from_self(item.slice, item.lower..item.upper)
+        {
+            Ok(()) => {}
+            Err(error) => return Err(error),
+        }
+        let end = self.values.len();
+        match self.bounds.push(end as u64) {
+            Ok(()) => Ok(()),
+            Err(error) => {
+                self.values.truncate(before);
+                Err(error)
+            }
+        }
+    }
+}
+
+impl<TC: Storage, BC: Storage + Offsets> Storage for Vecs<TC, BC> {
+    type Room = (BC::Room, TC::Room);
+
+    ghost lawful = { lists_lawful BC.format TC.format BC.lawful TC.lawful };
+
+    fn empty(alloc: Global) -> Self {
+        let bounds = BC::empty(alloc);
+        let values = TC::empty(alloc);
+        Vecs { bounds, values }
+    }
+
+    fn duplicate(&self, alloc: Global) -> Result<Self, GrowError> {
+        let bounds = match self.bounds.duplicate(alloc) {
+            Ok(bounds) => bounds,
+            Err(error) => return Err(error),
+        };
+        match self.values.duplicate(alloc) {
+            Ok(values) => Ok(Vecs { bounds, values }),
+            Err(error) => Err(error),
+        }
+    }
+
+    fn truncate(&mut self, n: usize) {
+        let end = start_of(&self.bounds, n);
+        self.values.truncate(end as usize);
+        self.bounds.truncate(n);
+    }
+
+    fn no_room() -> (BC::Room, TC::Room) {
+        (BC::no_room(), TC::no_room())
+    }
+
+    fn reserve_room(&mut self, room: (BC::Room, TC::Room)) -> Result<(), GrowError> {
+        match self.bounds.reserve_room(room.0) {
+            Ok(()) => {}
+            Err(error) => return Err(error),
+        }
+        match self.values.reserve_room(room.1) {
+            Ok(()) => Ok(()),
+            Err(error) => Err(error),
+        }
+    }
+}
+
+impl<'a, TC: Borrow<'a>, BC: Borrow<'a, Borrowed: Offsets>> Borrow<'a> for Vecs<TC, BC> {
+    type Ref = Slice<TC::Borrowed>;
+
+    type Borrowed = Vecs<TC::Borrowed, BC::Borrowed>;
+
+    type Parts = Named<Named<BC::Ref, BC::Parts>, Named<TC::Ref, TC::Parts>>;
+
+    ghost same_format = { same_lists BC.same_format TC.same_format };
+
+    fn borrow(&'a self) -> Vecs<TC::Borrowed, BC::Borrowed> {
+        let bounds = self.bounds.borrow();
+        let values = self.values.borrow();
+        Vecs { bounds, values }
+    }
+}
+
+// Pushes bounds of a view, those of the range, each moved from `lower` to `start`; or none of them.
+fn push_shifted<W: Offsets, BC: Storage + Push<u64>>(
+    bounds: &mut BC,
+    view: &W,
+    range: Range<usize>,
+    lower: u64,
+    start: usize,
+) -> Result<(), GrowError>
+    requires sound { IsSound BC.format (BC.content bounds.old) }
+    requires view_sound { IsSound W.format (W.content view.now) }
+    requires ordered { range.start ≤ range.«end» }
+    requires in_range { range.«end» ≤ length (W.format.rows (W.content view.now)) }
+    requires held { (i n : ℕ) → range.start ≤ i → i < range.«end» → slice_get (numbers (W.format.rows (W.content view.now))) i ≡ Some n → (lower ≤ n) × (start + (n - lower) < 2 ^ 64) }
+    ensures ok { OnOk result (Took BC.format (BC.content bounds.old) (BC.content bounds.new) (take (range.«end» - range.start) (drop range.start (shifted lower start (numbers (W.format.rows (W.content view.now))))))) }
+    ensures err { IfErr result (λ e. Refused BC.format (BC.content bounds.old) (BC.content bounds.new) (take (range.«end» - range.start) (drop range.start (shifted lower start (numbers (W.format.rows (W.content view.now)))))) e) }
+{
+    let before = bounds.len();
+    for i in range.start..range.end {
+        let end = view.offset(i) - lower;
+        match bounds.push(start as u64 + end) {
+            Ok(()) => {}
+            Err(error) => {
+                bounds.truncate(before);
+                return Err(error);
+            }
+        }
+    }
+    Ok(())
+}
+
+impl<
+    V: Index + Copy,
+    W: Index + Offsets + Copy,
+    TC: ExtendFrom<V>,
+    BC: ExtendFrom<W> + Offsets + Push<u64>,
+> ExtendFrom<Vecs<V, W>> for Vecs<TC, BC> {
+    fn add_room(room: (BC::Room, TC::Room), view: Vecs<V, W>) -> (BC::Room, TC::Room) {
+        (
+            BC::add_room(room.0, view.bounds),
+            TC::add_room(room.1, view.values),
+        )
+    }
+
+    fn extend_from_self(&mut self, view: Vecs<V, W>, range: Range<usize>) -> Result<(), GrowError> {
+        let before = self.values.len();
+        let lower = start_of(&view.bounds, range.start);
+        let upper = start_of(&view.bounds, range.end);
+        match self
+            .values
+            .extend_from_self(view.values, lower as usize..upper as usize)
+        {
+            Ok(()) => {}
+            Err(error) => return Err(error),
+        }
+        // All values have a number of 64 bits, so the moved bounds do.
+        let _end = self.values.len();
+        match push_shifted(&mut self.bounds, &view.bounds, range, lower, before) {
+            Ok(()) => Ok(()),
+            Err(error) => {
+                self.values.truncate(before);
+                Err(error)
+            }
+        }
+    }
+}
+
+impl<
+    'a,
+    TC: Container<'a>,
+    BC: Container<'a> + Borrow<'a, Borrowed: Offsets> + Offsets + Push<u64>,
+> Container<'a> for Vecs<TC, BC> {}
+
+impl<'b, TC: Reborrow<'b>, BC: Reborrow<'b>> Reborrow<'b> for Vecs<TC, BC> {
+    type Short = Vecs<TC::Short, BC::Short>;
+
+    ghost same_short = { same_lists BC.same_short TC.same_short };
+
+    fn reborrow(self) -> Vecs<TC::Short, BC::Short> {
+        let bounds = self.bounds.reborrow();
+        let values = self.values.reborrow();
+        Vecs { bounds, values }
+    }
+}
+
+impl<TC: Stored, BC: StoredOffsets> Stored for Vecs<TC, BC> {
+    ghost use Rattle.columnar_base.specs.Format.{slices_of};
+
+    ghost counted = { λ v. two_counted (slices_of (BC.content v.bounds)) (slices_of (TC.content v.values)) (BC.counted v.bounds) (TC.counted v.values) };
+
+    ghost storable = { lists_storable BC.format TC.format BC.storable TC.storable };
+
+    fn slice_count() -> usize {
+        BC::slice_count() + TC::slice_count()
+    }
+
+    fn element_sizes(sizes: &mut Vec<usize>) -> Result<(), GrowError> {
+        let before = sizes.len();
+        match BC::element_sizes(sizes) {
+            Ok(()) => {}
+            Err(error) => return Err(error),
+        }
+        match TC::element_sizes(sizes) {
+            Ok(()) => Ok(()),
+            Err(error) => {
+                sizes.truncate(before);
+                Err(error)
+            }
+        }
+    }
+
+    fn judge_tallied<L>(
+        store: &DecodedStore<'_>,
+        offset: usize,
+        tally: &mut Tally<L>,
+    ) -> Result<(), StoreFault> {
+        match BC::judge_tallied(store, offset, tally) {
+            Ok(()) => {}
+            Err(fault) => return Err(fault),
+        }
+        let middle = offset + BC::slice_count();
+        match TC::judge_tallied(store, middle, tally) {
+            Ok(()) => {}
+            Err(fault) => return Err(fault),
+        }
+        let values = TC::rows_in(store, middle);
+        if BC::rises_in_tallied(store, offset, values as u64, tally) {
+            Ok(())
+        } else {
+            Err(StoreFault::Bounds(offset))
+        }
+    }
+
+    fn rows_in(store: &DecodedStore<'_>, offset: usize) -> usize {
+        BC::rows_in(store, offset)
+    }
+}
+
+impl<TC: Check + Len, BC: Check + StoredOffsets + Offsets> Check for Vecs<TC, BC> {
+    fn check_from_tallied<L>(&self, from: usize, tally: &mut Tally<L>) -> Result<(), StoreFault> {
+        match self.bounds.check_from_tallied(from, tally) {
+            Ok(()) => {}
+            Err(fault) => return Err(fault),
+        }
+        match self
+            .values
+            .check_from_tallied(from + BC::slice_count(), tally)
+        {
+            Ok(()) => {}
+            Err(fault) => return Err(fault),
+        }
+        let values = self.values.len();
+        if self.bounds.rises_to_tallied(values as u64, tally) {
+            Ok(())
+        } else {
+            Err(StoreFault::Bounds(from))
+        }
+    }
+}
+
+impl<'s, TC: FromBytes<'s> + Len, BC: FromBytes<'s> + StoredOffsets + Offsets> FromBytes<'s>
+    for Vecs<TC, BC> {
+    fn from_store(store: &DecodedStore<'s>, offset: &mut usize) -> Self {
+        let bounds = BC::from_store(store, offset);
+        let values = TC::from_store(store, offset);
+        Vecs { bounds, values }
+    }
+}
+
+impl<'s, TC: AsBytes<'s>, BC: AsBytes<'s> + StoredOffsets> AsBytes<'s> for Vecs<TC, BC> {
+    fn get_byte_slice(&self, index: usize) -> (u64, ByteSlice<'s>) {
+        let first = BC::slice_count();
+        if index < first {
+            self.bounds.get_byte_slice(index)
+        } else {
+            self.values.get_byte_slice(index - first)
+        }
+    }
+}
+
+impl<TC: ContainerBytes, BC: ContainerBytes + Offsets + StoredOffsets + Drop> ContainerBytes
+    for Vecs<TC, BC> {
+    fn byte_slice(&self, index: usize) -> ByteSlice<'_> {
+        let first = BC::slice_count();
+        if index < first {
+            self.bounds.byte_slice(index)
+        } else {
+            self.values.byte_slice(index - first)
+        }
+    }
+
+    fn load(alloc: Global, store: &DecodedStore<'_>, offset: usize) -> Result<Self, GrowError> {
+        let bounds = match BC::load(alloc, store, offset) {
+            Ok(bounds) => bounds,
+            Err(error) => return Err(error),
+        };
+        match TC::load(alloc, store, offset + BC::slice_count()) {
+            Ok(values) => Ok(Vecs { bounds, values }),
+            Err(error) => Err(error),
+        }
+    }
+}
+
+#[cfg(test)]
+mod tests {
+    use super::*;
+    use columnar_base::view::View;
+    use std::test::Fail;
+
+    type Lists = Vecs<Vec<u64>, Vec<u64>>;
+
+    type ListsView<'a> = Vecs<View<'a, u64>, View<'a, u64>>;
+
+    type Nested = Vecs<Lists, Vec<u64>>;
+
+    // The rows of a container, through the bound.
+    fn count<'a, C: Container<'a>>(column: &'a C) -> usize
+        requires { IsSound C.format (C.content column.now) }
+        ensures { result ≡ length (C.format.rows (C.content column.now)) }
+    {
+        column.len()
+    }
+
+    // Pushes rows of a view as one row; false where they are not there, or where the push is refused.
+    fn pushed<V: Index + Copy, C: Push<Slice<V>>>(
+        column: &mut C,
+        view: V,
+        lower: usize,
+        upper: usize,
+    ) -> bool
+        requires sound { IsSound C.format (C.content column.old) }
+        requires view_sound { IsSound V.format (V.content view) }
+        ensures { IsSound C.format (C.content column.new) }
+    {
+        if lower > upper || upper > view.len() {
+            return false;
+        }
+        let item = Slice {
+            lower,
+            upper,
+            slice: view,
+        };
+        column.push(item).is_ok()
+    }
+
+    // Copies rows of a view behind those of a container; false where they are not there, or where the copy is refused.
+    fn copied<V: Index + Copy, C: ExtendFrom<V>>(
+        column: &mut C,
+        view: V,
+        start: usize,
+        end: usize,
+    ) -> bool
+        requires sound { IsSound C.format (C.content column.old) }
+        requires view_sound { IsSound V.format (V.content view) }
+        ensures { IsSound C.format (C.content column.new) }
+    {
+        if start > end || end > view.len() {
+            return false;
+        }
+        column.extend_from_self(view, start..end).is_ok()
+    }
+
+    // Row `index`, where there is one.
+    fn row_at<V: Index>(view: &V, index: usize) -> Option<V::Ref>
+        requires { IsSound V.format (V.content view.now) }
+        ensures { IfSome result V.Ref.valid }
+    {
+        if index < view.len() {
+            Some(view.get(index))
+        } else {
+            None
+        }
+    }
+
+    #[test]
+    fn lists_of_words(rt: HostRuntime) -> Result<(), Fail> {
+        let view = View::from_slice([1u64, 2, 3, 4, 5, 6].as_slice());
+        let mut lists = Lists::empty(rt.alloc());
+        assert!(rt; pushed(&mut lists, view, 0, 2));
+        assert!(rt; pushed(&mut lists, view, 2, 2));
+        assert!(rt; pushed(&mut lists, view, 1, 6));
+        assert_eq!(rt; count(&lists), 3);
+        assert_eq!(rt; lists.bounds.as_slice(), [2, 2, 7].as_slice());
+        assert_eq!(rt; lists.values.as_slice(), [1, 2, 2, 3, 4, 5, 6].as_slice());
+        let last = row_at(&lists.borrow(), 2).expect(&rt, "row 2");
+        assert_eq!(rt; last.len(), 5);
+        assert_eq!(rt; row_at(&last, 1), Some(3));
+        let copy = lists.clone()?;
+        assert_eq!(rt; copy.bounds.as_slice(), [2, 2, 7].as_slice());
+        lists.clear();
+        assert!(rt; lists.is_empty());
+        Ok(())
+    }
+
+    #[test]
+    fn ranges_of_lists(rt: HostRuntime) -> Result<(), Fail> {
+        let view = View::from_slice([1u64, 2, 3, 4, 5, 6].as_slice());
+        let mut source = Lists::empty(rt.alloc());
+        assert!(rt; pushed(&mut source, view, 0, 2));
+        assert!(rt; pushed(&mut source, view, 2, 5));
+        assert!(rt; pushed(&mut source, view, 5, 6));
+        let views = [source.borrow(), source.borrow()];
+        let mut lists = Lists::with_capacity_for(rt.alloc(), views.iter().copied())?;
+        assert!(rt; pushed(&mut lists, view, 4, 6));
+        assert!(rt; lists.reserve_for(views.iter().copied()).is_ok());
+        assert!(rt; copied(&mut lists, source.borrow(), 1, 3));
+        assert_eq!(rt; lists.bounds.as_slice(), [2, 5, 6].as_slice());
+        assert_eq!(rt; lists.values.as_slice(), [5, 6, 3, 4, 5, 6].as_slice());
+        assert!(rt; copied(&mut lists, source.borrow().reborrow(), 2, 2));
+        let many = count(&lists);
+        assert_eq!(rt; many, 3);
+        lists.truncate(many - 1);
+        assert_eq!(rt; lists.bounds.as_slice(), [2, 5].as_slice());
+        assert_eq!(rt; lists.values.as_slice(), [5, 6, 3, 4, 5].as_slice());
+        Ok(())
+    }
+
+    #[test]
+    fn slices_of_lists(rt: HostRuntime) -> Result<(), Fail> {
+        let values = View::from_slice([7u64, 8, 9].as_slice());
+        for (bounds, wanted) in [
+            ([1u64, 1, 3], Ok(())),
+            ([2, 1, 3], Err(StoreFault::Bounds(0))),
+            ([1, 1, 2], Err(StoreFault::Bounds(0))),
+        ] {
+            let lists = ListsView {
+                bounds: View::from_slice(bounds.as_slice()),
+                values,
+            };
+            assert_eq!(rt; lists.check(), wanted);
+            assert_eq!(rt; lists.get_byte_slice(1).1.len(), 24);
+        }
+        let mut sizes = Vec::new(rt.alloc());
+        assert!(rt; Lists::element_sizes(&mut sizes).is_ok());
+        assert!(rt; Nested::element_sizes(&mut sizes).is_ok());
+        assert_eq!(rt; sizes.as_slice(), [8, 8, 8, 8, 8].as_slice());
+        assert_eq!(rt; Nested::slice_count(), 3);
+        Ok(())
+    }
+
+    #[test]
+    fn lists_of_lists(rt: HostRuntime) -> Result<(), Fail> {
+        let view = View::from_slice([1u64, 2, 3, 4, 5, 6].as_slice());
+        let mut inner = Lists::empty(rt.alloc());
+        assert!(rt; pushed(&mut inner, view, 0, 2));
+        assert!(rt; pushed(&mut inner, view, 2, 2));
+        assert!(rt; pushed(&mut inner, view, 2, 6));
+        let mut nested = Nested::empty(rt.alloc());
+        assert!(rt; pushed(&mut nested, inner.borrow(), 1, 3));
+        assert!(rt; pushed(&mut nested, inner.borrow(), 0, 1));
+        let mut copy = Nested::empty(rt.alloc());
+        assert!(rt; copied(&mut copy, nested.borrow(), 0, 2));
+        assert!(rt; copied(&mut copy, nested.borrow(), 0, 2));
+        assert_eq!(rt; count(&copy), 4);
+        assert_eq!(rt; copy.bounds.as_slice(), [2, 3, 5, 6].as_slice());
+        assert_eq!(rt;
+            copy.values.bounds.as_slice(),
+            [0, 4, 6, 6, 10, 12].as_slice()
+        );
+        let list = row_at(&copy.borrow(), 1).expect(&rt, "row 1");
+        let inner_list = row_at(&list, 0).expect(&rt, "row 0 of row 1");
+        assert_eq!(rt; row_at(&inner_list, 1), Some(2));
+        assert_eq!(rt; copy.byte_slice(2).len(), 96);
+        Ok(())
+    }
+}

@@ -1,0 +1,53 @@
+//! Columns that keep each row in bytes of its own, in one slice.
+ghost use Rattle.std.specs.Prelude.{◌≡◌, ℕ, ◌+◌, ◌<◌, length, drop, slice_get, Some, IsTrue, true, refl};
+ghost use Rattle.columnar_base.specs.Format.{Fits, representable};
+ghost use Rattle.columnar_base.specs.Elements.{elements_format, elements_rows, first_slice};
+ghost use Rattle.columnar_core.specs.Store.{slices_in};
+ghost use Rattle.columnar_primitive.specs.Mapped.{IsFlat};
+ghost use Rattle.columnar_primitive.specs.MappedLaws.{elements_flat};
+
+use columnar_core::bytes::Stored;
+use columnar_core::element::Element;
+use columnar_core::store::DecodedStore;
+use columnar_core::traits::Index;
+use columnar_core::view::{View, element_in};
+
+/// A column that keeps each row in bytes of its own, in one slice: a `Vec` of elements, or a view of one.
+pub trait Flat: Index + Stored {
+    /// Row `index` of the column in the slices from `offset` on, which were accepted.
+    fn row_in(store: &DecodedStore<'_>, offset: usize, index: usize) -> Self::Ref
+        requires representable { IsTrue (representable Self.format) }
+        requires fits { Fits Self.format offset (slices_in store.now) }
+        requires in_range { index < length (Self.format.rows (Self.format.build (drop offset (slices_in store.now)))) }
+        ensures { slice_get (Self.format.rows (Self.format.build (drop offset (slices_in store.now)))) index ≡ Some (Self.Ref.meaning result) };
+
+    ghost flat: { IsFlat Self.format };
+
+    // its test takes no turn
+    ghost still: { Self.format.turns ≡ 0 };
+}
+
+impl<T: Element> Flat for Vec<T> {
+    ghost flat = { elements_flat T.size T.row_of T.element.positive };
+
+    ghost still = { refl };
+
+    fn row_in(store: &DecodedStore<'_>, offset: usize, index: usize) -> T {
+        element_in(store.get(offset), index)
+    }
+}
+
+impl<'v, T: Element> Flat for View<'v, T> {
+    ghost flat = { elements_flat T.size T.row_of T.element.positive };
+
+    ghost still = { refl };
+
+    fn row_in(store: &DecodedStore<'_>, offset: usize, index: usize) -> T
+        requires representable { IsTrue (representable (elements_format T.size T.row_of)) }
+        requires fits { Fits (elements_format T.size T.row_of) offset (slices_in store.now) }
+        requires in_range { index < length (elements_rows T.size T.row_of (first_slice (drop offset (slices_in store.now)))) }
+        ensures { slice_get (elements_rows T.size T.row_of (first_slice (drop offset (slices_in store.now)))) index ≡ Some (T.meaning result) }
+    {
+        Vec::<T>::row_in(store, offset, index)
+    }
+}

@@ -1,0 +1,11 @@
+//! Columns of the values of the language: numbers by other names, characters, durations, units.
+#![tactic(auto)]
+
+pub mod chars;
+pub mod codes;
+pub mod count;
+pub mod durations;
+pub mod empties;
+pub mod flat;
+pub mod numbers;
+pub mod rule;

@@ -1,0 +1,35 @@
+//! Columns of numbers by other names.
+ghost use Rattle.std.specs.Prelude.{◌≡◌, true, IsTrue};
+ghost use Rattle.columnar_base.specs.Row.{Row};
+
+use crate::codes::{Coded, Codes};
+use crate::rule::Rule;
+
+/// A column of `usize`s, kept as 64-bit numbers.
+pub type Usizes<CV> = Codes<CV, usize>;
+
+impl Rule for usize {
+    type Code = u64;
+
+    ghost is_code = { λ r. true };
+
+    fn fits(_code: u64) -> bool {
+        true
+    }
+}
+
+impl Coded for usize {
+    ghost row_of = { λ r. r };
+
+    fn code(self) -> u64 {
+        self as u64
+    }
+
+    fn from_code(code: u64) -> usize {
+        code as usize
+    }
+
+    fn always_fits() -> bool {
+        true
+    }
+}

@@ -107,7 +107,10 @@ fn arrays_stand_one_behind_the_other(rt: HostRuntime) -> Result<(), Fail> {
     assert_eq!(rt; slice.word(0), 1125912791875585);
     assert_eq!(rt; slice.word(1), 393221);
     assert_eq!(rt; <[u16; 3] as Element>::size(), 6);
-    assert_eq!(rt; <[u16; 3] as Element>::from_le_bytes(&[4, 0, 5, 0, 6, 0]), [4, 5, 6]);
+    assert_eq!(rt;
+        <[u16; 3] as Element>::from_le_bytes(&[4, 0, 5, 0, 6, 0]),
+        [4, 5, 6]
+    );
     assert!(rt; items[0].same(&[1, 2, 3]));
     assert!(rt; !items[0].same(&[1, 2, 4]));
     Ok(())
@@ -116,20 +119,47 @@ fn arrays_stand_one_behind_the_other(rt: HostRuntime) -> Result<(), Fail> {
 // Each family of numbers makes arrays that go out.
 #[test]
 fn arrays_of_each_number_go_out(rt: HostRuntime) -> Result<(), Fail> {
-    assert_eq!(rt; <[u8; 3] as Sliced>::byte_slice(&[[1, 2, 3]]).word(0), 197121);
+    assert_eq!(rt;
+        <[u8; 3] as Sliced>::byte_slice(&[[1, 2, 3]]).word(0),
+        197121
+    );
     assert_eq!(rt; <[u32; 1] as Sliced>::byte_slice(&[[7]]).word(0), 7);
     assert_eq!(rt; <[u64; 1] as Sliced>::byte_slice(&[[7]]).word(0), 7);
     assert_eq!(rt; <[i8; 2] as Sliced>::byte_slice(&[[1, -1]]).word(0), 65281);
     assert_eq!(rt; <[i16; 1] as Sliced>::byte_slice(&[[-1]]).word(0), 65535);
     assert_eq!(rt; <[i32; 1] as Sliced>::byte_slice(&[[7]]).word(0), 7);
     assert_eq!(rt; <[i64; 1] as Sliced>::byte_slice(&[[7]]).word(0), 7);
-    assert_eq!(rt; <[Wrapping<u8>; 1] as Sliced>::byte_slice(&[[Wrapping(7)]]).word(0), 7);
-    assert_eq!(rt; <[Wrapping<u16>; 1] as Sliced>::byte_slice(&[[Wrapping(7)]]).word(0), 7);
-    assert_eq!(rt; <[Wrapping<u32>; 1] as Sliced>::byte_slice(&[[Wrapping(7)]]).word(0), 7);
-    assert_eq!(rt; <[Wrapping<u64>; 1] as Sliced>::byte_slice(&[[Wrapping(7)]]).word(0), 7);
-    assert_eq!(rt; <[Wrapping<i8>; 1] as Sliced>::byte_slice(&[[Wrapping(7)]]).word(0), 7);
-    assert_eq!(rt; <[Wrapping<i16>; 1] as Sliced>::byte_slice(&[[Wrapping(7)]]).word(0), 7);
-    assert_eq!(rt; <[Wrapping<i32>; 1] as Sliced>::byte_slice(&[[Wrapping(7)]]).word(0), 7);
-    assert_eq!(rt; <[Wrapping<i64>; 1] as Sliced>::byte_slice(&[[Wrapping(7)]]).word(0), 7);
+    assert_eq!(rt;
+        <[Wrapping<u8>; 1] as Sliced>::byte_slice(&[[Wrapping(7)]]).word(0),
+        7
+    );
+    assert_eq!(rt;
+        <[Wrapping<u16>; 1] as Sliced>::byte_slice(&[[Wrapping(7)]]).word(0),
+        7
+    );
+    assert_eq!(rt;
+        <[Wrapping<u32>; 1] as Sliced>::byte_slice(&[[Wrapping(7)]]).word(0),
+        7
+    );
+    assert_eq!(rt;
+        <[Wrapping<u64>; 1] as Sliced>::byte_slice(&[[Wrapping(7)]]).word(0),
+        7
+    );
+    assert_eq!(rt;
+        <[Wrapping<i8>; 1] as Sliced>::byte_slice(&[[Wrapping(7)]]).word(0),
+        7
+    );
+    assert_eq!(rt;
+        <[Wrapping<i16>; 1] as Sliced>::byte_slice(&[[Wrapping(7)]]).word(0),
+        7
+    );
+    assert_eq!(rt;
+        <[Wrapping<i32>; 1] as Sliced>::byte_slice(&[[Wrapping(7)]]).word(0),
+        7
+    );
+    assert_eq!(rt;
+        <[Wrapping<i64>; 1] as Sliced>::byte_slice(&[[Wrapping(7)]]).word(0),
+        7
+    );
     Ok(())
 }

@@ -3,7 +3,7 @@ use Rattle.std.specs.Prelude.{slice_get, Some, None, nat_eq}
 use Rattle.std.specs.List.{flat_map}
 use Rattle.std.specs.Int.{to_le_bytes, from_le_bytes, w64}
 use Rattle.std.proofs.lemmas.Grind.{flat_map-append}
-use Rattle.std.proofs.lemmas.List.{append-nil, map-append, length-map, take-map, take-append-le, drop-drop}
+use Rattle.std.proofs.lemmas.List.{append-nil, map-append, length-map, take-map, drop-drop}
 use Rattle.std.proofs.lemmas.Bool.{eqb-true, eq-eqb, ltb-true, lt-ltb}
 use Rattle.std.proofs.Math.Seq.{take-append_seam, drop-append_seam}
 use Rattle.std.proofs.lemmas.Option.{slice_get-map}

@@ -6,6 +6,7 @@ ghost use Rattle.columnar_base.specs.Row.{Row};
 ghost use Rattle.columnar_base.specs.Format.{Content, Format, IsSound};
 ghost use Rattle.columnar_base.specs.Change.{Took, Refused, StoppedAt};
 
+use crate::element::Element;
 use crate::fault::GrowError;
 
 /// A value that is a row.
@@ -89,13 +90,12 @@ pub trait PushRef<T: Item>: Column {
         ensures err { IfErr result (λ e. Refused Self.format (Self.content self.old) (Self.content self.new) (T.meaning item.now ∷ []) e) };
 }
 
-/// A column that takes a slice of items at once, each a row of its own. (As one item a slice is one row, a list; so
+/// A column that takes a slice of elements at once, each a row of its own. (As one item a slice is one row, a list; so
 /// this is no push of a slice.)
-pub trait PushSlice<T: Item>: Column {
-    /// Adds rows that are alike to the items, in their order, or none of them.
+pub trait PushSlice<T: Element>: Column {
+    /// Adds rows that are alike to the elements, in their order, or none of them.
     fn push_slice(&mut self, items: &[T]) -> Result<(), GrowError>
-        requires sound { IsSound Self.format (Self.content self.old) }
-        requires valid { All T.valid items.now }
+        requires { IsSound Self.format (Self.content self.old) }
         ensures ok { OnOk result (Took Self.format (Self.content self.old) (Self.content self.new) (map T.meaning items.now)) }
         ensures err { IfErr result (λ e. Refused Self.format (Self.content self.old) (Self.content self.new) (map T.meaning items.now) e) };
 }

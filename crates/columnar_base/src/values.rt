@@ -1,5 +1,7 @@
 //! Values of the language as rows.
-ghost use Rattle.columnar_base.specs.Row.{character, unit};
+ghost use Rattle.std.specs.Prelude.{◌/◌, ◌%◌};
+ghost use Rattle.std.specs.Duration.{as_nanos};
+ghost use Rattle.columnar_base.specs.Row.{character, duration, unit};
 ghost use Rattle.columnar_base.specs.Elements.{word_row};
 
 use crate::traits::Item;
@@ -19,6 +21,13 @@ impl Item for usize {
 
 impl Item for char {
     ghost meaning = { character };
+
+    ghost valid = { λ x. Unit {0} };
+}
+
+/// Its whole seconds, and the nanoseconds besides.
+impl Item for Duration {
+    ghost meaning = { λ d. duration (as_nanos d / 1000000000) (as_nanos d % 1000000000) };
 
     ghost valid = { λ x. Unit {0} };
 }

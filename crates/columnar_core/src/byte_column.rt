@@ -96,7 +96,11 @@ impl<'v, T: Element> Stored for &'v [T] {
         }
     }
 
-    fn judge_tallied<L>(store: &DecodedStore<'_>, offset: usize, tally: &mut Tally<L>) -> Result<(), StoreFault>
+    fn judge_tallied<L>(
+        store: &DecodedStore<'_>,
+        offset: usize,
+        tally: &mut Tally<L>,
+    ) -> Result<(), StoreFault>
         requires representable { IsTrue (representable (elements_format T.size T.row_of)) }
         requires room { offset + 1 ≤ length (slices_in store.now) }
         ensures exact { verdict result ≡ first (moved offset (elements_broken T.size (first_slice (drop offset (slices_in store.now))))) }

@@ -1,10 +1,93 @@
 //! Values of the language as rows that name no lifetime.
 use crate::container::ReborrowRef;
+use columnar_base::element::Primitive;
+use columnar_base::traits::Item;
+use std::num::Wrapping;
 
 impl<'b> ReborrowRef<'b> for () {
     type ShortRef = ();
 
     fn reborrow_ref(self) {
+        self
+    }
+}
+
+impl<'b> ReborrowRef<'b> for u8 {
+    type ShortRef = u8;
+
+    fn reborrow_ref(self) -> u8 {
+        self
+    }
+}
+
+impl<'b> ReborrowRef<'b> for u16 {
+    type ShortRef = u16;
+
+    fn reborrow_ref(self) -> u16 {
+        self
+    }
+}
+
+impl<'b> ReborrowRef<'b> for u32 {
+    type ShortRef = u32;
+
+    fn reborrow_ref(self) -> u32 {
+        self
+    }
+}
+
+impl<'b> ReborrowRef<'b> for u64 {
+    type ShortRef = u64;
+
+    fn reborrow_ref(self) -> u64 {
+        self
+    }
+}
+
+impl<'b> ReborrowRef<'b> for i8 {
+    type ShortRef = i8;
+
+    fn reborrow_ref(self) -> i8 {
+        self
+    }
+}
+
+impl<'b> ReborrowRef<'b> for i16 {
+    type ShortRef = i16;
+
+    fn reborrow_ref(self) -> i16 {
+        self
+    }
+}
+
+impl<'b> ReborrowRef<'b> for i32 {
+    type ShortRef = i32;
+
+    fn reborrow_ref(self) -> i32 {
+        self
+    }
+}
+
+impl<'b> ReborrowRef<'b> for i64 {
+    type ShortRef = i64;
+
+    fn reborrow_ref(self) -> i64 {
+        self
+    }
+}
+
+impl<'b, T: Item> ReborrowRef<'b> for Wrapping<T> {
+    type ShortRef = Wrapping<T>;
+
+    fn reborrow_ref(self) -> Wrapping<T> {
+        self
+    }
+}
+
+impl<'b, T: Primitive, const N: usize> ReborrowRef<'b> for [T; N] {
+    type ShortRef = [T; N];
+
+    fn reborrow_ref(self) -> [T; N] {
         self
     }
 }

@@ -1,8 +1,7 @@
-use Rattle.std.proofs.Common.{◌≡◌, ℕ, zero, suc, ◌+◌, ◌*◌, ◌^◌, ◌<◌, ◌≤◌, Bool, true, false, List, [], ◌∷◌, length, refl, sym, ◌∙◌, ap, arith}
+use Rattle.std.proofs.Common.{◌≡◌, ℕ, zero, suc, ◌*◌, ◌^◌, ◌<◌, List, length, refl, sym, ◌∙◌, arith}
 use Rattle.std.specs.Prelude.{nat_eq}
 use Rattle.std.proofs.lemmas.Bool.{ne_eqb}
-use Rattle.std.specs.Int.{to_le_bytes, from_le_bytes, w64}
-use Rattle.columnar_base.specs.Format.{Content}
+use Rattle.std.specs.Int.{to_le_bytes, w64}
 use Rattle.columnar_base.specs.Elements.{elements}
 use Rattle.columnar_base.specs.ElementLaws.{length-flat}
 use Rattle.columnar_primitive.specs.Counts.{is_word, number_in, word_of}

@@ -1,5 +1,5 @@
 -- A number of rows, held as one 64-bit word.
-use Rattle.std.specs.Prelude.{ℕ, Bool, false, List, length, nat_eq}
+use Rattle.std.specs.Prelude.{ℕ, Bool, false, length, nat_eq}
 use Rattle.std.specs.Int.{to_le_bytes, from_le_bytes, w64}
 use Rattle.columnar_base.specs.Format.{Content, slice, both, part, plain}
 

@@ -5,3 +5,5 @@ pub mod UnitLaws
 pub mod Mapped
 pub mod MappedLaws
 pub mod Characters
+pub mod Durations
+pub mod DurationLaws

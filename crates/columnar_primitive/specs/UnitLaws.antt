@@ -1,13 +1,12 @@
-use Rattle.std.proofs.Common.{◌≡◌, ℕ, zero, suc, ◌+◌, ◌-◌, ◌^◌, ◌<◌, ◌≤◌, ◌%◌, Bool, true, false, List, [], ◌∷◌, ◌++◌, length, take, drop, refl, sym, ◌∙◌, ap, arith, length-append}
-use Rattle.std.specs.Prelude.{replicate, slice_get, Some, nat_eq, nat_lt}
-use Rattle.std.specs.Int.{to_le_bytes, from_le_bytes, w64}
-use Rattle.std.proofs.lemmas.Bool.{eqb-true, eq-eqb, ltb-true, lt-ltb}
-use Rattle.columnar_base.specs.Row.{Row, unit, row_eq}
+use Rattle.std.proofs.Common.{◌≡◌, ℕ, zero, suc, ◌+◌, ◌-◌, ◌^◌, ◌<◌, ◌≤◌, true, List, [], ◌∷◌, ◌++◌, length, take, drop, refl, sym, ◌∙◌, ap, arith, length-append}
+use Rattle.std.specs.Prelude.{slice_get, Some}
+use Rattle.std.proofs.lemmas.Bool.{eqb-true, ltb-true, lt-ltb}
+use Rattle.columnar_base.specs.Row.{unit, row_eq}
 use Rattle.columnar_base.specs.AlikeLaws.{row_eq_same, alike_all}
 use Rattle.columnar_base.specs.FaultLaws.{unless_true, true_unless}
-use Rattle.columnar_base.specs.Format.{Content, slice, both, part, plain, IsSound, IsLawful, IsStorable, Excess, too_many, misplaced, fault, lengths, slices_of, refuses_more}
+use Rattle.columnar_base.specs.Format.{Content, slice, both, part, plain, IsSound, IsLawful, IsStorable, Excess, too_many, misplaced, fault, lengths, slices_of}
 use Rattle.columnar_base.specs.Elements.{first_slice, past_count}
-use Rattle.columnar_base.specs.Change.{Keeps, Grew, Stayed, WasCut, Took, Copied, IsTrueOf, Refused}
+use Rattle.columnar_base.specs.Change.{Keeps, Grew, WasCut, Took, Copied, Refused}
 use Rattle.columnar_base.specs.ChangeLaws.{unchanged}
 use Rattle.columnar_base.specs.declared.fault.GrowError.{GrowError}
 use Rattle.columnar_base.specs.declared.fault.GrowError.TheVariants.{Length}

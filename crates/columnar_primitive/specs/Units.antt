@@ -1,7 +1,7 @@
 -- Columns of units, of which the number alone is kept.
 use Rattle.std.specs.Prelude.{ℕ, List, [], ◌∷◌, length, ◌+◌, replicate}
 use Rattle.columnar_base.specs.Row.{Row, unit, row_eq}
-use Rattle.columnar_base.specs.Format.{Format, Content, fault, unless}
+use Rattle.columnar_base.specs.Format.{Format, fault, unless}
 use Rattle.columnar_base.specs.Elements.{first_slice, past_count}
 use Rattle.columnar_primitive.specs.Counts.{is_word, number_in}
 

@@ -4,6 +4,7 @@
 pub mod chars;
 pub mod codes;
 pub mod count;
+pub mod durations;
 pub mod empties;
 pub mod flat;
 pub mod numbers;

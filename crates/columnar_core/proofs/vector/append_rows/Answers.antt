@@ -1,7 +1,7 @@
 use Rattle.std.proofs.Common.{arith}
 use Rattle.columnar_base.specs.Elements.{elements_rows}
 use Rattle.columnar_base.specs.Views.{items_content}
-use Rattle.columnar_core.specs.Appended.{appended_more}
+use Rattle.columnar_core.specs.Appended.{appended_more, appended_none}
 use Rattle.columnar_core.proofs.vector.append_rows.Goals as goal
 
 pub loop-i-preserved : goal.loop-i-preserved

@@ -1,4 +1,3 @@
-use Rattle.std.proofs.Common.{◌≡◌}
 use Rattle.columnar_base.specs.ElementLaws.{read_more}
 use Rattle.columnar_core.proofs.vector.elements_of.Goals as goal
 

@@ -1,4 +1,4 @@
-use Rattle.std.proofs.Common.{◌≡◌, sym, ◌∙◌, arith}
+use Rattle.std.proofs.Common.{sym, ◌∙◌, arith}
 use Rattle.columnar_primitive.specs.MappedLaws.{fail_get, pass_more}
 use Rattle.columnar_primitive.proofs.rule.all_fit.Goals as goal
 

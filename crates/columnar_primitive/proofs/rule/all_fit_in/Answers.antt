@@ -1,4 +1,4 @@
-use Rattle.std.proofs.Common.{◌≡◌, sym, ◌∙◌, arith, drop}
+use Rattle.std.proofs.Common.{sym, ◌∙◌, arith, drop}
 use Rattle.columnar_core.specs.Store.{slices_in}
 use Rattle.columnar_primitive.specs.MappedLaws.{fail_get, pass_more}
 use Rattle.columnar_primitive.proofs.rule.all_fit_in.Goals as goal

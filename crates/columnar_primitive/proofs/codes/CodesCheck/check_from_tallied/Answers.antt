@@ -1,4 +1,4 @@
-use Rattle.std.proofs.Common.{length, refl}
+use Rattle.std.proofs.Common.{length}
 use Rattle.columnar_base.specs.Format.{bytes_held, IsSound}
 use Rattle.columnar_base.specs.FaultLaws.{sound_from}
 use Rattle.columnar_primitive.specs.MappedLaws.{mapped_fine, pass_always, turns_fit}

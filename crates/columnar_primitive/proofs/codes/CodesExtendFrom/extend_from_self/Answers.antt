@@ -1,4 +1,4 @@
-use Rattle.std.proofs.Common.{◌≡◌, ◌-◌, take, drop}
+use Rattle.std.proofs.Common.{◌-◌, drop}
 use Rattle.columnar_primitive.specs.MappedLaws.{mapped_parts, mapped_piece, mapped_copied, pass_take, pass_drop}
 use Rattle.columnar_primitive.proofs.codes.CodesExtendFrom.extend_from_self.Goals as goal
 

@@ -1,4 +1,3 @@
-use Rattle.std.proofs.Common.{◌≡◌}
 use Rattle.columnar_primitive.specs.MappedLaws.{mapped_parts, mapped_get, pass_get}
 use Rattle.columnar_primitive.proofs.codes.CodesIndex.get.Goals as goal
 

@@ -1,6 +1,6 @@
-use Rattle.std.proofs.Common.{◌≡◌, refl}
+use Rattle.std.proofs.Common.{refl}
 use Rattle.std.proofs.lemmas.Bool.{and_from}
-use Rattle.columnar_primitive.specs.MappedLaws.{mapped_took, mapped_refused}
+use Rattle.columnar_primitive.specs.MappedLaws.{mapped_took}
 use Rattle.columnar_primitive.proofs.codes.CodesPush.push.Goals as goal
 
 pub returns-in-Ok-clause-ok : goal.returns-in-Ok-clause-ok

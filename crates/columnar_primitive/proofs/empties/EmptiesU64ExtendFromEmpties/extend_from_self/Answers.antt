@@ -1,4 +1,4 @@
-use Rattle.std.proofs.Common.{◌≡◌, ◌-◌, ◌+◌, arith}
+use Rattle.std.proofs.Common.{◌-◌, arith}
 use Rattle.columnar_primitive.specs.Counts.{number_in}
 use Rattle.columnar_primitive.specs.UnitLaws.{number_copied, number_refused, length-units, units_piece}
 use Rattle.columnar_primitive.proofs.empties.EmptiesU64ExtendFromEmpties.extend_from_self.Goals as goal

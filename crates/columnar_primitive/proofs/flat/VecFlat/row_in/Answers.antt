@@ -1,5 +1,4 @@
-use Rattle.std.proofs.Common.{◌≡◌, ◌<◌, length, arith}
-use Rattle.columnar_base.specs.Elements.{elements_rows}
+use Rattle.std.proofs.Common.{arith}
 use Rattle.columnar_base.specs.ElementLaws.{within_bytes, row_read}
 use Rattle.columnar_core.specs.Store.{slices_in}
 use Rattle.columnar_core.specs.StoreLaws.{first_at}

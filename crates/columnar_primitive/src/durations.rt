@@ -1,0 +1,387 @@
+//! Columns of durations.
+ghost use Rattle.std.specs.Prelude.{◌≡◌, ℕ, ◌+◌, ◌-◌, ◌*◌, ◌/◌, ◌%◌, ◌^◌, ◌<◌, ◌≤◌, ◌++◌, [], ◌∷◌, length, take, drop, OnOk, OnErr, IfOk, IfErr, IsTrue, true};
+ghost use Rattle.std.specs.Duration.{as_nanos};
+ghost use Rattle.columnar_base.specs.Row.{duration};
+ghost use Rattle.columnar_base.specs.Format.{both, IsSound, slices_of};
+ghost use Rattle.columnar_base.specs.Change.{Refused, Took};
+ghost use Rattle.columnar_base.specs.TwoParts.{two_counted};
+ghost use Rattle.columnar_primitive.specs.Durations.{durations_format, is_part_second};
+ghost use Rattle.columnar_primitive.specs.DurationLaws.{durations_lawful, durations_storable, same_durations};
+
+use crate::flat::Flat;
+use crate::rule::{Rule, all_fit, all_fit_in};
+use columnar_core::byte_slice::ByteSlice;
+use columnar_core::bytes::{AsBytes, Check, FromBytes, Stored};
+use columnar_core::container::{Borrow, Container, ContainerBytes, ExtendFrom, Reborrow, Storage};
+use columnar_core::fault::{GrowError, StoreFault};
+use columnar_core::store::DecodedStore;
+use columnar_core::tally::Tally;
+use columnar_core::traits::{Clear, Column, Index, Len, Push, PushRef};
+use std::alloc::Global;
+use std::ops::Range;
+use std::time::Duration;
+
+/// A column of durations: their whole seconds, and the nanoseconds besides.
+#[derive(Clone, Copy, PartialEq)]
+pub struct Durations<SC, NC> {
+    /// The whole seconds.
+    pub seconds: SC,
+    /// The nanoseconds besides, below a second.
+    pub nanoseconds: NC,
+}
+
+/// Nanoseconds are below a second.
+struct PartSecond;
+
+impl Rule for PartSecond {
+    type Code = u32;
+
+    ghost is_code = { is_part_second };
+
+    fn fits(code: u32) -> bool {
+        code < 1_000_000_000
+    }
+}
+
+impl<SC: Column, NC: Column> Column for Durations<SC, NC> {
+    ghost format = { durations_format SC.format NC.format };
+
+    ghost content = { λ c. both (SC.content c.seconds) (NC.content c.nanoseconds) };
+}
+
+impl<SC: Len, NC: Len> Len for Durations<SC, NC> {
+    fn len(&self) -> usize {
+        self.seconds.len()
+    }
+}
+
+impl<SC: Index<Ref = u64>, NC: Index<Ref = u32>> Index for Durations<SC, NC> {
+    type Ref = Duration;
+
+    fn get(&self, index: usize) -> Duration {
+        let seconds = self.seconds.get(index);
+        let nanoseconds = self.nanoseconds.get(index);
+        duration_of(seconds, nanoseconds)
+    }
+}
+
+// The duration of so many seconds and nanoseconds, which are below a second.
+fn duration_of(seconds: u64, nanoseconds: u32) -> Duration
+    requires { nanoseconds % 2 ^ 32 < 1000000000 }
+    ensures seconds { as_nanos result / 1000000000 ≡ seconds % 2 ^ 64 }
+    ensures nanoseconds { as_nanos result % 1000000000 ≡ nanoseconds % 2 ^ 32 }
+{
+    Duration::new(seconds, nanoseconds)
+}
+
+impl<SC: Clear, NC: Clear> Clear for Durations<SC, NC> {
+    fn clear(&mut self) {
+        self.seconds.clear();
+        self.nanoseconds.clear();
+    }
+}
+
+impl<SC: Storage, NC: Storage> Storage for Durations<SC, NC> {
+    type Room = (SC::Room, NC::Room);
+
+    ghost lawful = { durations_lawful SC.format NC.format SC.lawful NC.lawful };
+
+    fn empty(alloc: Global) -> Self {
+        let seconds = SC::empty(alloc);
+        let nanoseconds = NC::empty(alloc);
+        Durations {
+            seconds,
+            nanoseconds,
+        }
+    }
+
+    fn duplicate(&self, alloc: Global) -> Result<Self, GrowError> {
+        let seconds = match self.seconds.duplicate(alloc) {
+            Ok(seconds) => seconds,
+            Err(error) => return Err(error),
+        };
+        match self.nanoseconds.duplicate(alloc) {
+            Ok(nanoseconds) => Ok(Durations {
+                seconds,
+                nanoseconds,
+            }),
+            Err(error) => Err(error),
+        }
+    }
+
+    fn truncate(&mut self, n: usize) {
+        self.seconds.truncate(n);
+        self.nanoseconds.truncate(n);
+    }
+
+    fn no_room() -> (SC::Room, NC::Room) {
+        (SC::no_room(), NC::no_room())
+    }
+
+    fn reserve_room(&mut self, room: (SC::Room, NC::Room)) -> Result<(), GrowError> {
+        match self.seconds.reserve_room(room.0) {
+            Ok(()) => {}
+            Err(error) => return Err(error),
+        }
+        match self.nanoseconds.reserve_room(room.1) {
+            Ok(()) => Ok(()),
+            Err(error) => Err(error),
+        }
+    }
+}
+
+impl<SC: Flat + Storage + Push<u64>, NC: Flat + Push<u32>> Durations<SC, NC> {
+    /// Adds the duration of so many seconds and nanoseconds, which are below a second. After a refusal the rows and
+    /// the lengths of all parts are as before; Length is answered only where the rows may not be held together.
+    pub fn push_parts(&mut self, seconds: u64, nanoseconds: u32) -> Result<(), GrowError>
+        requires sound { IsSound (durations_format SC.format NC.format) (both (SC.content self.old.seconds) (NC.content self.old.nanoseconds)) }
+        requires short { nanoseconds < 1000000000 }
+        ensures ok { OnOk result (Took (durations_format SC.format NC.format) (both (SC.content self.old.seconds) (NC.content self.old.nanoseconds)) (both (SC.content self.new.seconds) (NC.content self.new.nanoseconds)) (duration seconds nanoseconds ∷ [])) }
+        ensures err { IfErr result (λ e. Refused (durations_format SC.format NC.format) (both (SC.content self.old.seconds) (NC.content self.old.nanoseconds)) (both (SC.content self.new.seconds) (NC.content self.new.nanoseconds)) (duration seconds nanoseconds ∷ []) e) }
+    {
+        let before = self.seconds.len();
+        match self.seconds.push(seconds) {
+            Ok(()) => {}
+            Err(error) => return Err(error),
+        }
+        match self.nanoseconds.push(nanoseconds) {
+            Ok(()) => Ok(()),
+            Err(error) => {
+                self.seconds.truncate(before);
+                Err(error)
+            }
+        }
+    }
+}
+
+impl<SC: Flat + Storage + Push<u64>, NC: Flat + Push<u32>> Push<Duration> for Durations<SC, NC> {
+    fn push(&mut self, item: Duration) -> Result<(), GrowError> {
+        match self.push_parts(item.as_secs(), item.subsec_nanos()) {
+            Ok(()) => Ok(()),
+            Err(error) => Err(error),
+        }
+    }
+}
+
+impl<'x, SC: Flat + Storage + Push<u64>, NC: Flat + Push<u32>> Push<&'x Duration>
+    for Durations<SC, NC> {
+    fn push(&mut self, item: &'x Duration) -> Result<(), GrowError> {
+        match self.push_parts(item.as_secs(), item.subsec_nanos()) {
+            Ok(()) => Ok(()),
+            Err(error) => Err(error),
+        }
+    }
+}
+
+impl<SC: Flat + Storage + Push<u64>, NC: Flat + Push<u32>> PushRef<Duration> for Durations<SC, NC> {
+    fn push_ref(&mut self, item: &Duration) -> Result<(), GrowError> {
+        match self.push_parts(item.as_secs(), item.subsec_nanos()) {
+            Ok(()) => Ok(()),
+            Err(error) => Err(error),
+        }
+    }
+}
+
+impl<
+    V: Index<Ref = u64> + Copy,
+    W: Index<Ref = u32> + Copy,
+    SC: Flat + ExtendFrom<V>,
+    NC: Flat + ExtendFrom<W>,
+> ExtendFrom<Durations<V, W>> for Durations<SC, NC> {
+    fn add_room(room: (SC::Room, NC::Room), view: Durations<V, W>) -> (SC::Room, NC::Room) {
+        (
+            SC::add_room(room.0, view.seconds),
+            NC::add_room(room.1, view.nanoseconds),
+        )
+    }
+
+    fn extend_from_self(
+        &mut self,
+        view: Durations<V, W>,
+        range: Range<usize>,
+    ) -> Result<(), GrowError> {
+        let before = self.seconds.len();
+        let start = range.start;
+        let end = range.end;
+        match self.seconds.extend_from_self(view.seconds, start..end) {
+            Ok(()) => {}
+            Err(error) => return Err(error),
+        }
+        match self
+            .nanoseconds
+            .extend_from_self(view.nanoseconds, start..end)
+        {
+            Ok(()) => Ok(()),
+            Err(error) => {
+                self.seconds.truncate(before);
+                Err(error)
+            }
+        }
+    }
+}
+
+impl<'a, SC: Borrow<'a, Ref = u64>, NC: Borrow<'a, Ref = u32>> Borrow<'a> for Durations<SC, NC> {
+    type Ref = Duration;
+
+    type Borrowed = Durations<SC::Borrowed, NC::Borrowed>;
+
+    type Parts = (SC::Parts, NC::Parts);
+
+    ghost same_format = { same_durations SC.same_format NC.same_format };
+
+    fn borrow(&'a self) -> Durations<SC::Borrowed, NC::Borrowed> {
+        let seconds = self.seconds.borrow();
+        let nanoseconds = self.nanoseconds.borrow();
+        Durations {
+            seconds,
+            nanoseconds,
+        }
+    }
+}
+
+impl<'a, SC: Flat + Container<'a, Ref = u64>, NC: Flat + Container<'a, Ref = u32>> Container<'a>
+    for Durations<SC, NC> {}
+
+impl<'b, V: Reborrow<'b>, W: Reborrow<'b>> Reborrow<'b> for Durations<V, W> {
+    type Short = Durations<V::Short, W::Short>;
+
+    ghost same_short = { same_durations V.same_short W.same_short };
+
+    fn reborrow(self) -> Durations<V::Short, W::Short> {
+        let Durations {
+            seconds,
+            nanoseconds,
+        } = self;
+        Durations {
+            seconds: seconds.reborrow(),
+            nanoseconds: nanoseconds.reborrow(),
+        }
+    }
+}
+
+impl<SC: Flat<Ref = u64>, NC: Flat<Ref = u32>> Stored for Durations<SC, NC> {
+    ghost storable = { durations_storable SC.format NC.format SC.storable NC.storable };
+
+    ghost counted = { λ c. two_counted (slices_of (SC.content c.seconds)) (slices_of (NC.content c.nanoseconds)) (SC.counted c.seconds) (NC.counted c.nanoseconds) };
+
+    fn slice_count() -> usize {
+        SC::slice_count() + NC::slice_count()
+    }
+
+    fn element_sizes(sizes: &mut Vec<usize>) -> Result<(), GrowError> {
+        let before = sizes.len();
+        match SC::element_sizes(sizes) {
+            Ok(()) => {}
+            Err(error) => return Err(error),
+        }
+        match NC::element_sizes(sizes) {
+            Ok(()) => Ok(()),
+            Err(error) => {
+                sizes.truncate(before);
+                Err(error)
+            }
+        }
+    }
+
+    fn judge_tallied<L>(
+        store: &DecodedStore<'_>,
+        offset: usize,
+        tally: &mut Tally<L>,
+    ) -> Result<(), StoreFault> {
+        match SC::judge_tallied(store, offset, tally) {
+            Ok(()) => {}
+            Err(fault) => return Err(fault),
+        }
+        let middle = offset + SC::slice_count();
+        match NC::judge_tallied(store, middle, tally) {
+            Ok(()) => {}
+            Err(fault) => return Err(fault),
+        }
+        let rows = SC::rows_in(store, offset);
+        if rows != NC::rows_in(store, middle) {
+            return Err(StoreFault::Parts(offset));
+        }
+        if all_fit_in::<PartSecond, NC, L>(store, middle, tally) {
+            Ok(())
+        } else {
+            Err(StoreFault::Value(offset))
+        }
+    }
+
+    fn rows_in(store: &DecodedStore<'_>, offset: usize) -> usize {
+        SC::rows_in(store, offset)
+    }
+}
+
+impl<SC: Check + Flat<Ref = u64>, NC: Check + Flat<Ref = u32>> Check for Durations<SC, NC> {
+    fn check_from_tallied<L>(&self, from: usize, tally: &mut Tally<L>) -> Result<(), StoreFault> {
+        match self.seconds.check_from_tallied(from, tally) {
+            Ok(()) => {}
+            Err(fault) => return Err(fault),
+        }
+        let middle = from + SC::slice_count();
+        match self.nanoseconds.check_from_tallied(middle, tally) {
+            Ok(()) => {}
+            Err(fault) => return Err(fault),
+        }
+        let rows = self.seconds.len();
+        if rows != self.nanoseconds.len() {
+            return Err(StoreFault::Parts(from));
+        }
+        if all_fit::<PartSecond, NC, L>(&self.nanoseconds, tally) {
+            Ok(())
+        } else {
+            Err(StoreFault::Value(from))
+        }
+    }
+}
+
+impl<'s, SC: FromBytes<'s> + Flat<Ref = u64>, NC: FromBytes<'s> + Flat<Ref = u32>> FromBytes<'s>
+    for Durations<SC, NC> {
+    fn from_store(store: &DecodedStore<'s>, offset: &mut usize) -> Self {
+        let seconds = SC::from_store(store, offset);
+        let nanoseconds = NC::from_store(store, offset);
+        Durations {
+            seconds,
+            nanoseconds,
+        }
+    }
+}
+
+impl<'s, SC: AsBytes<'s> + Flat<Ref = u64>, NC: AsBytes<'s> + Flat<Ref = u32>> AsBytes<'s>
+    for Durations<SC, NC> {
+    fn get_byte_slice(&self, index: usize) -> (u64, ByteSlice<'s>) {
+        let first = SC::slice_count();
+        if index < first {
+            self.seconds.get_byte_slice(index)
+        } else {
+            self.nanoseconds.get_byte_slice(index - first)
+        }
+    }
+}
+
+impl<SC: ContainerBytes + Flat<Ref = u64>, NC: ContainerBytes + Flat<Ref = u32>> ContainerBytes
+    for Durations<SC, NC> {
+    fn byte_slice(&self, index: usize) -> ByteSlice<'_> {
+        let first = SC::slice_count();
+        if index < first {
+            self.seconds.byte_slice(index)
+        } else {
+            self.nanoseconds.byte_slice(index - first)
+        }
+    }
+
+    fn load(alloc: Global, store: &DecodedStore<'_>, offset: usize) -> Result<Self, GrowError> {
+        let seconds = match SC::load(alloc, store, offset) {
+            Ok(seconds) => seconds,
+            Err(error) => return Err(error),
+        };
+        match NC::load(alloc, store, offset + SC::slice_count()) {
+            Ok(nanoseconds) => Ok(Durations {
+                seconds,
+                nanoseconds,
+            }),
+            Err(error) => Err(error),
+        }
+    }
+}

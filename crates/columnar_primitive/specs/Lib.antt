@@ -1,0 +1,5 @@
+pub mod Held
+pub mod Multiples
+pub mod Fixed
+pub mod FixedLaws
+pub mod HeldLaws

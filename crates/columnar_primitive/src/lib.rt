@@ -1,0 +1,4 @@
+//! Columns of numbers, characters, units, truth values and offsets.
+#![tactic(auto)]
+
+pub mod offsets;

@@ -3,3 +3,5 @@ pub mod Multiples
 pub mod Fixed
 pub mod FixedLaws
 pub mod HeldLaws
+pub mod Stride
+pub mod StrideLaws

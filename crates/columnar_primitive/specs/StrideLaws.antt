@@ -1,28 +1,30 @@
-use Rattle.std.proofs.Common.{◌≡◌, ℕ, zero, suc, ◌+◌, ◌-◌, ◌*◌, ◌/◌, ◌%◌, ◌^◌, ◌<◌, ◌≤◌, Bool, true, false, ◌&&◌, List, [], ◌∷◌, ◌++◌, length, take, drop, map, get_or, refl, sym, ◌∙◌, ap, arith, length-append, append-nil, append_assoc, ◌⊎◌, ⊎_elim}
-use Rattle.std.specs.Prelude.{slice_get, Some, None, cond, nat_eq, nat_lt, nat_le, slice_index}
+use Rattle.std.proofs.Common.{◌≡◌, ℕ, zero, suc, ◌+◌, ◌-◌, ◌*◌, ◌/◌, ◌%◌, ◌^◌, ◌<◌, ◌≤◌, Bool, true, false, ◌&&◌, List, [], ◌∷◌, ◌++◌, length, take, drop, map, get_or, refl, sym, ◌∙◌, ap, arith, length-append, append-nil, append_assoc, subst, ◌⊎◌, ⊎_elim}
+use Rattle.std.specs.Prelude.{slice_get, Some, None, cond, nat_eq, nat_lt, nat_le, slice_index, slice_index_or}
 use Rattle.std.specs.Int.{from_le_bytes, to_le_bytes, w64}
-use Rattle.std.proofs.lemmas.Bool.{eqb-true, eq-eqb, ne_eqb, leb-true, le-leb, lt-leb, lt-ltb, ltb-true, cases_eq}
+use Rattle.std.proofs.lemmas.Bool.{eqb-true, eq-eqb, ne_eqb, leb-true, le-leb, lt-leb, lt-ltb, ltb-true, cases_eq, cond_both}
 use Rattle.std.proofs.Math.Seq.{take-append-add}
 use Rattle.std.proofs.Math.Nat.{mul-le-mul_left, div-add-mod}
-use Rattle.std.proofs.lemmas.List.{length-map, map-append, take-map, take-append-le, length-take-le, get_or-take}
+use Rattle.std.proofs.lemmas.List.{length-map, map-append, take-map, take-append-le, length-take, length-take-le, get_or-take, take_all, take-append-drop, length-drop}
 use Rattle.std.proofs.lemmas.Option.{slice_get-map}
 use Rattle.columnar_core.specs.Row.{Row, number, number_of, row_eq}
 use Rattle.columnar_core.specs.Format.{Format, Content, slice, both, part, plain, IsSound, IsLawful, IsStorable, lengths, slices_of, Fault, fault, unless, first, moved, Excess, too_many, misplaced, refuses_more}
 use Rattle.columnar_core.specs.FaultLaws.{nothing_left, nothing_both, nothing_moved, moved_nothing, unless_true, true_unless}
 use Rattle.columnar_core.specs.AlikeLaws.{row_eq_same, row_eq_exact, alike_all}
 use Rattle.columnar_core.specs.Change.{Keeps, Grew, Stayed, WasCut, Took, Copied, IsTrueOf, Refused}
-use Rattle.columnar_core.specs.ChangeLaws.{unchanged, grew_exactly}
+use Rattle.columnar_core.specs.ChangeLaws.{unchanged, grew_exactly, refused_more, took_none}
 use Rattle.columnar_core.specs.Elements.{elements_broken, elements_rows, first_slice, past_count, word_row, word_row_of}
 use Rattle.columnar_core.specs.ElementLaws.{length-elements, row_at, rows_typed, word_element, length-typed}
 use Rattle.columnar_core.specs.Bounds.{IsBounds, rises, numbers}
-use Rattle.columnar_core.specs.Bytes.{word, le_bytes}
+use Rattle.columnar_core.specs.Bytes.{word, word_bytes, le_bytes, AreBytes}
+use Rattle.columnar_core.specs.ByteLaws.{bytes-word}
+use Rattle.columnar_core.specs.StoreLaws.{drop_at, first_at}
 use Rattle.columnar_core.specs.WordLaws.{length-le_bytes, word-le_bytes}
 use Rattle.columnar_core.specs.declared.fault.GrowError.{GrowError}
 use Rattle.columnar_core.specs.declared.fault.GrowError.TheVariants.{Memory, Length, Offset, Format as FormatError}
 use Rattle.columnar_primitive.specs.Held.{sliced}
 use Rattle.columnar_primitive.specs.HeldLaws.{word_number}
 use Rattle.columnar_primitive.specs.Multiples.{multiples, multiples-none, multiples-more, length-multiples, multiples-append, multiples-take, multiples_get, multiples-rise}
-use Rattle.columnar_primitive.specs.Stride.{head_broken, stride_of, length_of, bounds_rows, stride_fits, length_fits, strides_broken, strides_rows, strides_extent, strides_format, strided, head_and_bounds, follows, grown, head_cut, bounds_cut}
+use Rattle.columnar_primitive.specs.Stride.{head_broken, stride_of, length_of, bounds_rows, stride_fits, length_fits, strides_broken, strides_rows, strides_extent, strides_format, strided, head_and_bounds, follows, joins, grown, bounds_pushed, head_cut, bounds_cut}
 
 -- what the soundness of a head and bounds is made of
 pub record SoundStrides (hs bs : List ℕ) : Type 0 where
@@ -414,3 +416,76 @@ bounds_done bs last end all p =
     let e : length (numbers (bounds_rows (slice bs))) ≡ length bs / 8 = length-map (bounds_rows (slice bs)) number_of ∙ length-bounds bs in
     let d : drop (length bs / 8) (numbers (bounds_rows (slice bs))) ≡ [] = drop_all (length bs / 8) (numbers (bounds_rows (slice bs))) e in
     sym (rw d at p)
+
+-- calls
+
+pub strides_no_rows : strides_rows (head_and_bounds (0 ∷ 0 ∷ []) []) ≡ []
+strides_no_rows = owned_rows 0 0 [] (head_words 0 0 (omega arith) (omega arith)) ∙ (rw (multiples-none 0 0) refl)
+
+-- the bounds that a column began with stay in front
+pub front_kept : (n : ℕ) (old bs head : List ℕ) (x : ℕ) → n ≡ length old → take n bs ≡ old → take n (bounds_pushed head bs x) ≡ old
+front_kept n old bs head x e h =
+    let l : n ≤ length bs = omega (arith, length-take n bs, ap length h) in
+    cond_both (joins head bs x) bs (bs ++ x ∷ []) (λ (ys : List ℕ). take n ys ≡ old)
+    (λ t. h)
+    (λ t. take-append-le n bs (x ∷ []) l ∙ h)
+
+-- nothing was copied yet
+pub copy_begun : (head bounds : List ℕ) (rs : List Row) (start n : ℕ) → IsSound strides_format (head_and_bounds head bounds) → n ≡ length bounds → Took strides_format (head_and_bounds head bounds) (head_and_bounds head bounds) (take (start - start) (drop start rs)) × (take n bounds ≡ bounds)
+copy_begun head bounds rs start n s e =
+    let z : start - start ≡ 0 = omega arith in
+    (rw z (took_none s), take_all n bounds (omega arith))
+
+-- a copy that was refused, and undone
+pub strides_undone : (rs : List Row) {error : GrowError} (head bounds : List ℕ) (head' bounds' : List ℕ) (y : Content) (from i to : ℕ) (r : Row) → IsSound strides_format (head_and_bounds head bounds) → head' ≡ head → bounds' ≡ bounds → from ≤ i → i < to → slice_get rs i ≡ Some r → Took strides_format (head_and_bounds head bounds) y (take (i - from) (drop from rs)) → IsTrueOf error strides_format y (r ∷ []) → Refused strides_format (head_and_bounds head bounds) (head_and_bounds head' bounds') (take (to - from) (drop from rs)) error
+strides_undone rs head bounds head' bounds' y from i to r s p q l m h t cause = rw (p, q) (refused_more rs from i to r strides_lawful l m h t cause (unchanged s))
+
+-- bytes
+
+-- sixteen bytes are those of their two words
+pub head-back : (hs : List ℕ) (s n : ℕ) → length hs ≡ 16 → AreBytes hs → s ≡ word hs 0 → n ≡ word hs 1 → le_bytes (s ∷ n ∷ []) ≡ hs
+unfolding word_bytes
+head-back hs s n l h p q =
+    let a : word_bytes (word hs 0) ≡ take 8 hs = bytes-word hs 0 h (omega arith) in
+    let b : word_bytes (word hs 1) ≡ take 8 (drop 8 hs) = bytes-word hs 1 h (omega arith) in
+    let c : take 8 (drop 8 hs) ≡ drop 8 hs = take_all 8 (drop 8 hs) (omega (arith, length-drop 8 hs)) in
+    let d : word_bytes s ≡ take 8 hs = ap word_bytes p ∙ a in
+    let e : word_bytes n ≡ drop 8 hs = ap word_bytes q ∙ b ∙ c in
+    ap (λ t. t ++ (word_bytes n ++ [])) d ∙ ap (λ t. take 8 hs ++ t) (append-nil (word_bytes n) ∙ e) ∙ take-append-drop 8 hs
+
+-- the slices that a store has there
+pub strides_at : (ss : List (List ℕ)) (o : ℕ) (hs bs : List ℕ) → o + 2 ≤ length ss → hs ≡ slice_index_or ss o [] → bs ≡ slice_index_or ss (o + 1) [] → strides_format.build (drop o ss) ≡ both (slice hs) (slice bs)
+strides_at ss o hs bs l p q =
+    let a = drop_at ss o hs (omega arith) p in
+    let e : suc o ≡ o + 1 = omega arith in
+    let b : drop (o + 1) ss ≡ bs ∷ drop (suc (o + 1)) ss = drop_at ss (o + 1) bs (omega arith) q in
+    rw (a, e, b) refl
+
+pub length-stored : (hs bs : List ℕ) (n : ℕ) → n ≡ word hs 1 → n + length bs / 8 ≡ length (strides_rows (both (slice hs) (slice bs)))
+length-stored hs bs n e = rw e (sym (length-strides hs bs))
+
+-- what was loaded there
+pub strides_loaded : (ss : List (List ℕ)) (o : ℕ) (hs : List ℕ) (s n : ℕ) (y : Content) → o + 2 ≤ length ss → hs ≡ slice_index_or ss o [] → IsSound strides_format (strides_format.build (drop o ss)) → AreBytes hs → s ≡ word hs 0 → n ≡ word hs 1 → y ≡ first_slice (drop (o + 1) ss) → both (slice (le_bytes (s ∷ n ∷ []))) y ≡ strides_format.build (drop o ss)
+strides_loaded ss o hs s n y l h sound bytes p q e =
+    let bs = slice_index_or ss (o + 1) [] in
+    let w : strides_format.build (drop o ss) ≡ both (slice hs) (slice bs) = strides_at ss o hs bs l h refl in
+    let size = (strides_parts {hs = hs} {bs = bs} (subst (λ (c : Content). IsSound strides_format c) w sound)).size in
+    let x : le_bytes (s ∷ n ∷ []) ≡ hs = head-back hs s n size bytes p q in
+    let z : y ≡ slice bs = e ∙ first_at ss (o + 1) bs (omega arith) refl in
+    ap (λ t. both (slice t) y) x ∙ ap (λ t. both (slice hs) t) z ∙ sym w
+
+-- tests and reads, by the numbers that were read
+
+pub sound_at : (hs bs : List ℕ) (s n m : ℕ) → length hs ≡ 16 → length bs % 8 ≡ 0 → s ≡ word hs 0 → n ≡ word hs 1 → m ≡ length bs / 8 → s * n < 2 ^ 64 → n + m < 2 ^ 64 → SoundStrides hs bs
+sound_at hs bs s n m a b p q r f g = record { size = a; whole = b; fits = rw (p, q) at (let h : s * n ≤ 2 ^ 64 - 1 = omega arith in h); few = omega arith }
+
+pub rise_at : (hs bs : List ℕ) (end s n : ℕ) (b : Bool) → b ≡ rises (s * n) (numbers (bounds_rows (slice bs))) end → s ≡ word hs 0 → n ≡ word hs 1 → b ≡ rises 0 (numbers (strides_rows (both (slice hs) (slice bs)))) end
+rise_at hs bs end s n b h p q = (rw (p, q) at h) ∙ sym (strides_rise hs bs end)
+
+pub stride_product : (hs bs : List ℕ) (s n : ℕ) → IsSound strides_format (both (slice hs) (slice bs)) → s ≡ word hs 0 → n ≡ word hs 1 → s * n < 2 ^ 64
+stride_product hs bs s n sound p q = rw (p, q) (omega (arith, (strides_parts sound).fits))
+
+pub too_many_at : (hs bs : List ℕ) (o s n m : ℕ) → length hs ≡ 16 → length bs % 8 ≡ 0 → s ≡ word hs 0 → n ≡ word hs 1 → m ≡ length bs / 8 → s * n < 2 ^ 64 → (n + m < 2 ^ 64 → ⊥) → Some (fault 19 o) ≡ first (moved o (strides_broken (both (slice hs) (slice bs))))
+too_many_at hs bs o s n m a b p q r f g =
+    let h : s * n ≤ 2 ^ 64 - 1 = omega arith in
+    strides_too_many hs bs o a b (rw (p, q) at h) (omega arith)

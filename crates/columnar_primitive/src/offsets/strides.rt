@@ -185,3 +185,255 @@ fn grown(stride: u64, length: u64, item: u64) -> [u64; 2]
 {
     if length == 0 { [item, 1] } else { [stride, length + 1] }
 }
+
+impl Clear for Strides<Vec<u64>, [u64; 2]> {
+    fn clear(&mut self) {
+        Strides::clear(self);
+    }
+}
+
+impl Storage for Strides<Vec<u64>, [u64; 2]> {
+    type Room = usize;
+
+    ghost lawful = { strides_lawful };
+
+    fn empty(alloc: Global) -> Self {
+        Strides::new(alloc, 0, 0)
+    }
+
+    fn duplicate(&self, alloc: Global) -> Result<Self, GrowError> {
+        match Vec::from_slice(alloc, self.bounds.as_slice()) {
+            Ok(bounds) => Ok(Strides {
+                head: self.head,
+                bounds,
+            }),
+            Err(_) => Err(GrowError::Memory),
+        }
+    }
+
+    fn truncate(&mut self, n: usize) {
+        Strides::truncate(self, n);
+    }
+
+    fn no_room() -> usize {
+        0
+    }
+
+    fn reserve_room(&mut self, room: usize) -> Result<(), GrowError> {
+        match self.bounds.reserve(room) {
+            Ok(()) => Ok(()),
+            Err(_) => Err(GrowError::Memory),
+        }
+    }
+}
+
+impl Push<u64> for Strides<Vec<u64>, [u64; 2]> {
+    fn push(&mut self, item: u64) -> Result<(), GrowError> {
+        match Strides::push(self, item) {
+            Ok(()) => Ok(()),
+            Err(error) => Err(error),
+        }
+    }
+}
+
+impl<'x> Push<&'x u64> for Strides<Vec<u64>, [u64; 2]> {
+    fn push(&mut self, item: &'x u64) -> Result<(), GrowError> {
+        match Strides::push(self, *item) {
+            Ok(()) => Ok(()),
+            Err(error) => Err(error),
+        }
+    }
+}
+
+impl PushRef<u64> for Strides<Vec<u64>, [u64; 2]> {
+    fn push_ref(&mut self, item: &u64) -> Result<(), GrowError> {
+        match Strides::push(self, *item) {
+            Ok(()) => Ok(()),
+            Err(error) => Err(error),
+        }
+    }
+}
+
+impl<'x> ExtendFrom<Strides<View<'x, u64>, View<'x, u64>>> for Strides<Vec<u64>, [u64; 2]> {
+    fn add_room(room: usize, view: Strides<View<'x, u64>, View<'x, u64>>) -> usize {
+        room.saturating_add(view.bounds.size() / 8)
+    }
+
+    fn extend_from_self(&mut self, view: Strides<View<'x, u64>, View<'x, u64>>, range: Range<usize>) -> Result<(), GrowError> {
+        let head = self.head;
+        let count = self.bounds.len();
+        for i in range.start..range.end {
+            match Strides::push(self, view.get(i)) {
+                Ok(()) => {}
+                Err(error) => {
+                    self.head = head;
+                    self.bounds.truncate(count);
+                    return Err(error);
+                }
+            }
+        }
+        Ok(())
+    }
+}
+
+impl<'a> Borrow<'a> for Strides<Vec<u64>, [u64; 2]> {
+    type Ref = u64;
+
+    type Borrowed = Strides<View<'a, u64>, View<'a, u64>>;
+
+    type Parts = u64;
+
+    ghost same_format = { refl };
+
+    fn borrow(&'a self) -> Strides<View<'a, u64>, View<'a, u64>> {
+        Strides {
+            head: View::from_slice(&self.head),
+            bounds: View::from_slice(self.bounds.as_slice()),
+        }
+    }
+}
+
+impl<'a> Container<'a> for Strides<Vec<u64>, [u64; 2]> {}
+
+impl<'a, 'b> Reborrow<'b> for Strides<View<'a, u64>, View<'a, u64>>
+where
+    'a: 'b,
+{
+    type Short = Strides<View<'b, u64>, View<'b, u64>>;
+
+    ghost same_short = { refl };
+
+    fn reborrow(self) -> Strides<View<'b, u64>, View<'b, u64>> {
+        self
+    }
+}
+
+// Which rule do a head and bounds break first? What the head claims is reckoned, and not walked.
+fn fault_in<HC: Words, BC: Words>(head: &HC, bounds: &BC, from: usize) -> Result<(), StoreFault>
+    requires { from + 2 < 2 ^ 64 }
+    ensures { verdict result ≡ first (moved from (strides_broken (both (slice (HC.held head.now)) (slice (BC.held bounds.now))))) }
+{
+    if head.size() != 16 {
+        return Err(StoreFault::HeadSize(from));
+    }
+    if bounds.size() % 8 != 0 {
+        return Err(StoreFault::ElementSize(from + 1));
+    }
+    let length = head.word(1);
+    match head.word(0).checked_mul(length) {
+        Some(_) => {}
+        None => return Err(StoreFault::Stride(from)),
+    }
+    match length.checked_add(bounds.size() as u64 / 8) {
+        Some(_) => Ok(()),
+        None => Err(StoreFault::Length(from)),
+    }
+}
+
+impl<BC: Words, HC: Words> Stored for Strides<BC, HC> {
+    ghost storable = { strides_storable };
+
+    ghost counted = { λ c. refl };
+
+    fn slice_count() -> usize {
+        2
+    }
+
+    fn element_sizes(sizes: &mut Vec<usize>) -> Result<(), GrowError> {
+        match sizes.extend_from_slice(&[8, 8]) {
+            Ok(()) => Ok(()),
+            Err(_) => Err(GrowError::Memory),
+        }
+    }
+
+    fn judge_tallied<L>(store: &DecodedStore<'_>, offset: usize, tally: &mut Tally<L>) -> Result<(), StoreFault> {
+        let count = store.len();
+        let head = View::<u64>::from_le_bytes(store.get(offset));
+        fault_in(&head, &View::<u64>::from_le_bytes(store.get(offset + 1)), offset)
+    }
+
+    fn rows_in(store: &DecodedStore<'_>, offset: usize) -> usize {
+        word_at(store.get(offset), 1) as usize + store.get(offset + 1).len() / 8
+    }
+}
+
+impl<BC: Words, HC: Words> Check for Strides<BC, HC> {
+    fn check_from_tallied<L>(&self, from: usize, tally: &mut Tally<L>) -> Result<(), StoreFault> {
+        fault_in(&self.head, &self.bounds, from)
+    }
+}
+
+impl<'s> FromBytes<'s> for Strides<View<'s, u64>, View<'s, u64>> {
+    fn from_store(store: &DecodedStore<'s>, offset: &mut usize) -> Self {
+        let start = *offset;
+        *offset = start + 2;
+        Strides {
+            head: View::from_le_bytes(store.get(start)),
+            bounds: View::from_le_bytes(store.get(start + 1)),
+        }
+    }
+}
+
+impl<'s> AsBytes<'s> for Strides<View<'s, u64>, View<'s, u64>> {
+    fn get_byte_slice(&self, index: usize) -> (u64, ByteSlice<'s>) {
+        if index == 0 { self.head.get_byte_slice(0) } else { self.bounds.get_byte_slice(0) }
+    }
+}
+
+impl ContainerBytes for Strides<Vec<u64>, [u64; 2]> {
+    fn byte_slice(&self, index: usize) -> ByteSlice<'_> {
+        if index == 0 { self.head.slice() } else { self.bounds.slice() }
+    }
+
+    fn load(alloc: Global, store: &DecodedStore<'_>, offset: usize) -> Result<Self, GrowError> {
+        let bytes = store.get(offset);
+        ByteSlice::of_bytes(bytes).holds_bytes();
+        let head = [word_at(bytes, 0), word_at(bytes, 1)];
+        match Vec::<u64>::load(alloc, store, offset + 1) {
+            Ok(bounds) => Ok(Strides { head, bounds }),
+            Err(error) => Err(error),
+        }
+    }
+}
+
+// Do the words, from `first` on, never fall, and is the last one `end`? A turn for each.
+fn rise<BC: Words, L>(bounds: &BC, first: u64, end: u64, tally: &mut Tally<L>) -> bool
+    requires { length (BC.held bounds.now) % 8 ≡ 0 }
+    ensures value { result ≡ rises first (numbers (bounds_rows (slice (BC.held bounds.now)))) end }
+    ensures turns { tally.new.turns ≤ tally.old.turns + length (BC.held bounds.now) / 8 }
+{
+    let mut last = first;
+    for i in 0..bounds.size() / 8 {
+        tally.tick();
+        let next = bounds.word(i);
+        if next < last {
+            return false;
+        }
+        last = next;
+    }
+    last == end
+}
+
+impl<BC: Words, HC: Words> Offsets for Strides<BC, HC> {
+    ghost bounds = { strides_bounds };
+
+    fn offset(&self, index: usize) -> u64 {
+        self.get(index)
+    }
+
+    fn rises_to_tallied<L>(&self, end: u64, tally: &mut Tally<L>) -> bool {
+        let stride = self.head.word(0);
+        rise(&self.bounds, stride * self.head.word(1), end, tally)
+    }
+}
+
+impl<BC: Words, HC: Words> StoredOffsets for Strides<BC, HC> {
+    ghost stored_bounds = { strides_bounds };
+
+    fn rises_in_tallied<L>(store: &DecodedStore<'_>, offset: usize, end: u64, tally: &mut Tally<L>) -> bool {
+        let head = store.get(offset);
+        let stride = word_at(head, 0);
+        let last = stride * word_at(head, 1);
+        rise(&View::<u64>::from_le_bytes(store.get(offset + 1)), last, end, tally)
+    }
+}

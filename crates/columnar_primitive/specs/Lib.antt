@@ -5,3 +5,5 @@ pub mod FixedLaws
 pub mod HeldLaws
 pub mod Stride
 pub mod StrideLaws
+pub mod Tried
+pub mod TriedLaws

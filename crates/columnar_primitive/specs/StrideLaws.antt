@@ -4,7 +4,7 @@ use Rattle.std.specs.Int.{from_le_bytes, to_le_bytes, w64}
 use Rattle.std.proofs.lemmas.Bool.{eqb-true, eq-eqb, ne_eqb, leb-true, le-leb, lt-leb, lt-ltb, ltb-true, cases_eq, cond_both}
 use Rattle.std.proofs.Math.Seq.{take-append-add}
 use Rattle.std.proofs.Math.Nat.{mul-le-mul_left, div-add-mod}
-use Rattle.std.proofs.lemmas.List.{length-map, map-append, take-map, take-append-le, length-take, length-take-le, get_or-take, take_all, take-append-drop, length-drop}
+use Rattle.std.proofs.lemmas.List.{length-map, map-append, take-map, take-append-le, length-take, length-take-le, take_all, take-append-drop, length-drop}
 use Rattle.std.proofs.lemmas.Option.{slice_get-map}
 use Rattle.columnar_core.specs.Row.{Row, number, number_of, row_eq}
 use Rattle.columnar_core.specs.Format.{Format, Content, slice, both, part, plain, IsSound, IsLawful, IsStorable, lengths, slices_of, Fault, fault, unless, first, moved, Excess, too_many, misplaced, refuses_more}
@@ -22,7 +22,7 @@ use Rattle.columnar_core.specs.WordLaws.{length-le_bytes, word-le_bytes}
 use Rattle.columnar_core.specs.declared.fault.GrowError.{GrowError}
 use Rattle.columnar_core.specs.declared.fault.GrowError.TheVariants.{Memory, Length, Offset, Format as FormatError}
 use Rattle.columnar_primitive.specs.Held.{sliced}
-use Rattle.columnar_primitive.specs.HeldLaws.{word_number}
+use Rattle.columnar_primitive.specs.HeldLaws.{word_number, front_number}
 use Rattle.columnar_primitive.specs.Multiples.{multiples, multiples-none, multiples-more, length-multiples, multiples-append, multiples-take, multiples_get, multiples-rise}
 use Rattle.columnar_primitive.specs.Stride.{head_broken, stride_of, length_of, bounds_rows, stride_fits, length_fits, strides_broken, strides_rows, strides_extent, strides_format, strided, head_and_bounds, follows, joins, grown, bounds_pushed, head_cut, bounds_cut}
 
@@ -328,19 +328,6 @@ get-behind : (xs ys : List Row) (i k : ℕ) (r : Row) → i ≡ length xs + k �
 get-behind [] ys i k r e h = let f : i ≡ k = omega arith in rw f h
 get-behind (x ∷ xs) ys zero k r e h = absurd (omega arith)
 get-behind (x ∷ xs) ys (suc i) k r e h = get-behind xs ys i k r (omega arith) h
-
--- a word depends on its eight bytes alone
-front_number : (bs : List ℕ) → from_le_bytes w64 (take 8 bs) ≡ from_le_bytes w64 bs
-front_number bs =
-    let e0 = get_or-take 8 bs 0 0 (omega arith) in
-    let e1 = get_or-take 8 bs 1 0 (omega arith) in
-    let e2 = get_or-take 8 bs 2 0 (omega arith) in
-    let e3 = get_or-take 8 bs 3 0 (omega arith) in
-    let e4 = get_or-take 8 bs 4 0 (omega arith) in
-    let e5 = get_or-take 8 bs 5 0 (omega arith) in
-    let e6 = get_or-take 8 bs 6 0 (omega arith) in
-    let e7 = get_or-take 8 bs 7 0 (omega arith) in
-    rw (e0, e1, e2, e3, e4, e5, e6, e7) refl
 
 -- the offset that stands at place k among those that stand as they are
 pub bound_is : (bs : List ℕ) (k : ℕ) → k < length bs / 8 → slice_get (bounds_rows (slice bs)) k ≡ Some (number (word bs k))

@@ -1,15 +1,18 @@
 //! Offsets that are the multiples of a constant, of which the count alone is kept.
-ghost use Rattle.std.specs.Prelude.{◌≡◌, ℕ, ◌+◌, ◌-◌, ◌*◌, ◌<◌, ◌≤◌, ◌^◌, ◌∷◌, [], List, length, take, drop, OnOk, IfOk, IfErr, refl};
+ghost use Rattle.std.specs.Prelude.{◌≡◌, ℕ, ◌+◌, ◌-◌, ◌*◌, ◌<◌, ◌≤◌, ◌^◌, ◌∷◌, [], List, length, take, drop, OnOk, IfOk, IfErr, true, false, refl};
 ghost use Rattle.columnar_core.specs.Row.{Row, number};
 ghost use Rattle.columnar_core.specs.Format.{slice, first, moved, IsSound};
+ghost use Rattle.columnar_core.specs.Bytes.{word};
 ghost use Rattle.columnar_core.specs.Elements.{word_row};
 ghost use Rattle.columnar_core.specs.Faults.{verdict};
 ghost use Rattle.columnar_core.specs.Change.{Copied, Refused, Took};
 ghost use Rattle.columnar_primitive.specs.Held.{counted};
 ghost use Rattle.columnar_primitive.specs.Fixed.{fixed_broken, fixed_format, fixed_rows, IsCauseOf, IsLimit};
+ghost use Rattle.columnar_primitive.specs.Tried.{Tried};
 ghost use Rattle.columnar_primitive.specs.FixedLaws.{fixed_lawful, fixed_storable, fixed_bounds};
 
-use super::words::Words;
+use super::strides::Strides;
+use super::words::{Words, second_of};
 use columnar_core::byte_slice::ByteSlice;
 use columnar_core::bytes::{AsBytes, Check, FromBytes, Stored};
 use columnar_core::container::{Borrow, Container, ContainerBytes, ExtendFrom, Reborrow, Storage};
@@ -347,5 +350,39 @@ impl<const K: u64, CC: Words> StoredOffsets for Fixeds<K, CC> {
         tally: &mut Tally<L>,
     ) -> bool {
         K * word_at(store.get(offset), 0) == end
+    }
+}
+
+// Do all offsets of a head and bounds follow the stride?
+fn all_follow<HC: Words, BC: Words>(head: &HC, bounds: &BC, stride: u64) -> bool
+    ensures yes { result ≡ true → (length (HC.held head.now) ≡ 16) × ((length (BC.held bounds.now) ≡ 0) × (word (HC.held head.now) 0 ≡ stride)) }
+    ensures no { result ≡ false → length (HC.held head.now) ≡ 16 → length (BC.held bounds.now) ≡ 0 → word (HC.held head.now) 0 ≡ stride → ⊥ }
+{
+    if head.size() != 16 || bounds.size() != 0 {
+        return false;
+    }
+    head.word(0) == stride
+}
+
+/// Ok exactly where all offsets follow the stride `K`; else the column is given back as it is.
+impl<const K: u64> TryFrom<Strides<Vec<u64>, [u64; 2]>> for Fixeds<K, u64> {
+    type Error = Strides<Vec<u64>, [u64; 2]>;
+
+    ghost try_from_gives = { λ item result. Tried K (λ f. ⟦<Fixeds<K, u64> as Column>⟧.content f) (λ s. ⟦<Strides<Vec<u64>, [u64; 2]> as Column>⟧.content s) item result };
+
+    fn try_from(item: Strides<Vec<u64>, [u64; 2]>) -> Result<Self, Strides<Vec<u64>, [u64; 2]>> {
+        if all_follow(&item.head, &item.bounds, K) { Ok(Fixeds { count: item.head.word(1) }) } else { Err(item) }
+    }
+}
+
+/// Ok exactly where all offsets follow the stride `K`; else the view is given back as it is, as where it is not well
+/// formed.
+impl<'v, const K: u64> TryFrom<Strides<View<'v, u64>, View<'v, u64>>> for Fixeds<K, View<'v, u64>> {
+    type Error = Strides<View<'v, u64>, View<'v, u64>>;
+
+    ghost try_from_gives = { λ item result. Tried K (λ f. ⟦<Fixeds<K, View<'v, u64>> as Column>⟧.content f) (λ s. ⟦<Strides<View<'v, u64>, View<'v, u64>> as Column>⟧.content s) item result };
+
+    fn try_from(item: Strides<View<'v, u64>, View<'v, u64>>) -> Result<Self, Strides<View<'v, u64>, View<'v, u64>>> {
+        if all_follow(&item.head, &item.bounds, K) { Ok(Fixeds { count: second_of(item.head) }) } else { Err(item) }
     }
 }

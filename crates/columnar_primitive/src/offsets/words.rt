@@ -1,5 +1,5 @@
 //! Words of 64 bits, wherever they stand.
-ghost use Rattle.std.specs.Prelude.{◌≡◌, ℕ, List, [], ◌∷◌, ◌*◌, ◌+◌, ◌<◌, ◌≤◌, length};
+ghost use Rattle.std.specs.Prelude.{◌≡◌, ℕ, List, [], ◌∷◌, ◌*◌, ◌+◌, ◌<◌, ◌≤◌, ◌-◌, length, take, drop};
 ghost use Rattle.columnar_core.specs.Bytes.{word, le_bytes};
 ghost use Rattle.columnar_core.specs.Slices.{bytes_in, alignment};
 ghost use Rattle.columnar_primitive.specs.Held.{sliced};
@@ -66,4 +66,24 @@ impl<'v> Words for View<'v, u64> {
             Items::Bytes(bytes) => ByteSlice::of_bytes(bytes),
         }
     }
+}
+
+// The second word of a view of two, as a view.
+pub(crate) fn second_of<'v>(words: View<'v, u64>) -> View<'v, u64>
+    requires { length (sliced (⟦<View<'v, u64> as Column>⟧.content words)) ≡ 16 }
+    ensures { sliced (⟦<View<'v, u64> as Column>⟧.content result) ≡ take 8 (drop 8 (sliced (⟦<View<'v, u64> as Column>⟧.content words.entry))) }
+{
+    match words.items() {
+        Items::Typed(items) => View::from_slice(part_of(items, 1, 2)),
+        Items::Bytes(bytes) => View::from_le_bytes(part_of(bytes, 8, 16)),
+    }
+}
+
+// The items from `start` up to `end`.
+fn part_of<T>(items: &[T], start: usize, end: usize) -> &[T]
+    requires ordered { start ≤ end }
+    requires in_range { end ≤ length items.now }
+    ensures { result.now ≡ take (end - start) (drop start items.now) }
+{
+    &items[start..end]
 }

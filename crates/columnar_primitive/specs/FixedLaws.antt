@@ -1,17 +1,16 @@
-use Rattle.std.proofs.Common.{◌≡◌, ℕ, zero, suc, ◌+◌, ◌-◌, ◌*◌, ◌^◌, ◌<◌, ◌≤◌, Bool, true, false, List, [], ◌∷◌, ◌++◌, length, take, drop, refl, sym, ◌∙◌, ap, arith, length-append, append-nil, append_assoc, ◌⊎◌, ⊎_elim}
-use Rattle.std.specs.Prelude.{slice_get, Some, None, ◌||◌, not, cond, nat_eq, nat_lt, nat_le}
+use Rattle.std.proofs.Common.{◌≡◌, ℕ, zero, suc, ◌+◌, ◌-◌, ◌*◌, ◌^◌, ◌<◌, ◌≤◌, Bool, true, false, List, [], ◌∷◌, ◌++◌, length, take, drop, refl, sym, ◌∙◌, ap, arith, length-append, ◌⊎◌, ⊎_elim}
+use Rattle.std.specs.Prelude.{slice_get, Some, None, not, cond, nat_eq, nat_lt, nat_le}
 use Rattle.std.proofs.lemmas.Bool.{eqb-true, eq-eqb, ne_eqb, leb-true, le-leb, lt-leb, lt-ltb, ltb-true, or_cases, or_left, or_right, not_from_true, not_from_false}
 use Rattle.std.proofs.Math.Nat.{mul-le-mul_left}
 use Rattle.columnar_core.specs.Row.{Row, number, row_eq}
-use Rattle.columnar_core.specs.Format.{Format, Content, slice, both, part, plain, IsSound, IsLawful, IsStorable, lengths, slices_of, Fault, fault, unless, first, moved, Excess, too_many, misplaced, refuses_more}
+use Rattle.columnar_core.specs.Format.{Content, slice, both, part, plain, IsSound, IsLawful, IsStorable, lengths, slices_of, Fault, fault, unless, first, moved, Excess, too_many, misplaced}
 use Rattle.columnar_core.specs.FaultLaws.{unless_true, true_unless}
 use Rattle.columnar_core.specs.AlikeLaws.{row_eq_same, row_eq_exact, alike_all}
-use Rattle.columnar_core.specs.Change.{Keeps, Grew, Stayed, WasCut, Took, Copied, IsTrueOf, Refused}
+use Rattle.columnar_core.specs.Change.{Keeps, Grew, WasCut, Took, Copied, IsTrueOf, Refused}
 use Rattle.columnar_core.specs.ChangeLaws.{unchanged}
 use Rattle.columnar_core.specs.Elements.{first_slice}
 use Rattle.columnar_core.specs.Bounds.{IsBounds, rises, numbers}
-use Rattle.columnar_core.specs.Bytes.{word, le_bytes, word_bytes, AreBytes}
-use Rattle.columnar_core.specs.WordLaws.{word-front, length-word_bytes}
+use Rattle.columnar_core.specs.Bytes.{word, le_bytes}
 use Rattle.columnar_core.specs.declared.fault.GrowError.{GrowError}
 use Rattle.columnar_core.specs.declared.fault.GrowError.TheVariants.{Memory, Length, Offset, Format as FormatError}
 use Rattle.columnar_core.specs.Elements.{word_row}
@@ -292,5 +291,5 @@ pub fixed_copy_none : (k : ℕ) {bs : List ℕ} (start added : ℕ) (rs : List R
 fixed_copy_none k start added rs e s = rw e (fixed_copied_none k start s)
 
 -- where the offsets end
-pub fixed_end : (k : ℕ) (bs : List ℕ) (end x : ℕ) → x ≡ k * word bs 0 → nat_eq x end ≡ rises 0 (numbers (fixed_rows k (slice bs))) end
-fixed_end k bs end x e = rw e (sym (multiples_end k (word bs 0) end))
+pub fixed_end : (k : ℕ) (bs : List ℕ) (end n : ℕ) → n ≡ word bs 0 → nat_eq (k * n) end ≡ rises 0 (numbers (fixed_rows k (slice bs))) end
+fixed_end k bs end n e = rw e (sym (multiples_end k (word bs 0) end))

@@ -1,13 +1,11 @@
-use Rattle.std.proofs.Common.{◌≡◌, ℕ, zero, suc, ◌+◌, ◌*◌, ◌%◌, ◌^◌, ◌<◌, ◌≤◌, List, [], ◌∷◌, ◌++◌, length, take, drop, refl, sym, ◌∙◌, ap, arith, append-nil}
+use Rattle.std.proofs.Common.{◌≡◌, ℕ, ◌*◌, ◌%◌, ◌^◌, ◌<◌, List, [], ◌∷◌, length, take, drop, refl, ◌∙◌, ap, arith, append-nil}
 use Rattle.std.specs.Int.{from_le_bytes, w64}
 use Rattle.std.proofs.lemmas.List.{take_all, get_or-take, length-take, length-drop}
-use Rattle.columnar_core.specs.Row.{Row, number}
-use Rattle.columnar_core.specs.Format.{Content, slice, slices_of}
+use Rattle.columnar_core.specs.Row.{number}
 use Rattle.columnar_core.specs.Elements.{word_row}
 use Rattle.columnar_core.specs.Bytes.{word, word_bytes, le_bytes, AreBytes}
 use Rattle.columnar_core.specs.WordLaws.{word-front}
 use Rattle.columnar_core.specs.ByteLaws.{bytes-word}
-use Rattle.columnar_primitive.specs.Held.{sliced, counted}
 
 -- the number of a word alone
 pub count-word : (n : ℕ) → n < 2 ^ 64 → word (le_bytes (n ∷ [])) 0 ≡ n

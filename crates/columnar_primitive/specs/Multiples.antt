@@ -1,5 +1,5 @@
 -- The multiples of a stride, as rows, and the offsets that they are.
-use Rattle.std.proofs.Common.{◌≡◌, ℕ, zero, suc, ◌+◌, ◌-◌, ◌*◌, ◌<◌, ◌≤◌, Bool, true, false, ◌&&◌, List, [], ◌∷◌, ◌++◌, length, take, drop, refl, sym, ◌∙◌, ap, arith, append-nil}
+use Rattle.std.proofs.Common.{◌≡◌, ℕ, zero, suc, ◌+◌, ◌-◌, ◌*◌, ◌<◌, ◌≤◌, true, List, [], ◌∷◌, ◌++◌, length, take, drop, refl, ◌∙◌, ap, arith, append-nil}
 use Rattle.std.specs.Prelude.{slice_get, Some, nat_eq, nat_le}
 use Rattle.std.proofs.lemmas.Bool.{le-leb}
 use Rattle.columnar_core.specs.Row.{Row, number}

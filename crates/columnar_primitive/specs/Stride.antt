@@ -1,5 +1,5 @@
 -- Columns of offsets that follow a stride as far as they go, and then stand as they are.
-use Rattle.std.specs.Prelude.{ℕ, zero, suc, Bool, true, false, List, [], ◌∷◌, ◌++◌, length, take, drop, ◌+◌, ◌-◌, ◌*◌, ◌/◌, ◌%◌, ◌^◌, ◌&&◌, ◌||◌, cond, nat_eq, nat_le, Option, Some, None, slice_index}
+use Rattle.std.specs.Prelude.{ℕ, Bool, List, [], ◌∷◌, ◌++◌, length, take, drop, ◌+◌, ◌-◌, ◌*◌, ◌^◌, ◌&&◌, ◌||◌, cond, nat_eq, nat_le, Option, Some, None, slice_index}
 use Rattle.columnar_core.specs.Row.{Row, row_eq}
 use Rattle.columnar_core.specs.Format.{Format, Content, slice, both, part, plain, Fault, fault, moved, unless, misfit}
 use Rattle.columnar_core.specs.Elements.{elements_broken, elements_rows, first_slice, past_count, word_row_of}

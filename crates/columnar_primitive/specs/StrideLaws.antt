@@ -1,30 +1,28 @@
-use Rattle.std.proofs.Common.{◌≡◌, ℕ, zero, suc, ◌+◌, ◌-◌, ◌*◌, ◌/◌, ◌%◌, ◌^◌, ◌<◌, ◌≤◌, Bool, true, false, ◌&&◌, List, [], ◌∷◌, ◌++◌, length, take, drop, map, get_or, refl, sym, ◌∙◌, ap, arith, length-append, append-nil, append_assoc, subst, ◌⊎◌, ⊎_elim}
-use Rattle.std.specs.Prelude.{slice_get, Some, None, cond, nat_eq, nat_lt, nat_le, slice_index, slice_index_or}
-use Rattle.std.specs.Int.{from_le_bytes, to_le_bytes, w64}
+use Rattle.std.proofs.Common.{◌≡◌, ℕ, zero, suc, ◌+◌, ◌-◌, ◌*◌, ◌/◌, ◌%◌, ◌^◌, ◌<◌, ◌≤◌, Bool, true, false, ◌&&◌, List, [], ◌∷◌, ◌++◌, length, take, drop, map, refl, sym, ◌∙◌, ap, arith, length-append, append-nil, append_assoc, subst, ⊎_elim}
+use Rattle.std.specs.Prelude.{slice_get, Some, None, nat_eq, nat_le, slice_index, slice_index_or}
 use Rattle.std.proofs.lemmas.Bool.{eqb-true, eq-eqb, ne_eqb, leb-true, le-leb, lt-leb, lt-ltb, ltb-true, cases_eq, cond_both}
 use Rattle.std.proofs.Math.Seq.{take-append-add}
 use Rattle.std.proofs.Math.Nat.{mul-le-mul_left, div-add-mod}
 use Rattle.std.proofs.lemmas.List.{length-map, map-append, take-map, take-append-le, length-take, length-take-le, take_all, take-append-drop, length-drop}
 use Rattle.std.proofs.lemmas.Option.{slice_get-map}
 use Rattle.columnar_core.specs.Row.{Row, number, number_of, row_eq}
-use Rattle.columnar_core.specs.Format.{Format, Content, slice, both, part, plain, IsSound, IsLawful, IsStorable, lengths, slices_of, Fault, fault, unless, first, moved, Excess, too_many, misplaced, refuses_more}
+use Rattle.columnar_core.specs.Format.{Content, slice, both, part, plain, IsSound, IsLawful, IsStorable, lengths, slices_of, Fault, fault, unless, first, moved, Excess, too_many, misplaced}
 use Rattle.columnar_core.specs.FaultLaws.{nothing_left, nothing_both, nothing_moved, moved_nothing, unless_true, true_unless}
 use Rattle.columnar_core.specs.AlikeLaws.{row_eq_same, row_eq_exact, alike_all}
-use Rattle.columnar_core.specs.Change.{Keeps, Grew, Stayed, WasCut, Took, Copied, IsTrueOf, Refused}
+use Rattle.columnar_core.specs.Change.{Keeps, WasCut, Took, Copied, IsTrueOf, Refused}
 use Rattle.columnar_core.specs.ChangeLaws.{unchanged, grew_exactly, refused_more, took_none}
-use Rattle.columnar_core.specs.Elements.{elements_broken, elements_rows, first_slice, past_count, word_row, word_row_of}
-use Rattle.columnar_core.specs.ElementLaws.{length-elements, row_at, rows_typed, word_element, length-typed}
+use Rattle.columnar_core.specs.Elements.{elements_broken, first_slice, past_count, word_row, word_row_of}
+use Rattle.columnar_core.specs.ElementLaws.{length-elements, row_at, rows_typed, word_element}
 use Rattle.columnar_core.specs.Bounds.{IsBounds, rises, numbers}
 use Rattle.columnar_core.specs.Bytes.{word, word_bytes, le_bytes, AreBytes}
 use Rattle.columnar_core.specs.ByteLaws.{bytes-word}
 use Rattle.columnar_core.specs.StoreLaws.{drop_at, first_at}
 use Rattle.columnar_core.specs.WordLaws.{length-le_bytes, word-le_bytes}
 use Rattle.columnar_core.specs.declared.fault.GrowError.{GrowError}
-use Rattle.columnar_core.specs.declared.fault.GrowError.TheVariants.{Memory, Length, Offset, Format as FormatError}
-use Rattle.columnar_primitive.specs.Held.{sliced}
+use Rattle.columnar_core.specs.declared.fault.GrowError.TheVariants.{Length}
 use Rattle.columnar_primitive.specs.HeldLaws.{word_number, front_number}
 use Rattle.columnar_primitive.specs.Multiples.{multiples, multiples-none, multiples-more, length-multiples, multiples-append, multiples-take, multiples_get, multiples-rise}
-use Rattle.columnar_primitive.specs.Stride.{head_broken, stride_of, length_of, bounds_rows, stride_fits, length_fits, strides_broken, strides_rows, strides_extent, strides_format, strided, head_and_bounds, follows, joins, grown, bounds_pushed, head_cut, bounds_cut}
+use Rattle.columnar_primitive.specs.Stride.{head_broken, bounds_rows, stride_fits, length_fits, strides_broken, strides_rows, strides_extent, strides_format, head_and_bounds, follows, joins, grown, bounds_pushed}
 
 -- what the soundness of a head and bounds is made of
 pub record SoundStrides (hs bs : List ℕ) : Type 0 where
@@ -270,12 +268,12 @@ took_same s n s' n' (x ∷ xs) e t = absurd (omega arith)
 pub took_grown : {hs : List ℕ} (s n : ℕ) (xs : List ℕ) (x : ℕ) → IsHead hs s n → length xs ≡ 0 → follows s n x ≡ true → s < 2 ^ 64 → x < 2 ^ 64 → n < 2 ^ 64 - 1 → Took strides_format (both (slice hs) (slice (le_bytes xs))) (both (slice (le_bytes (grown s n x))) (slice (le_bytes xs))) (word_row x ∷ [])
 took_grown {hs} s n xs x h e f p q l = ⊎_elim
     (λ (z : n ≡ 0).
-      let t : nat_eq n 0 ≡ true = eq-eqb n 0 z in
-      rw t (took_same s 0 x 1 xs e (took_first s x (rw z at h) (head_words x 1 q (omega arith)) q)))
+    let t : nat_eq n 0 ≡ true = eq-eqb n 0 z in
+    rw t (took_same s 0 x 1 xs e (took_first s x (rw z at h) (head_words x 1 q (omega arith)) q)))
     (λ (z : n ≡ 0 → ⊥).
-      let t : nat_eq n 0 ≡ false = ne_eqb n 0 z in
-      let g : x ≡ s * (n + 1) = eqb-true x (s * (n + 1)) (rw t at f) in
-      rw t (took_same s n s (n + 1) xs e (took_next s n x h (head_words s (n + 1) p (omega arith)) g q (omega arith))))
+    let t : nat_eq n 0 ≡ false = ne_eqb n 0 z in
+    let g : x ≡ s * (n + 1) = eqb-true x (s * (n + 1)) (rw t at f) in
+    rw t (took_same s n s (n + 1) xs e (took_next s n x h (head_words s (n + 1) p (omega arith)) g q (omega arith))))
     (cases_eq n 0)
 
 -- one row more is too many

@@ -371,7 +371,13 @@ impl<const K: u64> TryFrom<Strides<Vec<u64>, [u64; 2]>> for Fixeds<K, u64> {
     ghost try_from_gives = { λ item result. Tried K (λ f. ⟦<Fixeds<K, u64> as Column>⟧.content f) (λ s. ⟦<Strides<Vec<u64>, [u64; 2]> as Column>⟧.content s) item result };
 
     fn try_from(item: Strides<Vec<u64>, [u64; 2]>) -> Result<Self, Strides<Vec<u64>, [u64; 2]>> {
-        if all_follow(&item.head, &item.bounds, K) { Ok(Fixeds { count: item.head.word(1) }) } else { Err(item) }
+        if all_follow(&item.head, &item.bounds, K) {
+            Ok(Fixeds {
+                count: item.head.word(1),
+            })
+        } else {
+            Err(item)
+        }
     }
 }
 
@@ -382,7 +388,15 @@ impl<'v, const K: u64> TryFrom<Strides<View<'v, u64>, View<'v, u64>>> for Fixeds
 
     ghost try_from_gives = { λ item result. Tried K (λ f. ⟦<Fixeds<K, View<'v, u64>> as Column>⟧.content f) (λ s. ⟦<Strides<View<'v, u64>, View<'v, u64>> as Column>⟧.content s) item result };
 
-    fn try_from(item: Strides<View<'v, u64>, View<'v, u64>>) -> Result<Self, Strides<View<'v, u64>, View<'v, u64>>> {
-        if all_follow(&item.head, &item.bounds, K) { Ok(Fixeds { count: second_of(item.head) }) } else { Err(item) }
+    fn try_from(
+        item: Strides<View<'v, u64>, View<'v, u64>>,
+    ) -> Result<Self, Strides<View<'v, u64>, View<'v, u64>>> {
+        if all_follow(&item.head, &item.bounds, K) {
+            Ok(Fixeds {
+                count: second_of(item.head),
+            })
+        } else {
+            Err(item)
+        }
     }
 }

@@ -76,7 +76,11 @@ impl<BC: Words, HC: Words> Strides<BC, HC> {
         requires { IsSound strides_format (⟦<Strides<BC, HC> as Column>⟧.content self.now) }
         ensures { result ≡ strided (⟦<Strides<BC, HC> as Column>⟧.content self.now) }
     {
-        if self.bounds.size() == 0 { Some(self.head.word(0)) } else { None }
+        if self.bounds.size() == 0 {
+            Some(self.head.word(0))
+        } else {
+            None
+        }
     }
 }
 
@@ -183,7 +187,11 @@ fn grown(stride: u64, length: u64, item: u64) -> [u64; 2]
     requires { length < 2 ^ 64 - 1 }
     ensures { result ≡ grown stride length item }
 {
-    if length == 0 { [item, 1] } else { [stride, length + 1] }
+    if length == 0 {
+        [item, 1]
+    } else {
+        [stride, length + 1]
+    }
 }
 
 impl Clear for Strides<Vec<u64>, [u64; 2]> {
@@ -259,7 +267,11 @@ impl<'x> ExtendFrom<Strides<View<'x, u64>, View<'x, u64>>> for Strides<Vec<u64>,
         room.saturating_add(view.bounds.size() / 8)
     }
 
-    fn extend_from_self(&mut self, view: Strides<View<'x, u64>, View<'x, u64>>, range: Range<usize>) -> Result<(), GrowError> {
+    fn extend_from_self(
+        &mut self,
+        view: Strides<View<'x, u64>, View<'x, u64>>,
+        range: Range<usize>,
+    ) -> Result<(), GrowError> {
         let head = self.head;
         let count = self.bounds.len();
         for i in range.start..range.end {
@@ -346,10 +358,18 @@ impl<BC: Words, HC: Words> Stored for Strides<BC, HC> {
         }
     }
 
-    fn judge_tallied<L>(store: &DecodedStore<'_>, offset: usize, tally: &mut Tally<L>) -> Result<(), StoreFault> {
+    fn judge_tallied<L>(
+        store: &DecodedStore<'_>,
+        offset: usize,
+        tally: &mut Tally<L>,
+    ) -> Result<(), StoreFault> {
         let count = store.len();
         let head = View::<u64>::from_le_bytes(store.get(offset));
-        fault_in(&head, &View::<u64>::from_le_bytes(store.get(offset + 1)), offset)
+        fault_in(
+            &head,
+            &View::<u64>::from_le_bytes(store.get(offset + 1)),
+            offset,
+        )
     }
 
     fn rows_in(store: &DecodedStore<'_>, offset: usize) -> usize {
@@ -376,13 +396,21 @@ impl<'s> FromBytes<'s> for Strides<View<'s, u64>, View<'s, u64>> {
 
 impl<'s> AsBytes<'s> for Strides<View<'s, u64>, View<'s, u64>> {
     fn get_byte_slice(&self, index: usize) -> (u64, ByteSlice<'s>) {
-        if index == 0 { self.head.get_byte_slice(0) } else { self.bounds.get_byte_slice(0) }
+        if index == 0 {
+            self.head.get_byte_slice(0)
+        } else {
+            self.bounds.get_byte_slice(0)
+        }
     }
 }
 
 impl ContainerBytes for Strides<Vec<u64>, [u64; 2]> {
     fn byte_slice(&self, index: usize) -> ByteSlice<'_> {
-        if index == 0 { self.head.slice() } else { self.bounds.slice() }
+        if index == 0 {
+            self.head.slice()
+        } else {
+            self.bounds.slice()
+        }
     }
 
     fn load(alloc: Global, store: &DecodedStore<'_>, offset: usize) -> Result<Self, GrowError> {
@@ -430,10 +458,20 @@ impl<BC: Words, HC: Words> Offsets for Strides<BC, HC> {
 impl<BC: Words, HC: Words> StoredOffsets for Strides<BC, HC> {
     ghost stored_bounds = { strides_bounds };
 
-    fn rises_in_tallied<L>(store: &DecodedStore<'_>, offset: usize, end: u64, tally: &mut Tally<L>) -> bool {
+    fn rises_in_tallied<L>(
+        store: &DecodedStore<'_>,
+        offset: usize,
+        end: u64,
+        tally: &mut Tally<L>,
+    ) -> bool {
         let head = store.get(offset);
         let stride = word_at(head, 0);
         let last = stride * word_at(head, 1);
-        rise(&View::<u64>::from_le_bytes(store.get(offset + 1)), last, end, tally)
+        rise(
+            &View::<u64>::from_le_bytes(store.get(offset + 1)),
+            last,
+            end,
+            tally,
+        )
     }
 }

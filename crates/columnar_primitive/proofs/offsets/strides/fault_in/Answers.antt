@@ -1,4 +1,4 @@
-use Rattle.std.proofs.Common.{◌≡◌, ◌+◌, ◌-◌, ◌*◌, ◌^◌, ◌<◌, ◌≤◌, List, [], ◌∷◌, length, take, drop, refl, sym, ◌∙◌, ap, arith}
+use Rattle.std.proofs.Common.{arith}
 use Rattle.std.proofs.Common.{◌/◌}
 use Rattle.columnar_primitive.specs.StrideLaws.{sound_at, strides_fine, too_many_at}
 use Rattle.columnar_primitive.proofs.offsets.strides.fault_in.Goals as goal

@@ -1,4 +1,4 @@
-use Rattle.std.proofs.Common.{◌≡◌, ◌+◌, ◌-◌, ◌*◌, ◌^◌, ◌<◌, ◌≤◌, List, [], ◌∷◌, length, take, drop, refl, sym, ◌∙◌, ap, arith}
+use Rattle.std.proofs.Common.{◌≡◌, length, arith}
 use Rattle.std.proofs.Common.{◌/◌}
 use Rattle.columnar_primitive.specs.StrideLaws.{bounds_fall, bounds_on, bounds_done}
 use Rattle.columnar_primitive.proofs.offsets.strides.rise.Goals as goal
@@ -7,9 +7,10 @@ pub returns-then-next-last-clause-value : goal.returns-then-next-last-clause-val
 returns-then-next-last-clause-value g c = bounds_fall (g.BC.Words.held c.args.bounds.now) c.loop-i.i c.loop-i.last c.args.«end» _ c.loop-i.invariant.0 (omega (arith, c.size-i-end.ensures)) (omega (arith, c.word-next.ensures, c.if-next-last.true))
 
 pub loop-i-preserved : goal.loop-i-preserved
-loop-i-preserved g c =
-    (rw c.word-next.ensures (bounds_on (g.BC.Words.held c.args.bounds.now) c.loop-i.i c.loop-i.last c.args.«end» _ c.loop-i.invariant.0 (omega (arith, c.size-i-end.ensures)) (omega (arith, c.word-next.ensures, c.if-next-last.false))),
-    omega (arith, c.loop-i.invariant.1, c.tick.ensures.turns))
+loop-i-preserved g c = (
+  rw c.word-next.ensures (bounds_on (g.BC.Words.held c.args.bounds.now) c.loop-i.i c.loop-i.last c.args.«end» _ c.loop-i.invariant.0 (omega (arith, c.size-i-end.ensures)) (omega (arith, c.word-next.ensures, c.if-next-last.false))),
+  omega (arith, c.loop-i.invariant.1, c.tick.ensures.turns),
+)
 
 pub returns-clause-value : goal.returns-clause-value
 returns-clause-value g c =

@@ -1,4 +1,4 @@
-use Rattle.std.proofs.Common.{◌≡◌, ◌+◌, ◌-◌, ◌*◌, ◌^◌, ◌<◌, ◌≤◌, List, [], ◌∷◌, length, take, drop, refl, sym, ◌∙◌, ap, arith}
+use Rattle.std.proofs.Common.{length, take, drop, ◌∙◌, ap, arith}
 use Rattle.columnar_core.specs.WordLaws.{length-le_bytes}
 use Rattle.columnar_primitive.specs.Held.{sliced}
 use Rattle.columnar_primitive.specs.HeldLaws.{second_words}

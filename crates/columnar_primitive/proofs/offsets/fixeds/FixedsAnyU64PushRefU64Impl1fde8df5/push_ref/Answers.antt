@@ -1,4 +1,4 @@
-use Rattle.std.proofs.Common.{◌≡◌, ◌+◌, ◌-◌, ◌*◌, ◌^◌, ◌<◌, ◌≤◌, List, [], ◌∷◌, length, take, drop, refl, sym, ◌∙◌, ap, arith}
+use Rattle.std.proofs.Common.{[], arith}
 use Rattle.columnar_primitive.specs.FixedLaws.{fixed_pushed, fixed_refused}
 use Rattle.columnar_primitive.proofs.offsets.fixeds.FixedsAnyU64PushRefU64Impl1fde8df5.push_ref.Goals as goal
 

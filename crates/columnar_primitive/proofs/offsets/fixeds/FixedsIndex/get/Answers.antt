@@ -1,5 +1,4 @@
-use Rattle.std.proofs.Common.{◌≡◌, ◌+◌, ◌-◌, ◌*◌, ◌^◌, ◌<◌, ◌≤◌, List, [], ◌∷◌, length, take, drop, refl, sym, ◌∙◌, ap, arith}
-use Rattle.columnar_core.specs.Format.{slice}
+use Rattle.std.proofs.Common.{◌≡◌, ◌+◌, ◌*◌, arith}
 use Rattle.columnar_primitive.specs.FixedLaws.{fixed_row, fixed_get}
 use Rattle.columnar_primitive.proofs.offsets.fixeds.FixedsIndex.get.Goals as goal
 

@@ -1,4 +1,4 @@
-use Rattle.std.proofs.Common.{◌≡◌, ◌+◌, ◌-◌, ◌*◌, ◌^◌, ◌<◌, ◌≤◌, List, [], ◌∷◌, length, take, drop, refl, sym, ◌∙◌, ap, arith}
+use Rattle.std.proofs.Common.{◌∙◌, arith}
 use Rattle.columnar_core.specs.StoreLaws.{first_at}
 use Rattle.columnar_core.specs.Store.{slices_in}
 use Rattle.columnar_primitive.specs.FixedLaws.{length-fixed}

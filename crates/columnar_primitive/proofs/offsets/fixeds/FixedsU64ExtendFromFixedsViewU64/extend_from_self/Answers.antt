@@ -1,8 +1,8 @@
-use Rattle.std.proofs.Common.{◌≡◌, ◌+◌, ◌-◌, ◌*◌, ◌^◌, ◌<◌, ◌≤◌, List, [], ◌∷◌, length, take, drop, refl, sym, ◌∙◌, ap, arith}
+use Rattle.std.proofs.Common.{◌≡◌, ◌+◌, ◌-◌, sym, arith}
 use Rattle.columnar_core.specs.Views.{items_content}
 use Rattle.std.specs.Int.{to_le_bytes, w64}
 use Rattle.columnar_core.specs.Bytes.{word}
-use Rattle.columnar_primitive.specs.FixedLaws.{fixed_copied_none, fixed_copy, fixed_copy_refused, fixed_copy_past, length-fixed}
+use Rattle.columnar_primitive.specs.FixedLaws.{fixed_copy, fixed_copy_refused, fixed_copy_past, length-fixed}
 use Rattle.columnar_primitive.specs.Held.{sliced}
 use Rattle.columnar_primitive.proofs.offsets.fixeds.FixedsU64ExtendFromFixedsViewU64.extend_from_self.Goals as goal
 

@@ -1,4 +1,4 @@
-use Rattle.std.proofs.Common.{◌≡◌, ◌+◌, ◌-◌, ◌*◌, ◌^◌, ◌<◌, ◌≤◌, List, [], ◌∷◌, length, take, drop, refl, sym, ◌∙◌, ap, arith}
+use Rattle.std.proofs.Common.{[], ◌∷◌, refl, ◌∙◌, arith}
 use Rattle.columnar_core.specs.Bytes.{le_bytes}
 use Rattle.columnar_primitive.specs.HeldLaws.{count-word}
 use Rattle.columnar_primitive.specs.TriedLaws.{tried_ok, tried_err}

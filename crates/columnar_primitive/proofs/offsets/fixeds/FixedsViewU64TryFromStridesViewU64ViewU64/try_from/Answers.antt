@@ -1,4 +1,4 @@
-use Rattle.std.proofs.Common.{◌≡◌, ◌+◌, ◌-◌, ◌*◌, ◌^◌, ◌<◌, ◌≤◌, List, [], ◌∷◌, length, take, drop, refl, sym, ◌∙◌, ap, arith}
+use Rattle.std.proofs.Common.{refl}
 use Rattle.std.specs.Int.{to_le_bytes, w64}
 use Rattle.columnar_core.specs.Views.{items_content}
 use Rattle.columnar_primitive.specs.Held.{sliced}

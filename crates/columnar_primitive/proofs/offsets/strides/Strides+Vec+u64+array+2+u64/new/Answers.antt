@@ -1,4 +1,4 @@
-use Rattle.std.proofs.Common.{◌≡◌, ◌+◌, ◌-◌, ◌*◌, ◌^◌, ◌<◌, ◌≤◌, List, [], ◌∷◌, length, take, drop, refl, sym, ◌∙◌, ap, arith}
+use Rattle.std.proofs.Common.{[], arith}
 use Rattle.columnar_primitive.specs.StrideLaws.{strides_sound, owned_sound, head_words}
 use Rattle.columnar_primitive.proofs.offsets.strides.Strides+Vec+u64+array+2+u64.new.Goals as goal
 

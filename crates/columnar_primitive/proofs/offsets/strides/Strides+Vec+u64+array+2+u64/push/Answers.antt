@@ -1,6 +1,5 @@
-use Rattle.std.proofs.Common.{◌≡◌, ◌+◌, ◌-◌, ◌*◌, ◌^◌, ◌<◌, ◌≤◌, List, [], ◌∷◌, length, take, drop, refl, sym, ◌∙◌, ap, arith}
+use Rattle.std.proofs.Common.{sym, ◌∙◌, arith}
 use Rattle.std.specs.Prelude.{slice_index}
-use Rattle.columnar_core.specs.Bytes.{le_bytes}
 use Rattle.columnar_primitive.specs.StrideLaws.{head_of, owned_limits, took_bound, took_grown, strides_full_up, length-held}
 use Rattle.columnar_primitive.proofs.offsets.strides.Strides+Vec+u64+array+2+u64.push.Goals as goal
 

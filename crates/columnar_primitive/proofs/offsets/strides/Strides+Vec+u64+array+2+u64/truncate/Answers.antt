@@ -1,6 +1,5 @@
-use Rattle.std.proofs.Common.{◌≡◌, ◌+◌, ◌-◌, ◌*◌, ◌^◌, ◌<◌, ◌≤◌, List, [], ◌∷◌, length, take, drop, refl, sym, ◌∙◌, ap, arith}
+use Rattle.std.proofs.Common.{arith}
 use Rattle.std.specs.Prelude.{slice_index}
-use Rattle.columnar_core.specs.Bytes.{le_bytes}
 use Rattle.columnar_primitive.specs.StrideLaws.{head_of, head_words, cut_bounds, cut_length, length-held}
 use Rattle.columnar_primitive.proofs.offsets.strides.Strides+Vec+u64+array+2+u64.truncate.Goals as goal
 

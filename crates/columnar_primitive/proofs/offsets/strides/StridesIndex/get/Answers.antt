@@ -1,4 +1,4 @@
-use Rattle.std.proofs.Common.{◌≡◌, ◌+◌, ◌-◌, ◌*◌, ◌^◌, ◌<◌, ◌≤◌, List, [], ◌∷◌, length, take, drop, refl, sym, ◌∙◌, ap, arith}
+use Rattle.std.proofs.Common.{arith}
 use Rattle.columnar_primitive.specs.StrideLaws.{stride_at, bound_at, bound_within}
 use Rattle.columnar_primitive.proofs.offsets.strides.StridesIndex.get.Goals as goal
 

@@ -1,5 +1,4 @@
-use Rattle.std.proofs.Common.{◌≡◌, ◌+◌, ◌-◌, ◌*◌, ◌^◌, ◌<◌, ◌≤◌, List, [], ◌∷◌, length, take, drop, refl, sym, ◌∙◌, ap, arith}
-use Rattle.std.proofs.Common.{◌/◌}
+use Rattle.std.proofs.Common.{sym, arith}
 use Rattle.columnar_primitive.specs.StrideLaws.{strides_parts, length-strides}
 use Rattle.columnar_primitive.proofs.offsets.strides.StridesLen.len.Goals as goal
 

@@ -1,5 +1,4 @@
-use Rattle.std.proofs.Common.{◌≡◌, ◌+◌, ◌-◌, ◌*◌, ◌^◌, ◌<◌, ◌≤◌, List, [], ◌∷◌, length, take, drop, refl, sym, ◌∙◌, ap, arith}
-use Rattle.columnar_primitive.specs.StrideLaws.{rise_at, stride_product}
+use Rattle.columnar_primitive.specs.StrideLaws.{rise_at}
 use Rattle.columnar_primitive.proofs.offsets.strides.StridesOffsets.rises_to_tallied.Goals as goal
 
 pub returns-clause-value : goal.returns-clause-value

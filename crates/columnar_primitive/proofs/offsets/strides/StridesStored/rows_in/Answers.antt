@@ -1,4 +1,4 @@
-use Rattle.std.proofs.Common.{◌≡◌, ◌+◌, ◌-◌, ◌*◌, ◌^◌, ◌<◌, ◌≤◌, List, [], ◌∷◌, length, take, drop, refl, sym, ◌∙◌, ap, arith}
+use Rattle.std.proofs.Common.{◌≡◌, ◌+◌, length, sym, arith}
 use Rattle.std.proofs.Common.{◌/◌, subst}
 use Rattle.columnar_core.specs.Store.{slices_in}
 use Rattle.columnar_core.specs.Format.{Content}

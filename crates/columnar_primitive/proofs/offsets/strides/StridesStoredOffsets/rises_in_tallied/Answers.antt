@@ -1,5 +1,5 @@
-use Rattle.std.proofs.Common.{◌≡◌, ◌+◌, ◌-◌, ◌*◌, ◌^◌, ◌<◌, ◌≤◌, List, [], ◌∷◌, length, take, drop, refl, sym, ◌∙◌, ap, arith}
-use Rattle.std.proofs.Common.{◌/◌, subst}
+use Rattle.std.proofs.Common.{◌≡◌, ◌*◌, sym, arith}
+use Rattle.std.proofs.Common.{subst}
 use Rattle.columnar_core.specs.Format.{Content, slice}
 use Rattle.columnar_primitive.specs.Held.{sliced}
 use Rattle.columnar_primitive.specs.Stride.{strides_rows, bounds_rows}

@@ -1,4 +1,4 @@
-use Rattle.std.proofs.Common.{◌≡◌, ◌+◌, ◌-◌, ◌*◌, ◌^◌, ◌<◌, ◌≤◌, List, [], ◌∷◌, length, take, drop, refl, sym, ◌∙◌, ap, arith}
+use Rattle.std.proofs.Common.{arith}
 use Rattle.columnar_core.specs.Store.{slices_in}
 use Rattle.columnar_core.specs.Bytes.{le_bytes}
 use Rattle.columnar_core.specs.Format.{slice}

@@ -1,4 +1,4 @@
-use Rattle.std.proofs.Common.{◌≡◌, ◌+◌, ◌-◌, ◌*◌, ◌^◌, ◌<◌, ◌≤◌, List, [], ◌∷◌, length, take, drop, refl, sym, ◌∙◌, ap, arith}
+use Rattle.std.proofs.Common.{◌≡◌, take, refl, ◌∙◌, ap, arith}
 use Rattle.std.specs.Int.{to_le_bytes, w64}
 use Rattle.columnar_core.specs.Elements.{word_row}
 use Rattle.columnar_core.specs.Format.{both, slice}
@@ -18,9 +18,10 @@ returns-in-Err-clause-err c =
     c.requires.sound refl (c.truncate.ensures.items ∙ (ap (take c.len-count.result) c.in-Err.ensures.bounds_stay ∙ c.loop-i.invariant.1)) (omega arith) c.loop-i-test.true c.get.ensures.row c.loop-i.invariant.0 c.in-Err.ensures.err.cause
 
 pub loop-i-preserved : goal.loop-i-preserved
-loop-i-preserved c =
-    (took_more (strides_rows (both (slice (sliced (items_content (to_le_bytes w64) c.args.view.head.items))) (slice (sliced (items_content (to_le_bytes w64) c.args.view.bounds.items))))) c.args.range.start c.loop-i.i (word_row c.get.result) (omega arith) c.get.ensures.row c.loop-i.invariant.0 c.in-Ok.ensures.ok,
-    rw c.in-Ok.ensures.bounds (front_kept c.len-count.result c.args.self.now.bounds.items c.loop-i.self.bounds.items c.loop-i.self.head c.get.result (omega (arith, c.len-count.ensures)) c.loop-i.invariant.1))
+loop-i-preserved c = (
+  took_more (strides_rows (both (slice (sliced (items_content (to_le_bytes w64) c.args.view.head.items))) (slice (sliced (items_content (to_le_bytes w64) c.args.view.bounds.items))))) c.args.range.start c.loop-i.i (word_row c.get.result) (omega arith) c.get.ensures.row c.loop-i.invariant.0 c.in-Ok.ensures.ok,
+  rw c.in-Ok.ensures.bounds (front_kept c.len-count.result c.args.self.now.bounds.items c.loop-i.self.bounds.items c.loop-i.self.head c.get.result (omega (arith, c.len-count.ensures)) c.loop-i.invariant.1),
+)
 
 pub returns-clause-ok : goal.returns-clause-ok
 returns-clause-ok c =

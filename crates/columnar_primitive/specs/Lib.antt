@@ -7,3 +7,12 @@ pub mod MappedLaws
 pub mod Characters
 pub mod Durations
 pub mod DurationLaws
+pub mod Held
+pub mod Multiples
+pub mod Fixed
+pub mod FixedLaws
+pub mod HeldLaws
+pub mod Stride
+pub mod StrideLaws
+pub mod Tried
+pub mod TriedLaws

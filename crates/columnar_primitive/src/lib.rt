@@ -1,4 +1,4 @@
-//! Columns of the values of the language: numbers by other names, characters, durations, units.
+//! Columns of the values of the language: numbers by other names, characters, durations, units and offsets.
 #![tactic(auto)]
 
 pub mod chars;
@@ -8,4 +8,5 @@ pub mod durations;
 pub mod empties;
 pub mod flat;
 pub mod numbers;
+pub mod offsets;
 pub mod rule;

@@ -1,0 +1,11 @@
+//! Columns of offsets that follow a stride.
+
+pub mod fixeds;
+pub mod strides;
+pub mod words;
+
+pub use fixeds::Fixeds;
+pub use strides::Strides;
+
+#[cfg(test)]
+mod tests;

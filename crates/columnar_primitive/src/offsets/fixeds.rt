@@ -1,0 +1,402 @@
+//! Offsets that are the multiples of a constant, of which the count alone is kept.
+ghost use Rattle.std.specs.Prelude.{◌≡◌, ℕ, ◌+◌, ◌-◌, ◌*◌, ◌<◌, ◌≤◌, ◌^◌, ◌∷◌, [], List, length, take, drop, OnOk, IfOk, IfErr, true, false, refl};
+ghost use Rattle.columnar_core.specs.Row.{Row, number};
+ghost use Rattle.columnar_core.specs.Format.{slice, first, moved, IsSound};
+ghost use Rattle.columnar_core.specs.Bytes.{word};
+ghost use Rattle.columnar_core.specs.Elements.{word_row};
+ghost use Rattle.columnar_core.specs.Faults.{verdict};
+ghost use Rattle.columnar_core.specs.Change.{Copied, Refused, Took};
+ghost use Rattle.columnar_primitive.specs.Held.{counted};
+ghost use Rattle.columnar_primitive.specs.Fixed.{fixed_broken, fixed_format, fixed_rows, IsCauseOf, IsLimit};
+ghost use Rattle.columnar_primitive.specs.Tried.{Tried};
+ghost use Rattle.columnar_primitive.specs.FixedLaws.{fixed_lawful, fixed_storable, fixed_bounds};
+
+use super::strides::Strides;
+use super::words::{Words, second_of};
+use columnar_core::byte_slice::ByteSlice;
+use columnar_core::bytes::{AsBytes, Check, FromBytes, Stored};
+use columnar_core::container::{Borrow, Container, ContainerBytes, ExtendFrom, Reborrow, Storage};
+use columnar_core::fault::{GrowError, StoreFault};
+use columnar_core::offsets::{Offsets, StoredOffsets};
+use columnar_core::store::{DecodedStore, word_at};
+use columnar_core::tally::Tally;
+use columnar_core::traits::{Clear, Column, Index, Len, Push, PushRef};
+use columnar_core::view::View;
+use std::alloc::Global;
+use std::ops::Range;
+
+/// The offsets `K`, `2 * K`, .., of which only the count is kept: the bounds of lists of `K` items each. A count of its
+/// own is a `u64`, a view's is a `View` of one entry.
+#[derive(Clone, Copy, Drop, PartialEq)]
+pub struct Fixeds<const K: u64, CC> {
+    /// How many offsets there are.
+    pub count: CC,
+}
+
+impl<const K: u64, CC: Words> Column for Fixeds<K, CC> {
+    ghost format = { fixed_format K };
+
+    ghost content = { λ c. slice (CC.held c.count) };
+}
+
+impl<const K: u64, CC: Words> Len for Fixeds<K, CC> {
+    fn len(&self) -> usize {
+        self.count.word(0) as usize
+    }
+}
+
+impl<const K: u64, CC: Words> Index for Fixeds<K, CC> {
+    type Ref = u64;
+
+    fn get(&self, index: usize) -> u64 {
+        K * index as u64 + K
+    }
+}
+
+impl<'x, const K: u64, CC: Words> Column for &'x Fixeds<K, CC> {
+    ghost format = { fixed_format K };
+
+    ghost content = { λ c. slice (CC.held c.now.count) };
+}
+
+impl<'x, const K: u64, CC: Words> Len for &'x Fixeds<K, CC> {
+    fn len(&self) -> usize {
+        (**self).len()
+    }
+}
+
+impl<'x, const K: u64, CC: Words> Index for &'x Fixeds<K, CC> {
+    type Ref = u64;
+
+    fn get(&self, index: usize) -> u64 {
+        (**self).get(index)
+    }
+}
+
+impl<const K: u64> Clear for Fixeds<K, u64> {
+    fn clear(&mut self) {
+        self.count = 0;
+    }
+}
+
+impl<const K: u64> Storage for Fixeds<K, u64> {
+    type Room = ();
+
+    ghost lawful = { fixed_lawful K };
+
+    fn empty(_alloc: Global) -> Self {
+        Fixeds { count: 0 }
+    }
+
+    fn duplicate(&self, _alloc: Global) -> Result<Self, GrowError> {
+        Ok(Fixeds { count: self.count })
+    }
+
+    fn truncate(&mut self, n: usize) {
+        self.count = n as u64;
+    }
+
+    fn no_room() -> () {
+        ()
+    }
+
+    fn reserve_room(&mut self, _room: ()) -> Result<(), GrowError> {
+        Ok(())
+    }
+}
+
+// The count with one more offset, where `item` is the one that comes next.
+fn next_count<const K: u64>(count: u64, item: u64) -> Result<u64, GrowError>
+    ensures ok { IfOk result (λ n. (n ≡ count + 1) × (item ≡ K * n)) }
+    ensures fits { IfOk result (λ n. K * n < 2 ^ 64) }
+    ensures limit { IfErr result IsLimit }
+    ensures err { IfErr result (λ e. (rs : List Row) → IsCauseOf K e count (number item ∷ rs)) }
+{
+    let next = match count.checked_add(1) {
+        Some(next) => next,
+        None => return Err(GrowError::Length),
+    };
+    match K.checked_mul(next) {
+        None => Err(GrowError::Length),
+        Some(offset) => if offset == item {
+            Ok(next)
+        } else {
+            Err(GrowError::Offset)
+        },
+    }
+}
+
+impl<const K: u64> Push<u64> for Fixeds<K, u64> {
+    /// Adds the offset. Length is answered where one more offset passes 2^64 - 1, in number or in size, and else Offset
+    /// where the item is not the next multiple. It takes no memory, and wants none.
+    fn push(&mut self, item: u64) -> Result<(), GrowError>
+        requires sound { IsSound (fixed_format K) (counted self.old.count) }
+        ensures ok { OnOk result (Took (fixed_format K) (counted self.old.count) (counted self.new.count) (word_row item ∷ [])) }
+        ensures err { IfErr result (λ e. Refused (fixed_format K) (counted self.old.count) (counted self.new.count) (word_row item ∷ []) e) }
+        ensures limit { IfErr result IsLimit }
+    {
+        match next_count::<K>(self.count, item) {
+            Ok(next) => {
+                self.count = next;
+                Ok(())
+            }
+            Err(error) => Err(error),
+        }
+    }
+}
+
+impl<'x, const K: u64> Push<&'x u64> for Fixeds<K, u64> {
+    /// As the push of a `u64`.
+    fn push(&mut self, item: &'x u64) -> Result<(), GrowError>
+        requires sound { IsSound (fixed_format K) (counted self.old.count) }
+        ensures ok { OnOk result (Took (fixed_format K) (counted self.old.count) (counted self.new.count) (word_row item.now ∷ [])) }
+        ensures err { IfErr result (λ e. Refused (fixed_format K) (counted self.old.count) (counted self.new.count) (word_row item.now ∷ []) e) }
+        ensures limit { IfErr result IsLimit }
+    {
+        match next_count::<K>(self.count, *item) {
+            Ok(next) => {
+                self.count = next;
+                Ok(())
+            }
+            Err(error) => Err(error),
+        }
+    }
+}
+
+impl<const K: u64> PushRef<u64> for Fixeds<K, u64> {
+    /// As the push of a `u64`.
+    fn push_ref(&mut self, item: &u64) -> Result<(), GrowError>
+        requires sound { IsSound (fixed_format K) (counted self.old.count) }
+        ensures ok { OnOk result (Took (fixed_format K) (counted self.old.count) (counted self.new.count) (word_row item.now ∷ [])) }
+        ensures err { IfErr result (λ e. Refused (fixed_format K) (counted self.old.count) (counted self.new.count) (word_row item.now ∷ []) e) }
+        ensures limit { IfErr result IsLimit }
+    {
+        match next_count::<K>(self.count, *item) {
+            Ok(next) => {
+                self.count = next;
+                Ok(())
+            }
+            Err(error) => Err(error),
+        }
+    }
+}
+
+impl<'x, const K: u64> ExtendFrom<Fixeds<K, View<'x, u64>>> for Fixeds<K, u64> {
+    fn add_room(_room: (), _view: Fixeds<K, View<'x, u64>>) -> () {
+        ()
+    }
+
+    /// Adds the offsets of the range where each comes to its place, as pushes of them in turn would, or none of them.
+    /// It takes no memory, and wants none.
+    fn extend_from_self(
+        &mut self,
+        view: Fixeds<K, View<'x, u64>>,
+        range: Range<usize>,
+    ) -> Result<(), GrowError>
+        requires sound { IsSound (fixed_format K) (counted self.old.count) }
+        requires view_sound { IsSound (fixed_format K) (⟦<Fixeds<K, View<'x, u64>> as Column>⟧.content view) }
+        requires ordered { range.start ≤ range.«end» }
+        requires in_range { range.«end» ≤ length (fixed_rows K (⟦<Fixeds<K, View<'x, u64>> as Column>⟧.content view)) }
+        ensures ok { OnOk result (Copied (fixed_format K) (counted self.old.count) (counted self.new.count) range.start (take (range.«end» - range.start) (drop range.start (fixed_rows K (⟦<Fixeds<K, View<'x, u64>> as Column>⟧.content view.entry))))) }
+        ensures err { IfErr result (λ e. Refused (fixed_format K) (counted self.old.count) (counted self.new.count) (take (range.«end» - range.start) (drop range.start (fixed_rows K (⟦<Fixeds<K, View<'x, u64>> as Column>⟧.content view.entry)))) e) }
+        ensures limit { IfErr result IsLimit }
+    {
+        let added = range.end - range.start;
+        if added == 0 {
+            return Ok(());
+        }
+        match next_count::<K>(self.count, view.get(range.start)) {
+            Ok(_) => {}
+            Err(error) => return Err(error),
+        }
+        match self.count.checked_add(added as u64) {
+            Some(count) => {
+                self.count = count;
+                Ok(())
+            }
+            None => Err(GrowError::Length),
+        }
+    }
+}
+
+impl<'a, const K: u64> Borrow<'a> for Fixeds<K, u64> {
+    type Ref = u64;
+
+    type Borrowed = Fixeds<K, View<'a, u64>>;
+
+    type Parts = u64;
+
+    ghost same_format = { refl };
+
+    fn borrow(&'a self) -> Fixeds<K, View<'a, u64>> {
+        Fixeds {
+            count: View::from_slice(std::slice::from_ref(&self.count)),
+        }
+    }
+}
+
+impl<'a, const K: u64> Container<'a> for Fixeds<K, u64> {}
+
+impl<'a, 'b, const K: u64> Reborrow<'b> for Fixeds<K, View<'a, u64>>
+where
+    'a: 'b,
+{
+    type Short = Fixeds<K, View<'b, u64>>;
+
+    ghost same_short = { refl };
+
+    fn reborrow(self) -> Fixeds<K, View<'b, u64>> {
+        self
+    }
+}
+
+// Which rule does a count break?
+fn fault_in<CC: Words>(stride: u64, count: &CC, from: usize) -> Result<(), StoreFault>
+    ensures { verdict result ≡ first (moved from (fixed_broken stride (slice (CC.held count.now)))) }
+{
+    if count.size() != 8 {
+        return Err(StoreFault::HeadSize(from));
+    }
+    match stride.checked_mul(count.word(0)) {
+        Some(_) => Ok(()),
+        None => Err(StoreFault::Stride(from)),
+    }
+}
+
+impl<const K: u64, CC: Words> Stored for Fixeds<K, CC> {
+    ghost storable = { fixed_storable K };
+
+    ghost counted = { λ c. refl };
+
+    fn slice_count() -> usize {
+        1
+    }
+
+    fn element_sizes(sizes: &mut Vec<usize>) -> Result<(), GrowError> {
+        match sizes.push(8) {
+            Ok(()) => Ok(()),
+            Err(_) => Err(GrowError::Memory),
+        }
+    }
+
+    fn judge_tallied<L>(
+        store: &DecodedStore<'_>,
+        offset: usize,
+        tally: &mut Tally<L>,
+    ) -> Result<(), StoreFault> {
+        fault_in(K, &View::<u64>::from_le_bytes(store.get(offset)), offset)
+    }
+
+    fn rows_in(store: &DecodedStore<'_>, offset: usize) -> usize {
+        word_at(store.get(offset), 0) as usize
+    }
+}
+
+impl<const K: u64, CC: Words> Check for Fixeds<K, CC> {
+    fn check_from_tallied<L>(&self, from: usize, tally: &mut Tally<L>) -> Result<(), StoreFault> {
+        fault_in(K, &self.count, from)
+    }
+}
+
+impl<'s, const K: u64> FromBytes<'s> for Fixeds<K, View<'s, u64>> {
+    fn from_store(store: &DecodedStore<'s>, offset: &mut usize) -> Self {
+        let start = *offset;
+        *offset = start + 1;
+        Fixeds {
+            count: View::from_le_bytes(store.get(start)),
+        }
+    }
+}
+
+impl<'s, const K: u64> AsBytes<'s> for Fixeds<K, View<'s, u64>> {
+    fn get_byte_slice(&self, index: usize) -> (u64, ByteSlice<'s>) {
+        self.count.get_byte_slice(index)
+    }
+}
+
+impl<const K: u64> ContainerBytes for Fixeds<K, u64> {
+    fn byte_slice(&self, index: usize) -> ByteSlice<'_> {
+        self.count.slice()
+    }
+
+    fn load(_alloc: Global, store: &DecodedStore<'_>, offset: usize) -> Result<Self, GrowError> {
+        let bytes = store.get(offset);
+        ByteSlice::of_bytes(bytes).holds_bytes();
+        Ok(Fixeds {
+            count: word_at(bytes, 0),
+        })
+    }
+}
+
+impl<const K: u64, CC: Words> Offsets for Fixeds<K, CC> {
+    ghost bounds = { fixed_bounds K };
+
+    fn offset(&self, index: usize) -> u64 {
+        self.get(index)
+    }
+
+    fn rises_to_tallied<L>(&self, end: u64, tally: &mut Tally<L>) -> bool {
+        K * self.count.word(0) == end
+    }
+}
+
+impl<const K: u64, CC: Words> StoredOffsets for Fixeds<K, CC> {
+    ghost stored_bounds = { fixed_bounds K };
+
+    fn rises_in_tallied<L>(
+        store: &DecodedStore<'_>,
+        offset: usize,
+        end: u64,
+        tally: &mut Tally<L>,
+    ) -> bool {
+        K * word_at(store.get(offset), 0) == end
+    }
+}
+
+// Do all offsets of a head and bounds follow the stride?
+fn all_follow<HC: Words, BC: Words>(head: &HC, bounds: &BC, stride: u64) -> bool
+    ensures yes { result ≡ true → (length (HC.held head.now) ≡ 16) × ((length (BC.held bounds.now) ≡ 0) × (word (HC.held head.now) 0 ≡ stride)) }
+    ensures no { result ≡ false → length (HC.held head.now) ≡ 16 → length (BC.held bounds.now) ≡ 0 → word (HC.held head.now) 0 ≡ stride → ⊥ }
+{
+    if head.size() != 16 || bounds.size() != 0 {
+        return false;
+    }
+    head.word(0) == stride
+}
+
+/// Ok exactly where all offsets follow the stride `K`; else the column is given back as it is.
+impl<const K: u64> TryFrom<Strides<Vec<u64>, [u64; 2]>> for Fixeds<K, u64> {
+    type Error = Strides<Vec<u64>, [u64; 2]>;
+
+    ghost try_from_gives = { λ item result. Tried K (λ f. ⟦<Fixeds<K, u64> as Column>⟧.content f) (λ s. ⟦<Strides<Vec<u64>, [u64; 2]> as Column>⟧.content s) item result };
+
+    fn try_from(item: Strides<Vec<u64>, [u64; 2]>) -> Result<Self, Strides<Vec<u64>, [u64; 2]>> {
+        if all_follow(&item.head, &item.bounds, K) {
+            Ok(Fixeds {
+                count: item.head.word(1),
+            })
+        } else {
+            Err(item)
+        }
+    }
+}
+
+/// Ok exactly where all offsets follow the stride `K`; else the view is given back as it is, as where it is not well
+/// formed.
+impl<'v, const K: u64> TryFrom<Strides<View<'v, u64>, View<'v, u64>>> for Fixeds<K, View<'v, u64>> {
+    type Error = Strides<View<'v, u64>, View<'v, u64>>;
+
+    ghost try_from_gives = { λ item result. Tried K (λ f. ⟦<Fixeds<K, View<'v, u64>> as Column>⟧.content f) (λ s. ⟦<Strides<View<'v, u64>, View<'v, u64>> as Column>⟧.content s) item result };
+
+    fn try_from(
+        item: Strides<View<'v, u64>, View<'v, u64>>,
+    ) -> Result<Self, Strides<View<'v, u64>, View<'v, u64>>> {
+        if all_follow(&item.head, &item.bounds, K) {
+            Ok(Fixeds {
+                count: second_of(item.head),
+            })
+        } else {
+            Err(item)
+        }
+    }
+}

@@ -1,0 +1,477 @@
+//! Offsets that follow a stride as far as they go, and then stand as they are.
+ghost use Rattle.std.specs.Prelude.{◌≡◌, ℕ, ◌+◌, ◌-◌, ◌*◌, ◌/◌, ◌%◌, ◌^◌, ◌<◌, ◌≤◌, ◌∷◌, [], length, slice_get, Some, Err, OnOk, OnErr, IfOk, IfErr, refl};
+ghost use Rattle.columnar_core.specs.Row.{number};
+ghost use Rattle.columnar_core.specs.Format.{both, slice, first, moved, IsSound};
+ghost use Rattle.columnar_core.specs.Elements.{word_row};
+ghost use Rattle.columnar_core.specs.Bytes.{le_bytes};
+ghost use Rattle.columnar_core.specs.Faults.{verdict};
+ghost use Rattle.columnar_core.specs.Bounds.{rises, numbers};
+ghost use Rattle.columnar_core.specs.Change.{Refused, Took, WasCut};
+ghost use Rattle.columnar_primitive.specs.Stride.{strides_format, strides_broken, strides_rows, bounds_rows, strided, head_and_bounds, follows, grown, head_pushed, bounds_pushed, head_cut, bounds_cut};
+ghost use Rattle.columnar_primitive.specs.StrideLaws.{strides_lawful, strides_storable, strides_bounds};
+
+use super::words::Words;
+use columnar_core::byte_slice::ByteSlice;
+use columnar_core::bytes::{AsBytes, Check, FromBytes, Stored};
+use columnar_core::container::{Borrow, Container, ContainerBytes, ExtendFrom, Reborrow, Storage};
+use columnar_core::fault::{GrowError, StoreFault};
+use columnar_core::offsets::{Offsets, StoredOffsets};
+use columnar_core::store::{DecodedStore, word_at};
+use columnar_core::tally::Tally;
+use columnar_core::traits::{Clear, Column, Index, Len, Push, PushRef};
+use columnar_core::view::View;
+use std::alloc::{AllocError, Global};
+use std::ops::Range;
+
+/// Offsets: as many of the multiples of a stride as the head says, and then those of the bounds as they stand. A column
+/// of its own has an array and a `Vec`, a view has a `View` for each.
+#[derive(Clone, Copy, Drop, PartialEq)]
+pub struct Strides<BC, HC> {
+    /// The stride, and how many offsets follow it.
+    pub head: HC,
+    /// The offsets behind these.
+    pub bounds: BC,
+}
+
+impl<BC: Words, HC: Words> Column for Strides<BC, HC> {
+    ghost format = { strides_format };
+
+    ghost content = { λ c. both (slice (HC.held c.head)) (slice (BC.held c.bounds)) };
+}
+
+impl<BC: Words, HC: Words> Len for Strides<BC, HC> {
+    fn len(&self) -> usize {
+        self.head.word(1) as usize + self.bounds.size() / 8
+    }
+}
+
+impl<BC: Words, HC: Words> Index for Strides<BC, HC> {
+    type Ref = u64;
+
+    fn get(&self, index: usize) -> u64 {
+        let length = self.head.word(1) as usize;
+        if index < length {
+            let stride = self.head.word(0);
+            stride * index as u64 + stride
+        } else {
+            self.bounds.word(index - length)
+        }
+    }
+}
+
+impl<BC: Words, HC: Words> Strides<BC, HC> {
+    /// Where list `index` starts and ends: the offset before offset `index`, 0 for the first, and that offset.
+    pub fn bounds(&self, index: usize) -> (usize, usize)
+        requires sound { IsSound strides_format (⟦<Strides<BC, HC> as Column>⟧.content self.now) }
+        requires in_range { index < length (strides_rows (⟦<Strides<BC, HC> as Column>⟧.content self.now)) }
+        ensures lower { slice_get (number 0 ∷ strides_rows (⟦<Strides<BC, HC> as Column>⟧.content self.now)) index ≡ Some (number result.0) }
+        ensures upper { slice_get (strides_rows (⟦<Strides<BC, HC> as Column>⟧.content self.now)) index ≡ Some (number result.1) }
+    {
+        let lower = if index == 0 { 0 } else { self.get(index - 1) };
+        (lower as usize, self.get(index) as usize)
+    }
+
+    /// The stride, where all offsets follow it, as where there is none.
+    pub fn strided(&self) -> Option<u64>
+        requires { IsSound strides_format (⟦<Strides<BC, HC> as Column>⟧.content self.now) }
+        ensures { result ≡ strided (⟦<Strides<BC, HC> as Column>⟧.content self.now) }
+    {
+        if self.bounds.size() == 0 {
+            Some(self.head.word(0))
+        } else {
+            None
+        }
+    }
+}
+
+impl Strides<Vec<u64>, [u64; 2]> {
+    /// The first `length` multiples of `stride`. Asks that the last of them fits a `u64`.
+    pub fn new(alloc: Global, stride: u64, length: u64) -> Self
+        requires { stride * length < 2 ^ 64 }
+        ensures sound { IsSound strides_format (head_and_bounds result.head result.bounds.items) }
+        ensures head { result.head ≡ stride ∷ length ∷ [] }
+        ensures bounds { result.bounds.items ≡ [] }
+    {
+        Strides {
+            head: [stride, length],
+            bounds: Vec::new(alloc),
+        }
+    }
+
+    /// Adds an offset. Where no bound stands behind the multiples, it joins them if it is the next, or the first, which
+    /// is then the stride; else it goes to the bounds. Length is answered where there are 2^64 - 1 offsets. After a
+    /// refusal nothing has changed.
+    pub fn push(&mut self, item: u64) -> Result<(), GrowError>
+        requires { IsSound strides_format (head_and_bounds self.old.head self.old.bounds.items) }
+        ensures ok { OnOk result (Took strides_format (head_and_bounds self.old.head self.old.bounds.items) (head_and_bounds self.new.head self.new.bounds.items) (word_row item ∷ [])) }
+        ensures err { IfErr result (λ e. Refused strides_format (head_and_bounds self.old.head self.old.bounds.items) (head_and_bounds self.new.head self.new.bounds.items) (word_row item ∷ []) e) }
+        ensures head { OnOk result (self.new.head ≡ head_pushed self.old.head self.old.bounds.items item) }
+        ensures bounds { OnOk result (self.new.bounds.items ≡ bounds_pushed self.old.head self.old.bounds.items item) }
+        ensures head_stays { OnErr result (self.new.head ≡ self.old.head) }
+        ensures bounds_stay { OnErr result (self.new.bounds.items ≡ self.old.bounds.items) }
+        ensures full { length (strides_rows (head_and_bounds self.old.head self.old.bounds.items)) ≡ 2 ^ 64 - 1 → result ≡ Err GrowError.Length }
+    {
+        let stride = self.head[0];
+        let length = self.head[1];
+        let count = self.bounds.len() as u64;
+        if length + count == u64::MAX {
+            return Err(GrowError::Length);
+        }
+        if count == 0 && follows(stride, length, item) {
+            self.head = grown(stride, length, item);
+            return Ok(());
+        }
+        match self.bounds.push(item) {
+            Ok(()) => Ok(()),
+            Err(_) => Err(GrowError::Memory),
+        }
+    }
+
+    /// Takes the last offset away: off the bounds, and where there are none off the multiples. Asks that there is one.
+    pub fn pop(&mut self)
+        requires sound { IsSound strides_format (head_and_bounds self.old.head self.old.bounds.items) }
+        requires some { 0 < length (strides_rows (head_and_bounds self.old.head self.old.bounds.items)) }
+        ensures cut { WasCut strides_format (head_and_bounds self.old.head self.old.bounds.items) (head_and_bounds self.new.head self.new.bounds.items) (length (strides_rows (head_and_bounds self.old.head self.old.bounds.items)) - 1) }
+        ensures head { self.new.head ≡ head_cut self.old.head (length (strides_rows (head_and_bounds self.old.head self.old.bounds.items)) - 1) }
+        ensures bounds { self.new.bounds.items ≡ bounds_cut self.old.head self.old.bounds.items (length (strides_rows (head_and_bounds self.old.head self.old.bounds.items)) - 1) }
+    {
+        let rows = self.len();
+        self.truncate(rows - 1);
+    }
+
+    /// Takes all offsets away, and the stride.
+    pub fn clear(&mut self)
+        ensures sound { IsSound strides_format (head_and_bounds self.new.head self.new.bounds.items) }
+        ensures head { self.new.head ≡ 0 ∷ 0 ∷ [] }
+        ensures bounds { self.new.bounds.items ≡ [] }
+    {
+        self.head = [0, 0];
+        self.bounds.clear();
+    }
+
+    /// Keeps the first `n` offsets: bounds go first, and then multiples; the stride stays. Asks that there are so many.
+    pub fn truncate(&mut self, n: usize)
+        requires sound { IsSound strides_format (head_and_bounds self.old.head self.old.bounds.items) }
+        requires in_range { n ≤ length (strides_rows (head_and_bounds self.old.head self.old.bounds.items)) }
+        ensures cut { WasCut strides_format (head_and_bounds self.old.head self.old.bounds.items) (head_and_bounds self.new.head self.new.bounds.items) n }
+        ensures head { self.new.head ≡ head_cut self.old.head n }
+        ensures bounds { self.new.bounds.items ≡ bounds_cut self.old.head self.old.bounds.items n }
+    {
+        let stride = self.head[0];
+        let length = self.head[1] as usize;
+        if n <= length {
+            self.head = [stride, n as u64];
+            self.bounds.clear();
+        } else {
+            self.bounds.truncate(n - length);
+        }
+    }
+}
+
+// Is an offset behind `length` multiples the next of them, or the first?
+fn follows(stride: u64, length: u64, item: u64) -> bool
+    requires { length < 2 ^ 64 - 1 }
+    ensures { result ≡ follows stride length item }
+{
+    if length == 0 {
+        return true;
+    }
+    match stride.checked_mul(length + 1) {
+        Some(next) => item == next,
+        None => false,
+    }
+}
+
+// The head with one offset more, which follows.
+fn grown(stride: u64, length: u64, item: u64) -> [u64; 2]
+    requires { length < 2 ^ 64 - 1 }
+    ensures { result ≡ grown stride length item }
+{
+    if length == 0 {
+        [item, 1]
+    } else {
+        [stride, length + 1]
+    }
+}
+
+impl Clear for Strides<Vec<u64>, [u64; 2]> {
+    fn clear(&mut self) {
+        Strides::clear(self);
+    }
+}
+
+impl Storage for Strides<Vec<u64>, [u64; 2]> {
+    type Room = usize;
+
+    ghost lawful = { strides_lawful };
+
+    fn empty(alloc: Global) -> Self {
+        Strides::new(alloc, 0, 0)
+    }
+
+    fn duplicate(&self, alloc: Global) -> Result<Self, GrowError> {
+        match Vec::from_slice(alloc, self.bounds.as_slice()) {
+            Ok(bounds) => Ok(Strides {
+                head: self.head,
+                bounds,
+            }),
+            Err(_) => Err(GrowError::Memory),
+        }
+    }
+
+    fn truncate(&mut self, n: usize) {
+        Strides::truncate(self, n);
+    }
+
+    fn no_room() -> usize {
+        0
+    }
+
+    fn reserve_room(&mut self, room: usize) -> Result<(), GrowError> {
+        match self.bounds.reserve(room) {
+            Ok(()) => Ok(()),
+            Err(_) => Err(GrowError::Memory),
+        }
+    }
+}
+
+impl Push<u64> for Strides<Vec<u64>, [u64; 2]> {
+    fn push(&mut self, item: u64) -> Result<(), GrowError> {
+        match Strides::push(self, item) {
+            Ok(()) => Ok(()),
+            Err(error) => Err(error),
+        }
+    }
+}
+
+impl<'x> Push<&'x u64> for Strides<Vec<u64>, [u64; 2]> {
+    fn push(&mut self, item: &'x u64) -> Result<(), GrowError> {
+        match Strides::push(self, *item) {
+            Ok(()) => Ok(()),
+            Err(error) => Err(error),
+        }
+    }
+}
+
+impl PushRef<u64> for Strides<Vec<u64>, [u64; 2]> {
+    fn push_ref(&mut self, item: &u64) -> Result<(), GrowError> {
+        match Strides::push(self, *item) {
+            Ok(()) => Ok(()),
+            Err(error) => Err(error),
+        }
+    }
+}
+
+impl<'x> ExtendFrom<Strides<View<'x, u64>, View<'x, u64>>> for Strides<Vec<u64>, [u64; 2]> {
+    fn add_room(room: usize, view: Strides<View<'x, u64>, View<'x, u64>>) -> usize {
+        room.saturating_add(view.bounds.size() / 8)
+    }
+
+    fn extend_from_self(
+        &mut self,
+        view: Strides<View<'x, u64>, View<'x, u64>>,
+        range: Range<usize>,
+    ) -> Result<(), GrowError> {
+        let head = self.head;
+        let count = self.bounds.len();
+        for i in range.start..range.end {
+            match Strides::push(self, view.get(i)) {
+                Ok(()) => {}
+                Err(error) => {
+                    self.head = head;
+                    self.bounds.truncate(count);
+                    return Err(error);
+                }
+            }
+        }
+        Ok(())
+    }
+}
+
+impl<'a> Borrow<'a> for Strides<Vec<u64>, [u64; 2]> {
+    type Ref = u64;
+
+    type Borrowed = Strides<View<'a, u64>, View<'a, u64>>;
+
+    type Parts = u64;
+
+    ghost same_format = { refl };
+
+    fn borrow(&'a self) -> Strides<View<'a, u64>, View<'a, u64>> {
+        Strides {
+            head: View::from_slice(&self.head),
+            bounds: View::from_slice(self.bounds.as_slice()),
+        }
+    }
+}
+
+impl<'a> Container<'a> for Strides<Vec<u64>, [u64; 2]> {}
+
+impl<'a, 'b> Reborrow<'b> for Strides<View<'a, u64>, View<'a, u64>>
+where
+    'a: 'b,
+{
+    type Short = Strides<View<'b, u64>, View<'b, u64>>;
+
+    ghost same_short = { refl };
+
+    fn reborrow(self) -> Strides<View<'b, u64>, View<'b, u64>> {
+        self
+    }
+}
+
+// Which rule do a head and bounds break first? What the head claims is reckoned, and not walked.
+fn fault_in<HC: Words, BC: Words>(head: &HC, bounds: &BC, from: usize) -> Result<(), StoreFault>
+    requires { from + 2 < 2 ^ 64 }
+    ensures { verdict result ≡ first (moved from (strides_broken (both (slice (HC.held head.now)) (slice (BC.held bounds.now))))) }
+{
+    if head.size() != 16 {
+        return Err(StoreFault::HeadSize(from));
+    }
+    if bounds.size() % 8 != 0 {
+        return Err(StoreFault::ElementSize(from + 1));
+    }
+    let length = head.word(1);
+    match head.word(0).checked_mul(length) {
+        Some(_) => {}
+        None => return Err(StoreFault::Stride(from)),
+    }
+    match length.checked_add(bounds.size() as u64 / 8) {
+        Some(_) => Ok(()),
+        None => Err(StoreFault::Length(from)),
+    }
+}
+
+impl<BC: Words, HC: Words> Stored for Strides<BC, HC> {
+    ghost storable = { strides_storable };
+
+    ghost counted = { λ c. refl };
+
+    fn slice_count() -> usize {
+        2
+    }
+
+    fn element_sizes(sizes: &mut Vec<usize>) -> Result<(), GrowError> {
+        match sizes.extend_from_slice(&[8, 8]) {
+            Ok(()) => Ok(()),
+            Err(_) => Err(GrowError::Memory),
+        }
+    }
+
+    fn judge_tallied<L>(
+        store: &DecodedStore<'_>,
+        offset: usize,
+        tally: &mut Tally<L>,
+    ) -> Result<(), StoreFault> {
+        let count = store.len();
+        let head = View::<u64>::from_le_bytes(store.get(offset));
+        fault_in(
+            &head,
+            &View::<u64>::from_le_bytes(store.get(offset + 1)),
+            offset,
+        )
+    }
+
+    fn rows_in(store: &DecodedStore<'_>, offset: usize) -> usize {
+        word_at(store.get(offset), 1) as usize + store.get(offset + 1).len() / 8
+    }
+}
+
+impl<BC: Words, HC: Words> Check for Strides<BC, HC> {
+    fn check_from_tallied<L>(&self, from: usize, tally: &mut Tally<L>) -> Result<(), StoreFault> {
+        fault_in(&self.head, &self.bounds, from)
+    }
+}
+
+impl<'s> FromBytes<'s> for Strides<View<'s, u64>, View<'s, u64>> {
+    fn from_store(store: &DecodedStore<'s>, offset: &mut usize) -> Self {
+        let start = *offset;
+        *offset = start + 2;
+        Strides {
+            head: View::from_le_bytes(store.get(start)),
+            bounds: View::from_le_bytes(store.get(start + 1)),
+        }
+    }
+}
+
+impl<'s> AsBytes<'s> for Strides<View<'s, u64>, View<'s, u64>> {
+    fn get_byte_slice(&self, index: usize) -> (u64, ByteSlice<'s>) {
+        if index == 0 {
+            self.head.get_byte_slice(0)
+        } else {
+            self.bounds.get_byte_slice(0)
+        }
+    }
+}
+
+impl ContainerBytes for Strides<Vec<u64>, [u64; 2]> {
+    fn byte_slice(&self, index: usize) -> ByteSlice<'_> {
+        if index == 0 {
+            self.head.slice()
+        } else {
+            self.bounds.slice()
+        }
+    }
+
+    fn load(alloc: Global, store: &DecodedStore<'_>, offset: usize) -> Result<Self, GrowError> {
+        let bytes = store.get(offset);
+        ByteSlice::of_bytes(bytes).holds_bytes();
+        let head = [word_at(bytes, 0), word_at(bytes, 1)];
+        match Vec::<u64>::load(alloc, store, offset + 1) {
+            Ok(bounds) => Ok(Strides { head, bounds }),
+            Err(error) => Err(error),
+        }
+    }
+}
+
+// Do the words, from `first` on, never fall, and is the last one `end`? A turn for each.
+fn rise<BC: Words, L>(bounds: &BC, first: u64, end: u64, tally: &mut Tally<L>) -> bool
+    requires { length (BC.held bounds.now) % 8 ≡ 0 }
+    ensures value { result ≡ rises first (numbers (bounds_rows (slice (BC.held bounds.now)))) end }
+    ensures turns { tally.new.turns ≤ tally.old.turns + length (BC.held bounds.now) / 8 }
+{
+    let mut last = first;
+    for i in 0..bounds.size() / 8 {
+        tally.tick();
+        let next = bounds.word(i);
+        if next < last {
+            return false;
+        }
+        last = next;
+    }
+    last == end
+}
+
+impl<BC: Words, HC: Words> Offsets for Strides<BC, HC> {
+    ghost bounds = { strides_bounds };
+
+    fn offset(&self, index: usize) -> u64 {
+        self.get(index)
+    }
+
+    fn rises_to_tallied<L>(&self, end: u64, tally: &mut Tally<L>) -> bool {
+        let stride = self.head.word(0);
+        rise(&self.bounds, stride * self.head.word(1), end, tally)
+    }
+}
+
+impl<BC: Words, HC: Words> StoredOffsets for Strides<BC, HC> {
+    ghost stored_bounds = { strides_bounds };
+
+    fn rises_in_tallied<L>(
+        store: &DecodedStore<'_>,
+        offset: usize,
+        end: u64,
+        tally: &mut Tally<L>,
+    ) -> bool {
+        let head = store.get(offset);
+        let stride = word_at(head, 0);
+        let last = stride * word_at(head, 1);
+        rise(
+            &View::<u64>::from_le_bytes(store.get(offset + 1)),
+            last,
+            end,
+            tally,
+        )
+    }
+}

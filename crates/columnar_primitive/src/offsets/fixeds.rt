@@ -53,18 +53,6 @@ impl<const K: u64, CC: Words> Index for Fixeds<K, CC> {
     }
 }
 
-impl<'x, const K: u64, CC: Words> Column for &'x Fixeds<K, CC> {
-    ghost format = { fixed_format K };
-
-    ghost content = { λ c. slice (CC.held c.now.count) };
-}
-
-impl<'x, const K: u64, CC: Words> Len for &'x Fixeds<K, CC> {
-    fn len(&self) -> usize {
-        (**self).len()
-    }
-}
-
 impl<'x, const K: u64, CC: Words> Index for &'x Fixeds<K, CC> {
     type Ref = u64;
 

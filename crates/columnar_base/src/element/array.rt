@@ -25,7 +25,11 @@ impl<T: Primitive, const N: usize> Element for [T; N] {
     ghost always_valid = { λ x. tt };
 
     fn size() -> usize {
-        if N == 0 { usize::MAX } else { T::size().saturating_mul(N) }
+        if N == 0 {
+            usize::MAX
+        } else {
+            T::size().saturating_mul(N)
+        }
     }
 
     fn from_le_bytes(bytes: &[u8]) -> Self {

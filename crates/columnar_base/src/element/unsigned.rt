@@ -161,7 +161,9 @@ impl Element for u64 {
     }
 
     fn from_le_bytes(bytes: &[u8]) -> Self {
-        u64::from_le_bytes([bytes[0], bytes[1], bytes[2], bytes[3], bytes[4], bytes[5], bytes[6], bytes[7]])
+        u64::from_le_bytes([
+            bytes[0], bytes[1], bytes[2], bytes[3], bytes[4], bytes[5], bytes[6], bytes[7],
+        ])
     }
 
     fn same(&self, other: &Self) -> bool {

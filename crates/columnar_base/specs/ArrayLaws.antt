@@ -1,8 +1,8 @@
 -- Arrays are read back from their bytes.
-use Rattle.std.proofs.Common.{◌≡◌, ℕ, zero, suc, ◌+◌, ◌-◌, ◌*◌, ◌^◌, ◌<◌, ◌≤◌, List, [], ◌∷◌, ◌++◌, Bool, true, false, length, take, drop, map, replicate, get_or, refl, sym, ◌∙◌, ap, arith, length-append, ⊎_elim}
-use Rattle.std.specs.Prelude.{min, ◌&&◌, slice_set}
+use Rattle.std.proofs.Common.{◌≡◌, ℕ, zero, suc, ◌+◌, ◌-◌, ◌*◌, ◌^◌, ◌<◌, ◌≤◌, List, [], ◌∷◌, ◌++◌, Bool, length, take, drop, map, replicate, refl, sym, ◌∙◌, ap, arith, length-append, ⊎_elim}
+use Rattle.std.specs.Prelude.{min, slice_set}
 use Rattle.std.specs.List.{flat_map}
-use Rattle.std.proofs.lemmas.List.{length-replicate, length-take-le, take_at, take_all, take_more_set, drop_more, drop_all}
+use Rattle.std.proofs.lemmas.List.{length-replicate, length-take-le, take_at, take_all, take_more_set}
 use Rattle.std.proofs.lemmas.Bool.{cases_lt}
 use Rattle.columnar_base.specs.Row.{Row, array, list, row_eq}
 use Rattle.columnar_base.specs.Elements.{pieces}

@@ -1,10 +1,10 @@
 -- Formats of two parts, one after the other: what the tests of the parts say of the whole.
-use Rattle.std.proofs.Common.{◌≡◌, ℕ, zero, suc, ◌+◌, ◌-◌, ◌*◌, ◌<◌, ◌≤◌, ◌^◌, Bool, true, false, ◌&&◌, List, [], ◌∷◌, ◌++◌, length, take, drop, refl, sym, ◌∙◌, ap, arith, length-append, length-drop, map}
-use Rattle.std.specs.Prelude.{slice_get, Some, None, Option, nat_le, nat_lt}
+use Rattle.std.proofs.Common.{◌≡◌, ℕ, zero, suc, ◌+◌, ◌*◌, ◌≤◌, ◌^◌, Bool, true, false, ◌&&◌, List, [], ◌∷◌, ◌++◌, length, take, drop, refl, sym, ◌∙◌, ap, arith, length-append, length-drop}
+use Rattle.std.specs.Prelude.{slice_get, Some, None, nat_le, nat_lt}
 use Rattle.std.proofs.lemmas.List.{drop-drop, map-append}
 use Rattle.std.proofs.lemmas.Bool.{and_parts, and_from, leb-true, le-leb}
-use Rattle.std.proofs.Math.Nat.{mul-le-mul_left, mul-le-mul_right}
-use Rattle.columnar_base.specs.Format.{Format, Content, Fits, both, IsSound, IsStorable, Fault, fault, moved, moved_one, first, unless, bytes_held, slices_of, representable, are_sizes}
+use Rattle.std.proofs.Math.Nat.{mul-le-mul_right}
+use Rattle.columnar_base.specs.Format.{Format, Content, both, IsStorable, Fault, fault, moved, moved_one, first, unless, slices_of, representable, are_sizes}
 use Rattle.columnar_base.specs.FaultLaws.{moved_twice, first_found, first_none}
 
 -- a format of two parts one after the other, and its own rule over both

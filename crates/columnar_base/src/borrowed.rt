@@ -74,7 +74,7 @@ impl<'a, C: Column> Column for &'a mut C {
 
 impl<'a, C: Len> Len for &'a mut C {
     fn len(&self) -> usize {
-        (**self).len()
+        Len::len(&**self)
     }
 }
 

@@ -58,7 +58,8 @@ where
     ghost same_short = { refl };
 
     fn reborrow(self) -> &'b [T] {
-        self
+        let items: &'b [T] = self;
+        items
     }
 }
 

@@ -1,4 +1,3 @@
-use Rattle.std.proofs.Common.{◌≡◌}
 use Rattle.columnar_core.specs.NumberSlices.{byte_at_of, no_byte_of}
 use Rattle.columnar_core.proofs.byte_slice.byte_of.Goals as goal
 

@@ -1,6 +1,4 @@
-use Rattle.std.proofs.Common.{◌≡◌, ◌+◌, ◌≤◌, length, drop, refl, arith, length-drop}
-use Rattle.columnar_core.specs.Store.{slices_in}
-use Rattle.columnar_core.specs.StoreLaws.{left_from}
+use Rattle.std.proofs.Common.{refl, arith, length-drop}
 use Rattle.columnar_core.proofs.bytes.from_bytes.Goals as goal
 
 pub from_store-view-requires : goal.from_store-view-requires

@@ -1,4 +1,3 @@
-use Rattle.std.proofs.Common.{◌≡◌}
 use Rattle.columnar_base.specs.ElementLaws.{length-typed, row_typed}
 use Rattle.columnar_base.proofs.borrowed.ArrayIndex.get.Goals as goal
 

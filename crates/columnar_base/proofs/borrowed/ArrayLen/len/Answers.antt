@@ -1,4 +1,4 @@
-use Rattle.std.proofs.Common.{◌≡◌, length, sym, ◌∙◌, ap}
+use Rattle.std.proofs.Common.{length, sym, ◌∙◌, ap}
 use Rattle.columnar_base.specs.ElementLaws.{length-typed}
 use Rattle.columnar_base.proofs.borrowed.ArrayLen.len.Goals as goal
 

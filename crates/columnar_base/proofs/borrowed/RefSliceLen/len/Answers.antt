@@ -1,4 +1,4 @@
-use Rattle.std.proofs.Common.{◌≡◌, sym, ◌∙◌}
+use Rattle.std.proofs.Common.{sym, ◌∙◌}
 use Rattle.columnar_base.specs.ElementLaws.{length-typed}
 use Rattle.columnar_base.proofs.borrowed.RefSliceLen.len.Goals as goal
 

@@ -1,4 +1,3 @@
-use Rattle.std.proofs.Common.{◌≡◌, sym, ◌∙◌}
 use Rattle.columnar_base.specs.ElementLaws.{length-typed, row_typed, row_read, within_bytes}
 use Rattle.columnar_base.proofs.view.View.at.Goals as goal
 

@@ -1,5 +1,4 @@
-use Rattle.std.proofs.Common.{◌≡◌, ◌-◌, ◌≤◌, length, sym, subst}
-use Rattle.columnar_base.specs.Elements.{elements_rows}
+use Rattle.std.proofs.Common.{◌-◌}
 use Rattle.columnar_base.specs.ElementLaws.{length-typed, elements_sound}
 use Rattle.columnar_base.specs.ViewLaws.{part_within, part_rows, part_sound, part_typed}
 use Rattle.columnar_base.proofs.view.View.part.Goals as goal

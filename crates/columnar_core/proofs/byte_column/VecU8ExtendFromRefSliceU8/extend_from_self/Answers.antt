@@ -1,5 +1,4 @@
-use Rattle.std.proofs.Common.{◌≡◌, ◌-◌, take, drop, w8}
-use Rattle.columnar_base.specs.Elements.{elements, elements_rows}
+use Rattle.std.proofs.Common.{◌-◌, w8}
 use Rattle.columnar_base.specs.ElementLaws.{length-typed, elements_copied}
 use Rattle.columnar_base.specs.NumberLaws.{unsigned_element}
 use Rattle.columnar_core.specs.Appended.{piece_means}

@@ -1,4 +1,4 @@
-use Rattle.std.proofs.Common.{ℕ, List, [], ◌+◌, ◌*◌, ◌/◌, ◌%◌, ◌≡◌, ◌≤◌, ◌<◌, ◌++◌, length, take, drop, arith, refl}
+use Rattle.std.proofs.Common.{[], ◌+◌, ◌*◌, ◌/◌, ◌%◌, ◌≡◌, ◌++◌, take, drop, arith, refl}
 use Rattle.columnar_core.specs.Slices.{bytes_in}
 use Rattle.columnar_core.specs.ByteLaws.{word_out, tail_out}
 use Rattle.columnar_core.specs.SentLaws.{sent_more, sent_part, sent_all}

@@ -1,5 +1,4 @@
-use Rattle.std.proofs.Common.{rules, arith, ◌≡◌, ◌≤◌, ◌*◌, ◌∙◌, ap, length, take, subst, refl, replicate}
-use Rattle.std.specs.List.{flat_map}
+use Rattle.std.proofs.Common.{rules, arith, ◌≡◌, ◌*◌, ◌∙◌, refl}
 use Rattle.std.proofs.lemmas.List.{length-replicate, length-set}
 use Rattle.columnar_base.specs.ArrayLaws.{array_read, array_read_more}
 use Rattle.columnar_base.proofs.element.array.ArrayElement.from_le_bytes.Goals as goal

@@ -1,4 +1,4 @@
-use Rattle.std.proofs.Common.{◌≡◌, ◌∙◌}
+use Rattle.std.proofs.Common.{◌∙◌}
 use Rattle.columnar_core.specs.NumberSlices.{bytes_are}
 use Rattle.columnar_core.proofs.byte_slice.sliced.U8Sliced.byte_slice.Goals as goal
 

@@ -1,4 +1,4 @@
-use Rattle.std.proofs.Common.{◌≡◌, arith, w8}
+use Rattle.std.proofs.Common.{arith, w8}
 use Rattle.columnar_core.specs.NumberSlices.{counted_wrapping_unsigned}
 use Rattle.columnar_core.proofs.byte_slice.sliced.WrappingU8Sliced.byte_slice.Goals as goal
 

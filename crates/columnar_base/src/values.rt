@@ -2,7 +2,8 @@
 ghost use Rattle.std.specs.Prelude.{◌/◌, ◌%◌};
 ghost use Rattle.std.specs.Duration.{as_nanos};
 ghost use Rattle.columnar_base.specs.Row.{character, duration, unit};
-ghost use Rattle.columnar_base.specs.Elements.{word_row};
+ghost use Rattle.std.specs.Int.{w64, w128};
+ghost use Rattle.columnar_base.specs.Numbers.{signed_row, unsigned_row};
 
 use crate::traits::Item;
 use std::time::Duration;
@@ -14,7 +15,25 @@ impl Item for () {
 }
 
 impl Item for usize {
-    ghost meaning = { word_row };
+    ghost meaning = { unsigned_row w64 };
+
+    ghost valid = { λ x. Unit {0} };
+}
+
+impl Item for isize {
+    ghost meaning = { signed_row w64 };
+
+    ghost valid = { λ x. Unit {0} };
+}
+
+impl Item for u128 {
+    ghost meaning = { unsigned_row w128 };
+
+    ghost valid = { λ x. Unit {0} };
+}
+
+impl Item for i128 {
+    ghost meaning = { signed_row w128 };
 
     ghost valid = { λ x. Unit {0} };
 }

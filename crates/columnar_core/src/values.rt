@@ -3,6 +3,7 @@ use crate::container::ReborrowRef;
 use columnar_base::element::Primitive;
 use columnar_base::traits::Item;
 use std::num::Wrapping;
+use std::time::Duration;
 
 impl<'b> ReborrowRef<'b> for () {
     type ShortRef = ();
@@ -88,6 +89,54 @@ impl<'b, T: Primitive, const N: usize> ReborrowRef<'b> for [T; N] {
     type ShortRef = [T; N];
 
     fn reborrow_ref(self) -> [T; N] {
+        self
+    }
+}
+
+impl<'b> ReborrowRef<'b> for usize {
+    type ShortRef = usize;
+
+    fn reborrow_ref(self) -> usize {
+        self
+    }
+}
+
+impl<'b> ReborrowRef<'b> for isize {
+    type ShortRef = isize;
+
+    fn reborrow_ref(self) -> isize {
+        self
+    }
+}
+
+impl<'b> ReborrowRef<'b> for u128 {
+    type ShortRef = u128;
+
+    fn reborrow_ref(self) -> u128 {
+        self
+    }
+}
+
+impl<'b> ReborrowRef<'b> for i128 {
+    type ShortRef = i128;
+
+    fn reborrow_ref(self) -> i128 {
+        self
+    }
+}
+
+impl<'b> ReborrowRef<'b> for char {
+    type ShortRef = char;
+
+    fn reborrow_ref(self) -> char {
+        self
+    }
+}
+
+impl<'b> ReborrowRef<'b> for Duration {
+    type ShortRef = Duration;
+
+    fn reborrow_ref(self) -> Duration {
         self
     }
 }

@@ -7,6 +7,8 @@ pub mod MappedLaws
 pub mod Characters
 pub mod Durations
 pub mod DurationLaws
+pub mod Larges
+pub mod LargeLaws
 pub mod Held
 pub mod Multiples
 pub mod Fixed

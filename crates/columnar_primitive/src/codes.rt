@@ -71,6 +71,15 @@ impl<CV: Index<Ref = T::Code>, T: Coded> Index for Codes<CV, T> {
     }
 }
 
+/// Rows are read through a reference as from the column itself.
+impl<'a, CV: Index<Ref = T::Code>, T: Coded> Index for &'a Codes<CV, T> {
+    type Ref = T;
+
+    fn get(&self, index: usize) -> T {
+        Index::get(*self, index)
+    }
+}
+
 impl<CV: Clear, T: Coded> Clear for Codes<CV, T> {
     fn clear(&mut self) {
         self.values.clear();
@@ -88,7 +97,7 @@ impl<T: Coded, CV: Flat + Push<T::Code>> Push<T> for Codes<CV, T> {
 
 impl<'x, T: Coded, CV: Flat + Push<T::Code>> Push<&'x T> for Codes<CV, T> {
     fn push(&mut self, item: &'x T) -> Result<(), GrowError> {
-        match self.values.push((*item).code()) {
+        match self.push_ref(item) {
             Ok(()) => Ok(()),
             Err(error) => Err(error),
         }
@@ -97,7 +106,7 @@ impl<'x, T: Coded, CV: Flat + Push<T::Code>> Push<&'x T> for Codes<CV, T> {
 
 impl<T: Coded, CV: Flat + Push<T::Code>> PushRef<T> for Codes<CV, T> {
     fn push_ref(&mut self, item: &T) -> Result<(), GrowError> {
-        match self.values.push((*item).code()) {
+        match Push::<T>::push(self, *item) {
             Ok(()) => Ok(()),
             Err(error) => Err(error),
         }

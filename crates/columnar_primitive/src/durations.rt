@@ -65,6 +65,15 @@ impl<SC: Index<Ref = u64>, NC: Index<Ref = u32>> Index for Durations<SC, NC> {
     }
 }
 
+/// Rows are read through a reference as from the column itself.
+impl<'a, SC: Index<Ref = u64>, NC: Index<Ref = u32>> Index for &'a Durations<SC, NC> {
+    type Ref = Duration;
+
+    fn get(&self, index: usize) -> Duration {
+        Index::get(*self, index)
+    }
+}
+
 // The duration of so many seconds and nanoseconds, which are below a second.
 fn duration_of(seconds: u64, nanoseconds: u32) -> Duration
     requires { nanoseconds % 2 ^ 32 < 1000000000 }
@@ -166,7 +175,7 @@ impl<SC: Flat + Storage + Push<u64>, NC: Flat + Push<u32>> Push<Duration> for Du
 impl<'x, SC: Flat + Storage + Push<u64>, NC: Flat + Push<u32>> Push<&'x Duration>
     for Durations<SC, NC> {
     fn push(&mut self, item: &'x Duration) -> Result<(), GrowError> {
-        match self.push_parts(item.as_secs(), item.subsec_nanos()) {
+        match self.push_ref(item) {
             Ok(()) => Ok(()),
             Err(error) => Err(error),
         }
@@ -175,7 +184,7 @@ impl<'x, SC: Flat + Storage + Push<u64>, NC: Flat + Push<u32>> Push<&'x Duration
 
 impl<SC: Flat + Storage + Push<u64>, NC: Flat + Push<u32>> PushRef<Duration> for Durations<SC, NC> {
     fn push_ref(&mut self, item: &Duration) -> Result<(), GrowError> {
-        match self.push_parts(item.as_secs(), item.subsec_nanos()) {
+        match Push::<Duration>::push(self, *item) {
             Ok(()) => Ok(()),
             Err(error) => Err(error),
         }
@@ -200,7 +209,7 @@ impl<
         view: Durations<V, W>,
         range: Range<usize>,
     ) -> Result<(), GrowError> {
-        let before = self.seconds.len();
+        let rows = self.seconds.len();
         let start = range.start;
         let end = range.end;
         match self.seconds.extend_from_self(view.seconds, start..end) {
@@ -213,7 +222,7 @@ impl<
         {
             Ok(()) => Ok(()),
             Err(error) => {
-                self.seconds.truncate(before);
+                self.seconds.truncate(rows);
                 Err(error)
             }
         }

@@ -50,6 +50,16 @@ impl<CC: Count> Index for Empties<CC> {
     }
 }
 
+/// Lends the unit that each row is.
+impl<'a, CC: Count> Index for &'a Empties<CC> {
+    type Ref = &'a ();
+
+    fn get(&self, _index: usize) -> &'a () {
+        let column: &'a Empties<CC> = *self;
+        &column.empty
+    }
+}
+
 impl Clear for Empties<u64> {
     fn clear(&mut self) {
         self.count = 0;
@@ -95,7 +105,7 @@ impl<'x> Push<&'x ()> for Empties<u64> {
         ensures err { IfErr result (λ e. Refused units_format (word_of self.old.count) (word_of self.new.count) (unit ∷ []) e) }
         ensures length { IfErr result (λ e. e ≡ GrowError.Length) }
     {
-        match self.add(1) {
+        match self.push_ref(item) {
             Ok(()) => Ok(()),
             Err(error) => Err(error),
         }
@@ -109,7 +119,7 @@ impl PushRef<()> for Empties<u64> {
         ensures err { IfErr result (λ e. Refused units_format (word_of self.old.count) (word_of self.new.count) (unit ∷ []) e) }
         ensures length { IfErr result (λ e. e ≡ GrowError.Length) }
     {
-        match self.add(1) {
+        match Push::<()>::push(self, *item) {
             Ok(()) => Ok(()),
             Err(error) => Err(error),
         }

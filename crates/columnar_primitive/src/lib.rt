@@ -7,6 +7,9 @@ pub mod count;
 pub mod durations;
 pub mod empties;
 pub mod flat;
+pub mod larges;
 pub mod numbers;
 pub mod offsets;
 pub mod rule;
+#[cfg(test)]
+mod tests;

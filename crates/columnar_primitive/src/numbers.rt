@@ -33,3 +33,32 @@ impl Coded for usize {
         true
     }
 }
+
+/// A column of `isize`s, kept as 64-bit numbers in two's complement.
+pub type Isizes<CV> = Codes<CV, isize>;
+
+impl Rule for isize {
+    type Code = i64;
+
+    ghost is_code = { λ r. true };
+
+    fn fits(_code: i64) -> bool {
+        true
+    }
+}
+
+impl Coded for isize {
+    ghost row_of = { λ r. r };
+
+    fn code(self) -> i64 {
+        self as i64
+    }
+
+    fn from_code(code: i64) -> isize {
+        code as isize
+    }
+
+    fn always_fits() -> bool {
+        true
+    }
+}

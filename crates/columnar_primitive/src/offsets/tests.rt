@@ -154,6 +154,10 @@ fn a_stride_goes_as_far_as_it_goes(rt: HostRuntime) -> Result<(), Fail> {
     assert_eq!(rt; list_at(&column, 2), Some((6, 10)));
     assert_eq!(rt; offset_at(&column, 3), Some(13));
     assert_eq!(rt; column.strided(), None);
+    match column.duplicate(rt.alloc()) {
+        Ok(same) => assert_eq!(rt; same == column, true),
+        Err(_) => return Err(Fail::new("no memory")),
+    }
     assert_eq!(rt; (column.rises_to(13), column.rises_to(10)), (true, false));
     let mut other = Strides::<Vec<u64>, [u64; 2]>::empty(rt.alloc());
     assert_eq!(rt; copied(&mut other, &column, 1, 4), Some(Ok(())));

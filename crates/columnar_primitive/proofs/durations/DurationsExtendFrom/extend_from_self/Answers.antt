@@ -3,8 +3,8 @@ use Rattle.columnar_primitive.specs.DurationLaws.{durations_parts, durations_top
 use Rattle.columnar_base.specs.ChangeLaws.{undone, unchanged}
 use Rattle.columnar_primitive.proofs.durations.DurationsExtendFrom.extend_from_self.Goals as goal
 
-pub len-before-requires : goal.len-before-requires
-len-before-requires g c = (durations_parts g.SC.Column.format g.NC.Column.format c.requires.sound).left
+pub len-rows-requires : goal.len-rows-requires
+len-rows-requires g c = (durations_parts g.SC.Column.format g.NC.Column.format c.requires.sound).left
 
 pub extend_from_self-requires-clause-sound : goal.extend_from_self-requires-clause-sound
 extend_from_self-requires-clause-sound g c = (durations_parts g.SC.Column.format g.NC.Column.format c.requires.sound).left
@@ -31,4 +31,4 @@ pub returns-in-Ok-extend_from_self-clause-ok : goal.returns-in-Ok-extend_from_se
 returns-in-Ok-extend_from_self-clause-ok g c = durations_copied g.SC.Column.format g.NC.Column.format g.V.Column.format g.W.Column.format (g.V.Column.content c.args.view.seconds) (g.W.Column.content c.args.view.nanoseconds) c.args.range.start (c.args.range.«end» - c.args.range.start) g.met.SC.Flat.flat g.met.NC.Flat.flat c.requires.sound c.requires.view_sound c.in-Ok.ensures.ok c.in-Ok-extend_from_self.ensures.ok
 
 pub returns-in-Err-extend_from_self-clause-err : goal.returns-in-Err-extend_from_self-clause-err
-returns-in-Err-extend_from_self-clause-err g c = durations_refused_right_piece g.SC.Column.format g.NC.Column.format g.V.Column.format g.W.Column.format (g.V.Column.content c.args.view.seconds) (g.W.Column.content c.args.view.nanoseconds) c.args.range.start (c.args.range.«end» - c.args.range.start) g.met.SC.Flat.flat g.met.NC.Flat.flat c.requires.sound c.requires.view_sound (undone g.met.SC.Storage.lawful (durations_parts g.SC.Column.format g.NC.Column.format c.requires.sound).left c.in-Ok.ensures.ok.took.grew (rw c.len-before.ensures at c.truncate.ensures)) c.in-Err-extend_from_self.ensures.err
+returns-in-Err-extend_from_self-clause-err g c = durations_refused_right_piece g.SC.Column.format g.NC.Column.format g.V.Column.format g.W.Column.format (g.V.Column.content c.args.view.seconds) (g.W.Column.content c.args.view.nanoseconds) c.args.range.start (c.args.range.«end» - c.args.range.start) g.met.SC.Flat.flat g.met.NC.Flat.flat c.requires.sound c.requires.view_sound (undone g.met.SC.Storage.lawful (durations_parts g.SC.Column.format g.NC.Column.format c.requires.sound).left c.in-Ok.ensures.ok.took.grew (rw c.len-rows.ensures at c.truncate.ensures)) c.in-Err-extend_from_self.ensures.err

@@ -2,7 +2,7 @@
 ghost use Rattle.std.specs.Prelude.{IsTrue};
 ghost use Rattle.columnar_core.specs.Format.{representable};
 
-use super::{bytes_of, copied, pushed, row_at};
+use super::{bytes_of, copied, item_of, opened, pushed, reopened, row_at, row_of};
 use crate::bytes::ByteSlices;
 use crate::bytes::indexed::{encode, validate};
 use crate::bytes::stash::Stash;
@@ -35,6 +35,15 @@ static LISTS: [u64; 12] = [32, 48, 72, 96, 2, 3, 1, 2, 3, 10, 20, 30];
 
 // The same lists, beside the numbers 7 and 8
 static BESIDE: [u64; 15] = [40, 56, 72, 96, 120, 7, 8, 2, 3, 1, 2, 3, 10, 20, 30];
+
+// A list of the second list, no list, and both lists
+static NESTED: [u64; 19] = [
+    40, 64, 88, 120, 152, 1, 1, 3, 1, 3, 4, 3, 1, 2, 3, 30, 10, 20, 30,
+];
+
+static FIRSTS: [u64; 3] = [1, 2, 3];
+
+static SECONDS: [u64; 3] = [10, 20, 30];
 
 // The number of the rule that words break as the store of a type, and its slice; 0 where they break none
 fn refusal<C: ContainerBytes>(alloc: Global, words: &[u64]) -> Result<(u8, usize), Error>
@@ -89,136 +98,136 @@ fn a_bound_past_the_values_is_refused(rt: HostRuntime) -> Result<(), Fail> {
 }
 
 #[test]
-fn lists_of_pairs_are_written_and_opened(rt: HostRuntime) -> Result<(), Fail> {
-    let alloc = rt.alloc();
-    let firsts = [1, 2, 3];
-    let seconds = [10, 20, 30];
-    let pairs: PairsView<'_> = (
-        View::from_slice(firsts.as_slice()),
-        View::from_slice(seconds.as_slice()),
+fn lists_of_pairs_are_encoded(rt: HostRuntime) -> Result<(), Fail> {
+    let pairs = (
+        View::from_slice(FIRSTS.as_slice()),
+        View::from_slice(SECONDS.as_slice()),
     );
     assert!(rt; pairs.check().is_ok());
-    let mut lists = Stash::<Lists, Vec<u8>>::empty(alloc);
+    let mut lists = Stash::<Lists, Vec<u8>>::empty(rt.alloc());
     assert!(rt; pushed(&mut lists, pairs, 0, 2));
     assert!(rt; pushed(&mut lists, pairs, 2, 3));
-    let mut words = Vec::new(alloc);
-    encode(&mut words, &lists.borrow())?;
+    let mut words = Vec::new(rt.alloc());
+    assert!(rt; encode(&mut words, &lists.borrow()).is_ok());
     assert_eq!(rt; words.as_slice(), LISTS.as_slice());
-    let mut bytes = Vec::new(alloc);
-    assert!(rt; lists.write_bytes(&mut bytes).is_ok());
-    let Ok(mut opened) = Stash::<Lists, Vec<u8>>::try_from_bytes(alloc, bytes) else {
-        assert!(rt; false);
-        return Ok(());
-    };
-    assert_eq!(rt; opened.len(), 2);
-    let list = row_at(&opened.borrow(), 0).expect(&rt, "list 0");
-    assert_eq!(rt; list.len(), 2);
-    assert_eq!(rt; row_at(&list, 0), Some((1, 10)));
-    assert_eq!(rt; row_at(&list, 1), Some((2, 20)));
-    let list = row_at(&opened.borrow(), 1).expect(&rt, "list 1");
-    assert_eq!(rt; row_at(&list, 0), Some((3, 30)));
-    assert!(rt; row_at(&opened.borrow(), 2).is_none());
+    Ok(())
+}
 
-    // Loaded, pushed to again, written and opened again
-    let mut loaded = opened.to_typed(alloc)?;
+#[test]
+fn lists_of_pairs_are_opened(rt: HostRuntime) -> Result<(), Fail> {
+    let lists = opened::<Lists>(rt.alloc(), LISTS.as_slice()).expect(&rt, "lists");
+    assert_eq!(rt; lists.len(), 2);
+    assert_eq!(rt; item_of(row_of(&lists, 0), 0), Some((1, 10)));
+    assert_eq!(rt; item_of(row_of(&lists, 0), 1), Some((2, 20)));
+    assert_eq!(rt; item_of(row_of(&lists, 0), 2), None);
+    assert_eq!(rt; item_of(row_of(&lists, 1), 0), Some((3, 30)));
+    assert_eq!(rt; item_of(row_of(&lists, 2), 0), None);
+    Ok(())
+}
+
+#[test]
+fn lists_of_pairs_are_pushed_to_again(rt: HostRuntime) -> Result<(), Fail> {
+    let pairs = (
+        View::from_slice(FIRSTS.as_slice()),
+        View::from_slice(SECONDS.as_slice()),
+    );
+    assert!(rt; pairs.check().is_ok());
+    let lists = opened::<Lists>(rt.alloc(), LISTS.as_slice()).expect(&rt, "lists");
+    let mut loaded = lists.to_typed(rt.alloc())?;
     assert!(rt; pushed(&mut loaded, pairs, 1, 1));
     assert!(rt; pushed(&mut loaded, pairs, 0, 3));
-    assert!(rt; pushed(&mut opened, pairs, 1, 1));
-    let mut bytes = Vec::new(alloc);
-    assert!(rt; loaded.write_bytes(&mut bytes).is_ok());
-    let Ok(again) = Stash::<Lists, Vec<u8>>::try_from_bytes(alloc, bytes) else {
-        assert!(rt; false);
-        return Ok(());
-    };
-    assert_eq!(rt; opened.len(), 3);
+    let again = reopened(rt.alloc(), &loaded).expect(&rt, "reopened");
     assert_eq!(rt; again.len(), 4);
-    let list = row_at(&again.borrow(), 2).expect(&rt, "list 2");
-    assert!(rt; list.is_empty());
-    let list = row_at(&again.borrow(), 3).expect(&rt, "list 3");
-    assert_eq!(rt; row_at(&list, 2), Some((3, 30)));
+    assert_eq!(rt; item_of(row_of(&again, 1), 0), Some((3, 30)));
+    assert_eq!(rt; item_of(row_of(&again, 2), 0), None);
+    assert_eq!(rt; item_of(row_of(&again, 3), 2), Some((3, 30)));
+    Ok(())
+}
+
+#[test]
+fn a_list_is_pushed_beside_a_number(rt: HostRuntime) -> Result<(), Fail> {
+    let pairs = (
+        View::from_slice(FIRSTS.as_slice()),
+        View::from_slice(SECONDS.as_slice()),
+    );
+    assert!(rt; pairs.check().is_ok());
+    let mut stash = opened::<Beside>(rt.alloc(), BESIDE.as_slice()).expect(&rt, "rows");
+    assert!(rt; stash.push((9u64, Slice::new(1, 3, pairs))).is_ok());
+    let mut words = Vec::new(rt.alloc());
+    assert!(rt; encode(&mut words, &stash.borrow()).is_ok());
+    let wanted = [
+        40, 64, 88, 128, 168, 7, 8, 9, 2, 3, 5, 1, 2, 3, 2, 3, 10, 20, 30, 20, 30,
+    ];
+    assert_eq!(rt; words.as_slice(), wanted.as_slice());
     Ok(())
 }
 
 #[test]
 fn a_number_beside_a_list_is_a_row(rt: HostRuntime) -> Result<(), Fail> {
-    let alloc = rt.alloc();
-    let bytes = bytes_of(alloc, BESIDE.as_slice())?;
-    let Ok(mut stash) = Stash::<Beside, Vec<u8>>::try_from_bytes(alloc, bytes) else {
-        assert!(rt; false);
-        return Ok(());
-    };
-    let (number, list) = row_at(&stash.borrow(), 1).expect(&rt, "row 1");
+    let stash = opened::<Beside>(rt.alloc(), BESIDE.as_slice()).expect(&rt, "rows");
+    let (number, list) = row_of(&stash, 1).expect(&rt, "row 1");
     assert_eq!(rt; number, 8);
     assert_eq!(rt; list.len(), 1);
     assert_eq!(rt; row_at(&list, 0), Some((3, 30)));
-    let firsts = [4, 5];
-    let pairs: PairsView<'_> = (
-        View::from_slice(firsts.as_slice()),
-        View::from_slice(firsts.as_slice()),
-    );
-    assert!(rt; pairs.check().is_ok());
-    stash.push((9u64, Slice::new(0, 2, pairs)))?;
-    let mut words = Vec::new(alloc);
-    encode(&mut words, &stash.borrow())?;
-    let wanted = [
-        40, 64, 88, 128, 168, 7, 8, 9, 2, 3, 5, 1, 2, 3, 4, 5, 10, 20, 30, 4, 5,
-    ];
-    assert_eq!(rt; words.as_slice(), wanted.as_slice());
-    let mut sizes = Vec::new(alloc);
-    assert!(rt; Beside::element_sizes(&mut sizes).is_ok());
-    assert_eq!(rt; sizes.as_slice(), [8, 8, 8, 8].as_slice());
-    let view = stash.borrow();
-    let mut total = 0usize;
-    for (align, slice) in ByteSlices::new(&view) {
-        assert_eq!(rt; align, 8);
-        total = total.saturating_add(slice.len());
-    }
-    assert_eq!(rt; total, 128);
-    assert_eq!(rt; view.get_byte_slice(2).1.len(), 40);
     Ok(())
 }
 
 #[test]
-fn lists_of_lists_of_pairs(rt: HostRuntime) -> Result<(), Fail> {
-    let alloc = rt.alloc();
-    let bytes = bytes_of(alloc, LISTS.as_slice())?;
-    let Ok(lists) = Stash::<Lists, Vec<u8>>::try_from_bytes(alloc, bytes) else {
-        assert!(rt; false);
-        return Ok(());
-    };
-    let mut nested = Nested::empty(alloc);
+fn the_slices_of_lists_beside_numbers(rt: HostRuntime) -> Result<(), Fail> {
+    let stash = opened::<Beside>(rt.alloc(), BESIDE.as_slice()).expect(&rt, "rows");
+    let view = stash.borrow();
+    assert_eq!(rt; view.get_byte_slice(2).1.len(), 24);
+    let mut total = 0usize;
+    for (_, slice) in ByteSlices::new(&view) {
+        total = total.saturating_add(slice.len());
+    }
+    assert_eq!(rt; total, 80);
+    let mut sizes = Vec::new(rt.alloc());
+    assert!(rt; Beside::element_sizes(&mut sizes).is_ok());
+    assert_eq!(rt; sizes.as_slice(), [8, 8, 8, 8].as_slice());
+    Ok(())
+}
+
+#[test]
+fn lists_of_lists_of_pairs_are_encoded(rt: HostRuntime) -> Result<(), Fail> {
+    let lists = opened::<Lists>(rt.alloc(), LISTS.as_slice()).expect(&rt, "lists");
+    let mut nested = Nested::empty(rt.alloc());
     assert!(rt; pushed(&mut nested, lists.borrow(), 1, 2));
     assert!(rt; pushed(&mut nested, lists.borrow(), 0, 0));
     assert!(rt; pushed(&mut nested, lists.borrow(), 0, 2));
-    let mut words = Vec::new(alloc);
-    encode(&mut words, &nested.borrow())?;
-    let wanted = [
-        40, 64, 88, 120, 152, 1, 1, 3, 1, 3, 4, 3, 1, 2, 3, 30, 10, 20, 30,
-    ];
-    assert_eq!(rt; words.as_slice(), wanted.as_slice());
-    let outer = row_at(&nested.borrow(), 2).expect(&rt, "row 2");
-    let inner = row_at(&outer, 1).expect(&rt, "list 1 of row 2");
-    assert_eq!(rt; row_at(&inner, 0), Some((3, 30)));
+    let mut words = Vec::new(rt.alloc());
+    assert!(rt; encode(&mut words, &nested.borrow()).is_ok());
+    assert_eq!(rt; words.as_slice(), NESTED.as_slice());
+    Ok(())
+}
 
-    let bytes = bytes_of(alloc, wanted.as_slice())?;
-    let Ok(opened) = Stash::<Nested, Vec<u8>>::try_from_bytes(alloc, bytes) else {
-        assert!(rt; false);
-        return Ok(());
-    };
-    let Stash::Typed(mut copy) = opened.to_typed(alloc)? else {
-        assert!(rt; false);
-        return Ok(());
-    };
-    assert!(rt; copied(&mut copy, opened.borrow().reborrow(), 1, 3));
-    assert_eq!(rt; copy.len(), 5);
-    let outer = row_at(&copy.borrow(), 4)
-        .expect(&rt, "row 4")
+#[test]
+fn lists_of_lists_of_pairs_are_opened(rt: HostRuntime) -> Result<(), Fail> {
+    let nested = opened::<Nested>(rt.alloc(), NESTED.as_slice()).expect(&rt, "nested");
+    let inner = item_of(row_of(&nested, 2), 1)
+        .expect(&rt, "list 1 of row 2")
         .reborrow_ref();
-    assert_eq!(rt; outer.len(), 2);
-    let inner = row_at(&outer, 0).expect(&rt, "list 0 of row 4");
-    assert_eq!(rt; row_at(&inner, 1), Some((2, 20)));
-    copy.truncate(1);
-    assert_eq!(rt; copy.values.values.0.as_slice(), [3].as_slice());
+    assert_eq!(rt; inner.len(), 1);
+    assert_eq!(rt; row_at(&inner, 0), Some((3, 30)));
+    Ok(())
+}
+
+#[test]
+fn lists_of_lists_of_pairs_are_copied_and_cut(rt: HostRuntime) -> Result<(), Fail> {
+    let nested = opened::<Nested>(rt.alloc(), NESTED.as_slice()).expect(&rt, "nested");
+    let mut copy = Nested::empty(rt.alloc());
+    assert!(rt; copied(&mut copy, nested.borrow().reborrow(), 1, 3));
+    assert!(rt; copied(&mut copy, nested.borrow(), 0, 1));
+    assert_eq!(rt; copy.bounds.as_slice(), [0, 2, 3].as_slice());
+    assert_eq!(rt; copy.values.bounds.as_slice(), [2, 3, 4].as_slice());
+    assert_eq!(rt;
+        copy.values.values.1.as_slice(),
+        [10, 20, 30, 30].as_slice()
+    );
+    if copy.len() > 2 {
+        copy.truncate(2);
+    }
+    assert_eq!(rt; copy.values.values.0.as_slice(), [1, 2, 3].as_slice());
     copy.clear();
     assert!(rt; copy.is_empty());
     Ok(())

@@ -3,6 +3,7 @@ ghost use Rattle.std.specs.Prelude.{◌≡◌, IfSome, IsTrue};
 ghost use Rattle.columnar_core.specs.Format.{IsSound, part, part_format, representable};
 ghost use Rattle.columnar_bytes.specs.Stashes.{stash_content, variant_of, bytes};
 
+mod bounds;
 mod depth;
 mod refused;
 mod stash;

@@ -15,6 +15,7 @@ use crate::{
     Storage, Stored, Vecs,
 };
 use std::alloc::Global;
+use std::iter::once;
 use std::test::Fail;
 
 type Numbers = Vec<u64>;
@@ -26,19 +27,19 @@ type Lists = Vecs<Pairs, Vec<u64>>;
 type Beside = (Vec<u64>, Lists);
 
 // Four numbers, and one more
-static NUMBERS: [u64; 6] = [16, 48, 1, 2, 3, 4];
+pub(super) static NUMBERS: [u64; 6] = [16, 48, 1, 2, 3, 4];
 
-static NUMBERS_AND_ONE: [u64; 7] = [16, 56, 1, 2, 3, 4, 5];
+pub(super) static NUMBERS_AND_ONE: [u64; 7] = [16, 56, 1, 2, 3, 4, 5];
 
 // Four pairs, and one more
-static PAIRS: [u64; 11] = [24, 56, 88, 1, 2, 3, 4, 10, 20, 30, 40];
+pub(super) static PAIRS: [u64; 11] = [24, 56, 88, 1, 2, 3, 4, 10, 20, 30, 40];
 
-static PAIRS_AND_ONE: [u64; 13] = [24, 64, 104, 1, 2, 3, 4, 5, 10, 20, 30, 40, 50];
+pub(super) static PAIRS_AND_ONE: [u64; 13] = [24, 64, 104, 1, 2, 3, 4, 5, 10, 20, 30, 40, 50];
 
 // Four lists of one pair, and one more, of two pairs
-static LISTS: [u64; 16] = [32, 64, 96, 128, 1, 2, 3, 4, 1, 2, 3, 4, 10, 20, 30, 40];
+pub(super) static LISTS: [u64; 16] = [32, 64, 96, 128, 1, 2, 3, 4, 1, 2, 3, 4, 10, 20, 30, 40];
 
-static LISTS_AND_ONE: [u64; 21] = [
+pub(super) static LISTS_AND_ONE: [u64; 21] = [
     32, 72, 120, 168, 1, 2, 3, 4, 6, 1, 2, 3, 4, 5, 6, 10, 20, 30, 40, 50, 60,
 ];
 
@@ -139,7 +140,7 @@ fn room_keeps<V: Index + Copy, C: ContainerBytes + ExtendFrom<V>>(
     ensures { IsSound C.format (stash_content stash.new) }
 {
     let held = variant(stash);
-    let kept = match stash.reserve_for([view, view].iter().copied()) {
+    let kept = match stash.reserve_for(once(view)) {
         Ok(()) => variant(stash) == 0,
         Err(error) => error == GrowError::Memory && variant(stash) == held,
     };
@@ -151,7 +152,7 @@ fn room_is_made_or_refused<V: Index + Copy, C: ContainerBytes + ExtendFrom<V>>(
     alloc: Global,
     view: V,
 ) -> bool {
-    match Stash::<C, Vec<u8>>::with_capacity_for(alloc, [view, view].iter().copied()) {
+    match Stash::<C, Vec<u8>>::with_capacity_for(alloc, once(view)) {
         Ok(stash) => stash.is_empty() && variant(&stash) == 0,
         Err(error) => error == GrowError::Memory,
     }

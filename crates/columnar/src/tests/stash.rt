@@ -1,14 +1,16 @@
 // Stashes: a column, opened bytes and aligned bytes, what each call makes of them, and runs of commands.
-use super::{bytes_of, has, opened, variant, writes};
+use super::{bytes_of, has, opened, refused, variant, writes};
 use crate::bytes::stash::{ByteStore, Command, Refusal, Reply, Stash, run};
 use crate::common::View;
-use crate::{Check, Clear, Len, Push, PushRef, Stored};
+use crate::{Check, Clear, Len, Push, PushRef, Stored, Vecs};
 use std::rc::RcSlice;
 use std::test::Fail;
 
 type Numbers = Stash<Vec<u64>, Vec<u8>>;
 
 type Pairs = (Vec<u64>, Vec<u64>);
+
+type Lists = Vecs<Pairs, Vec<u64>>;
 
 // The numbers 7 and 8, and a word behind the last slice
 static WORD_BEHIND: [u64; 5] = [16, 32, 7, 8, 9];
@@ -194,6 +196,24 @@ fn make_aligned_keeps_the_rows(rt: HostRuntime) -> Result<(), Fail> {
     assert_eq!(rt; variant(&stash), 2);
     assert!(rt; has(&stash, [7, 8].as_slice()));
     assert!(rt; writes(&stash, SEVEN_EIGHT.as_slice()));
+    Ok(())
+}
+
+// Else the tests of refused memory would end before the call that they test.
+#[test]
+fn the_stores_of_the_refusals_are_accepted(rt: HostRuntime) -> Result<(), Fail> {
+    for store in [
+        refused::NUMBERS.as_slice(),
+        refused::NUMBERS_AND_ONE.as_slice(),
+    ] {
+        assert!(rt; opened::<Vec<u64>>(rt.alloc(), store).is_some());
+    }
+    for store in [refused::PAIRS.as_slice(), refused::PAIRS_AND_ONE.as_slice()] {
+        assert!(rt; opened::<Pairs>(rt.alloc(), store).is_some());
+    }
+    for store in [refused::LISTS.as_slice(), refused::LISTS_AND_ONE.as_slice()] {
+        assert!(rt; opened::<Lists>(rt.alloc(), store).is_some());
+    }
     Ok(())
 }
 

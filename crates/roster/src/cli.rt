@@ -86,3 +86,6 @@ fn print_words<O: Write>(out: &mut O, words: &[u64]) -> io::Result<()> {
     }
     writeln!(out)
 }
+
+#[cfg(test)]
+mod tests;

@@ -1,0 +1,634 @@
+// Each call that takes memory, with whatever request for memory refused: it is done, or nothing has changed. A request
+// that is refused anywhere else in a test ends it.
+ghost use Rattle.std.specs.Prelude.{All, IsTrue};
+ghost use Rattle.columnar_core.specs.Format.{IsSound, representable};
+ghost use Rattle.columnar_bytes.specs.Stashes.{stash_content};
+ghost use Rattle.columnar_bytes.specs.Machine.{IsValid};
+
+use super::{front, has, opened, variant, writes};
+use crate::bytes::indexed::encode;
+use crate::bytes::stash::{ByteStore, Command, Refusal, Reply, Stash, run};
+use crate::common::View;
+use crate::fault::{EncodeError, GrowError};
+use crate::{
+    AsBytes, Borrow, Check, ContainerBytes, ExtendFrom, Index, Item, Len, Push, PushRef, Slice,
+    Storage, Stored, Vecs,
+};
+use std::alloc::Global;
+use std::iter::once;
+use std::test::Fail;
+
+type Numbers = Vec<u64>;
+
+type Pairs = (Vec<u64>, Vec<u64>);
+
+type Lists = Vecs<Pairs, Vec<u64>>;
+
+type Beside = (Vec<u64>, Lists);
+
+// Four numbers, and one more
+pub(super) static NUMBERS: [u64; 6] = [16, 48, 1, 2, 3, 4];
+
+pub(super) static NUMBERS_AND_ONE: [u64; 7] = [16, 56, 1, 2, 3, 4, 5];
+
+// Four pairs, and one more
+pub(super) static PAIRS: [u64; 11] = [24, 56, 88, 1, 2, 3, 4, 10, 20, 30, 40];
+
+pub(super) static PAIRS_AND_ONE: [u64; 13] = [24, 64, 104, 1, 2, 3, 4, 5, 10, 20, 30, 40, 50];
+
+// Four lists of one pair, and one more, of two pairs
+pub(super) static LISTS: [u64; 16] = [32, 64, 96, 128, 1, 2, 3, 4, 1, 2, 3, 4, 10, 20, 30, 40];
+
+pub(super) static LISTS_AND_ONE: [u64; 21] = [
+    32, 72, 120, 168, 1, 2, 3, 4, 6, 1, 2, 3, 4, 5, 6, 10, 20, 30, 40, 50, 60,
+];
+
+static FIRSTS: [u64; 2] = [5, 6];
+
+static SECONDS: [u64; 2] = [50, 60];
+
+// A push is done, or refused and then done
+fn push_keeps<T: Item + Copy, C: ContainerBytes + Push<T>>(
+    stash: &mut Stash<C, Vec<u8>>,
+    item: T,
+    before: &[u64],
+    after: &[u64],
+) -> bool
+    requires representable { IsTrue (representable C.format) }
+    requires sound { IsSound C.format (stash_content stash.old) }
+    requires valid { T.valid item }
+    ensures { IsSound C.format (stash_content stash.new) }
+{
+    let held = variant(stash);
+    match stash.push(item) {
+        Ok(()) => {}
+        Err(error) => {
+            let kept = variant(stash) == held && writes(stash, before);
+            if error != GrowError::Memory || !kept || stash.push(item).is_err() {
+                return false;
+            }
+        }
+    }
+    variant(stash) == 0 && writes(stash, after)
+}
+
+// The same of a push by reference
+fn push_ref_keeps<T: Item, C: ContainerBytes + PushRef<T>>(
+    stash: &mut Stash<C, Vec<u8>>,
+    item: &T,
+    before: &[u64],
+    after: &[u64],
+) -> bool
+    requires representable { IsTrue (representable C.format) }
+    requires sound { IsSound C.format (stash_content stash.old) }
+    requires valid { T.valid item.now }
+    ensures { IsSound C.format (stash_content stash.new) }
+{
+    let held = variant(stash);
+    match stash.push_ref(item) {
+        Ok(()) => {}
+        Err(error) => {
+            let kept = variant(stash) == held && writes(stash, before);
+            if error != GrowError::Memory || !kept || stash.push_ref(item).is_err() {
+                return false;
+            }
+        }
+    }
+    variant(stash) == 0 && writes(stash, after)
+}
+
+// The same of a copy of the first rows of a view
+fn copy_keeps<V: Index + Copy, C: ContainerBytes + ExtendFrom<V>>(
+    stash: &mut Stash<C, Vec<u8>>,
+    view: V,
+    count: usize,
+    before: &[u64],
+    after: &[u64],
+) -> bool
+    requires representable { IsTrue (representable C.format) }
+    requires sound { IsSound C.format (stash_content stash.old) }
+    requires view_sound { IsSound V.format (V.content view) }
+    ensures { IsSound C.format (stash_content stash.new) }
+{
+    let held = variant(stash);
+    if count > view.len() {
+        return false;
+    }
+    match stash.extend_from_self(view, 0..count) {
+        Ok(()) => {}
+        Err(error) => {
+            let kept = variant(stash) == held && writes(stash, before);
+            if error != GrowError::Memory
+                || !kept
+                || stash.extend_from_self(view, 0..count).is_err()
+            {
+                return false;
+            }
+        }
+    }
+    variant(stash) == 0 && writes(stash, after)
+}
+
+// Room for a view is made, or not; the rows stay
+fn room_keeps<V: Index + Copy, C: ContainerBytes + ExtendFrom<V>>(
+    stash: &mut Stash<C, Vec<u8>>,
+    view: V,
+    before: &[u64],
+) -> bool
+    requires representable { IsTrue (representable C.format) }
+    requires sound { IsSound C.format (stash_content stash.old) }
+    ensures { IsSound C.format (stash_content stash.new) }
+{
+    let held = variant(stash);
+    let kept = match stash.reserve_for(once(view)) {
+        Ok(()) => variant(stash) == 0,
+        Err(error) => error == GrowError::Memory && variant(stash) == held,
+    };
+    kept && writes(stash, before)
+}
+
+// An empty column with room for a view is made, or not
+fn room_is_made_or_refused<V: Index + Copy, C: ContainerBytes + ExtendFrom<V>>(
+    alloc: Global,
+    view: V,
+) -> bool {
+    match Stash::<C, Vec<u8>>::with_capacity_for(alloc, once(view)) {
+        Ok(stash) => stash.is_empty() && variant(&stash) == 0,
+        Err(error) => error == GrowError::Memory,
+    }
+}
+
+// A cut is done, or refused and then done
+fn cut_keeps<C: ContainerBytes>(
+    stash: &mut Stash<C, Vec<u8>>,
+    count: usize,
+    before: &[u64],
+    after: &[u64],
+) -> bool
+    requires representable { IsTrue (representable C.format) }
+    requires sound { IsSound C.format (stash_content stash.old) }
+    ensures { IsSound C.format (stash_content stash.new) }
+{
+    let held = variant(stash);
+    if count > stash.len() {
+        return false;
+    }
+    match stash.truncate(count) {
+        Ok(()) => {}
+        Err(error) => {
+            let kept = variant(stash) == held && writes(stash, before);
+            if error != GrowError::Memory || !kept || stash.truncate(count).is_err() {
+                return false;
+            }
+        }
+    }
+    variant(stash) == 0 && writes(stash, after)
+}
+
+// What a stash is turned into has the same words, and the stash is as it was; so it is after a refusal
+fn turns_keep<C: ContainerBytes>(alloc: Global, stash: &Stash<C, Vec<u8>>, words: &[u64]) -> bool
+    requires representable { IsTrue (representable C.format) }
+    requires sound { IsSound C.format (stash_content stash.now) }
+{
+    let held = variant(stash);
+    let typed = match stash.to_typed(alloc) {
+        Ok(typed) => variant(&typed) == 0 && writes(&typed, words),
+        Err(error) => error == GrowError::Memory,
+    };
+    let aligned = match stash.to_aligned(alloc) {
+        Ok(aligned) => variant(&aligned) == 2 && writes(&aligned, words),
+        Err(error) => error == EncodeError::Memory,
+    };
+    typed && aligned && variant(stash) == held && writes(stash, words)
+}
+
+// The bytes are aligned in place, or the stash is as it was
+fn aligning_keeps<C: ContainerBytes>(
+    alloc: Global,
+    stash: &mut Stash<C, Vec<u8>>,
+    words: &[u64],
+) -> bool
+    requires representable { IsTrue (representable C.format) }
+    requires sound { IsSound C.format (stash_content stash.old) }
+    ensures { IsSound C.format (stash_content stash.new) }
+{
+    let held = variant(stash);
+    let kept = match stash.make_aligned(alloc) {
+        Ok(()) => variant(stash) == 2,
+        Err(error) => error == EncodeError::Memory && variant(stash) == held,
+    };
+    kept && writes(stash, words)
+}
+
+// The bytes are loaded in place, or the stash is as it was
+fn loading_keeps<C: ContainerBytes>(stash: &mut Stash<C, Vec<u8>>, words: &[u64]) -> bool
+    requires { IsTrue (representable C.format) }
+{
+    let held = variant(stash);
+    let made = match stash.make_typed() {
+        Ok(_) => Ok(()),
+        Err(error) => Err(error),
+    };
+    let kept = match made {
+        Ok(()) => variant(stash) == 0,
+        Err(error) => error == GrowError::Memory && variant(stash) == held,
+    };
+    kept && writes(stash, words)
+}
+
+// The words of a column are appended, or the store is as it was
+fn encoding_keeps<'a, S: AsBytes<'a>>(alloc: Global, item: &S, words: &[u64]) -> bool
+    requires { IsTrue (representable S.format) }
+{
+    let Ok(mut store) = [1, 2].to_vec(alloc) else {
+        return true;
+    };
+    match encode(&mut store, item) {
+        Ok(()) => {
+            front(store.as_slice(), 2) == [1, 2].as_slice() && behind_two(store.as_slice()) == words
+        }
+        Err(error) => error == EncodeError::Memory && store.as_slice() == [1, 2].as_slice(),
+    }
+}
+
+// The words behind the first two
+fn behind_two(words: &[u64]) -> &[u64] {
+    if words.len() >= 2 { &words[2..] } else { words }
+}
+
+// The sizes of a type's elements, 8 each, are appended, or the vector is as it was
+fn sizes_keep<C: Stored>(sizes: &mut Vec<usize>) -> bool
+    requires { IsTrue (representable C.format) }
+{
+    let before = sizes.len();
+    match C::element_sizes(sizes) {
+        Ok(()) => sizes.len().saturating_sub(before) == C::slice_count(),
+        Err(error) => error == GrowError::Memory && sizes.len() == before,
+    }
+}
+
+// A run of one command does it, or tells that memory was refused; the stash is as it was then
+fn run_keeps<T: Item, V: Index + Copy, C: ContainerBytes + PushRef<T> + ExtendFrom<V>>(
+    alloc: Global,
+    stash: Stash<C, Vec<u8>>,
+    source: V,
+    commands: &[Command<T>],
+    before: &[u64],
+    after: &[u64],
+) -> bool
+    requires representable { IsTrue (representable C.format) }
+    requires sound { IsSound C.format (stash_content stash) }
+    requires source_sound { IsSound V.format (V.content source) }
+    requires valid { All (IsValid T.valid) commands.now }
+{
+    let held = variant(&stash);
+    let (stash, replies) = run(alloc, stash, source, commands);
+    let kept = variant(&stash) == held && writes(&stash, before);
+    match replies {
+        Err(error) => error == GrowError::Memory && kept,
+        Ok(replies) => match replies.as_slice().first() {
+            Some(Reply::Done) => writes(&stash, after),
+            Some(Reply::Refused(Refusal::Grow(GrowError::Memory))) => kept,
+            Some(Reply::Refused(Refusal::Encode(EncodeError::Memory))) => kept,
+            _ => false,
+        },
+    }
+}
+
+#[test]
+fn pushes_of_numbers(rt: HostRuntime) -> Result<(), Fail> {
+    let Some(mut stash) = opened::<Numbers>(rt.alloc(), NUMBERS.as_slice()) else {
+        return Ok(());
+    };
+    let Ok(mut typed) = stash.to_typed(rt.alloc()) else {
+        return Ok(());
+    };
+    let before = NUMBERS.as_slice();
+    let after = NUMBERS_AND_ONE.as_slice();
+    assert!(rt; push_keeps(&mut stash, 5u64, before, after));
+    assert!(rt; push_keeps(&mut typed, &5u64, before, after));
+    Ok(())
+}
+
+#[test]
+fn pushes_of_numbers_by_reference(rt: HostRuntime) -> Result<(), Fail> {
+    let Some(mut stash) = opened::<Numbers>(rt.alloc(), NUMBERS.as_slice()) else {
+        return Ok(());
+    };
+    let Ok(mut typed) = stash.to_typed(rt.alloc()) else {
+        return Ok(());
+    };
+    let before = NUMBERS.as_slice();
+    let after = NUMBERS_AND_ONE.as_slice();
+    assert!(rt; push_ref_keeps(&mut stash, &5u64, before, after));
+    assert!(rt; push_ref_keeps(&mut typed, &5u64, before, after));
+    Ok(())
+}
+
+#[test]
+fn pushes_of_pairs(rt: HostRuntime) -> Result<(), Fail> {
+    let Some(mut stash) = opened::<Pairs>(rt.alloc(), PAIRS.as_slice()) else {
+        return Ok(());
+    };
+    let Ok(mut typed) = stash.to_typed(rt.alloc()) else {
+        return Ok(());
+    };
+    let before = PAIRS.as_slice();
+    let after = PAIRS_AND_ONE.as_slice();
+    assert!(rt; push_keeps(&mut stash, (5u64, 50u64), before, after));
+    assert!(rt; push_ref_keeps(&mut typed, &(5u64, 50u64), before, after));
+    Ok(())
+}
+
+#[test]
+fn pushes_of_lists(rt: HostRuntime) -> Result<(), Fail> {
+    let pairs = (
+        View::from_slice(FIRSTS.as_slice()),
+        View::from_slice(SECONDS.as_slice()),
+    );
+    assert!(rt; pairs.check().is_ok());
+    let Some(mut stash) = opened::<Lists>(rt.alloc(), LISTS.as_slice()) else {
+        return Ok(());
+    };
+    let Ok(mut typed) = stash.to_typed(rt.alloc()) else {
+        return Ok(());
+    };
+    let before = LISTS.as_slice();
+    let after = LISTS_AND_ONE.as_slice();
+    assert!(rt; push_keeps(&mut stash, Slice::new(0, 2, pairs), before, after));
+    assert!(rt; push_keeps(&mut typed, Slice::new(0, 2, pairs), before, after));
+    Ok(())
+}
+
+// The second part has no room for another row, and the first has
+#[test]
+fn a_second_part_that_is_refused(rt: HostRuntime) -> Result<(), Fail> {
+    let Ok(mut first) = [1u64, 2, 3, 4].to_vec(rt.alloc()) else {
+        return Ok(());
+    };
+    if first.reserve(1).is_err() {
+        return Ok(());
+    }
+    let Ok(second) = [10u64, 20, 30, 40].to_vec(rt.alloc()) else {
+        return Ok(());
+    };
+    let mut pairs = (first, second);
+    assert!(rt; pairs.borrow().check().is_ok());
+    match pairs.push((5u64, 50u64)) {
+        Ok(()) => {
+            assert_eq!(rt; pairs.0.as_slice(), [1, 2, 3, 4, 5].as_slice());
+            assert_eq!(rt; pairs.1.as_slice(), [10, 20, 30, 40, 50].as_slice());
+        }
+        Err(error) => {
+            assert_eq!(rt; error, GrowError::Memory);
+            assert_eq!(rt; pairs.0.as_slice(), [1, 2, 3, 4].as_slice());
+            assert_eq!(rt; pairs.1.as_slice(), [10, 20, 30, 40].as_slice());
+        }
+    }
+    Ok(())
+}
+
+#[test]
+fn copies_of_numbers(rt: HostRuntime) -> Result<(), Fail> {
+    let view = View::from_slice(FIRSTS.as_slice());
+    let Some(mut stash) = opened::<Numbers>(rt.alloc(), NUMBERS.as_slice()) else {
+        return Ok(());
+    };
+    let Ok(mut typed) = stash.to_typed(rt.alloc()) else {
+        return Ok(());
+    };
+    let before = NUMBERS.as_slice();
+    let after = NUMBERS_AND_ONE.as_slice();
+    assert!(rt; copy_keeps(&mut stash, view, 1, before, after));
+    assert!(rt; copy_keeps(&mut typed, view, 1, before, after));
+    Ok(())
+}
+
+#[test]
+fn copies_of_pairs(rt: HostRuntime) -> Result<(), Fail> {
+    let pairs = (
+        View::from_slice(FIRSTS.as_slice()),
+        View::from_slice(SECONDS.as_slice()),
+    );
+    assert!(rt; pairs.check().is_ok());
+    let Some(mut stash) = opened::<Pairs>(rt.alloc(), PAIRS.as_slice()) else {
+        return Ok(());
+    };
+    let Ok(mut typed) = stash.to_typed(rt.alloc()) else {
+        return Ok(());
+    };
+    let before = PAIRS.as_slice();
+    let after = PAIRS_AND_ONE.as_slice();
+    assert!(rt; copy_keeps(&mut stash, pairs, 1, before, after));
+    assert!(rt; copy_keeps(&mut typed, pairs, 1, before, after));
+    Ok(())
+}
+
+#[test]
+fn copies_of_lists(rt: HostRuntime) -> Result<(), Fail> {
+    let more = [32, 40, 56, 72, 2, 5, 6, 50, 60];
+    let Some(source) = opened::<Lists>(rt.alloc(), more.as_slice()) else {
+        return Ok(());
+    };
+    let Some(mut stash) = opened::<Lists>(rt.alloc(), LISTS.as_slice()) else {
+        return Ok(());
+    };
+    let Ok(mut typed) = stash.to_typed(rt.alloc()) else {
+        return Ok(());
+    };
+    let before = LISTS.as_slice();
+    let after = LISTS_AND_ONE.as_slice();
+    assert!(rt; copy_keeps(&mut stash, source.borrow(), 1, before, after));
+    assert!(rt; copy_keeps(&mut typed, source.borrow(), 1, before, after));
+    Ok(())
+}
+
+#[test]
+fn room_for_numbers(rt: HostRuntime) -> Result<(), Fail> {
+    let view = View::from_slice(FIRSTS.as_slice());
+    let Some(mut stash) = opened::<Numbers>(rt.alloc(), NUMBERS.as_slice()) else {
+        return Ok(());
+    };
+    let Ok(mut typed) = stash.to_typed(rt.alloc()) else {
+        return Ok(());
+    };
+    assert!(rt; room_keeps(&mut stash, view, NUMBERS.as_slice()));
+    assert!(rt; room_keeps(&mut typed, view, NUMBERS.as_slice()));
+    assert!(rt; room_is_made_or_refused::<View<'_, u64>, Numbers>(rt.alloc(), view));
+    Ok(())
+}
+
+#[test]
+fn room_for_lists(rt: HostRuntime) -> Result<(), Fail> {
+    let Some(source) = opened::<Lists>(rt.alloc(), LISTS.as_slice()) else {
+        return Ok(());
+    };
+    let Some(mut stash) = opened::<Lists>(rt.alloc(), LISTS.as_slice()) else {
+        return Ok(());
+    };
+    let Ok(mut typed) = stash.to_typed(rt.alloc()) else {
+        return Ok(());
+    };
+    assert!(rt; room_keeps(&mut stash, source.borrow(), LISTS.as_slice()));
+    assert!(rt; room_keeps(&mut typed, source.borrow(), LISTS.as_slice()));
+    assert!(rt; room_is_made_or_refused::<_, Lists>(rt.alloc(), source.borrow()));
+    Ok(())
+}
+
+#[test]
+fn cuts_of_bytes(rt: HostRuntime) -> Result<(), Fail> {
+    let Some(mut numbers) = opened::<Numbers>(rt.alloc(), NUMBERS_AND_ONE.as_slice()) else {
+        return Ok(());
+    };
+    let Some(mut lists) = opened::<Lists>(rt.alloc(), LISTS_AND_ONE.as_slice()) else {
+        return Ok(());
+    };
+    assert!(rt;
+        cut_keeps(
+            &mut numbers,
+            4,
+            NUMBERS_AND_ONE.as_slice(),
+            NUMBERS.as_slice()
+        )
+    );
+    assert!(rt; cut_keeps(&mut lists, 4, LISTS_AND_ONE.as_slice(), LISTS.as_slice()));
+    Ok(())
+}
+
+#[test]
+fn turns_of_numbers(rt: HostRuntime) -> Result<(), Fail> {
+    let Some(mut stash) = opened::<Numbers>(rt.alloc(), NUMBERS.as_slice()) else {
+        return Ok(());
+    };
+    assert!(rt; turns_keep(rt.alloc(), &stash, NUMBERS.as_slice()));
+    assert!(rt; aligning_keeps(rt.alloc(), &mut stash, NUMBERS.as_slice()));
+    assert!(rt; turns_keep(rt.alloc(), &stash, NUMBERS.as_slice()));
+    assert!(rt; loading_keeps(&mut stash, NUMBERS.as_slice()));
+    Ok(())
+}
+
+#[test]
+fn turns_of_lists(rt: HostRuntime) -> Result<(), Fail> {
+    let Some(mut stash) = opened::<Lists>(rt.alloc(), LISTS.as_slice()) else {
+        return Ok(());
+    };
+    let Ok(mut typed) = stash.to_typed(rt.alloc()) else {
+        return Ok(());
+    };
+    assert!(rt; turns_keep(rt.alloc(), &typed, LISTS.as_slice()));
+    assert!(rt; aligning_keeps(rt.alloc(), &mut typed, LISTS.as_slice()));
+    assert!(rt; loading_keeps(&mut typed, LISTS.as_slice()));
+    assert!(rt; loading_keeps(&mut stash, LISTS.as_slice()));
+    Ok(())
+}
+
+#[test]
+fn encodings(rt: HostRuntime) -> Result<(), Fail> {
+    let Some(numbers) = opened::<Numbers>(rt.alloc(), NUMBERS.as_slice()) else {
+        return Ok(());
+    };
+    let Some(lists) = opened::<Lists>(rt.alloc(), LISTS.as_slice()) else {
+        return Ok(());
+    };
+    assert!(rt; encoding_keeps(rt.alloc(), &numbers.borrow(), NUMBERS.as_slice()));
+    assert!(rt; encoding_keeps(rt.alloc(), &lists.borrow(), LISTS.as_slice()));
+    Ok(())
+}
+
+#[test]
+fn sizes_of_elements(rt: HostRuntime) -> Result<(), Fail> {
+    let mut sizes = Vec::new(rt.alloc());
+    assert!(rt; sizes_keep::<Numbers>(&mut sizes));
+    assert!(rt; sizes_keep::<Pairs>(&mut sizes));
+    assert!(rt; sizes_keep::<Lists>(&mut sizes));
+    assert!(rt; sizes_keep::<Beside>(&mut sizes));
+    assert!(rt; sizes.iter().all(|size| *size == 8));
+    Ok(())
+}
+
+// The numbers that an extension pushed before the refusal stay, and no other
+#[test]
+fn extensions_of_numbers(rt: HostRuntime) -> Result<(), Fail> {
+    let rows = [1, 2, 3, 4, 5, 6, 7, 8, 9];
+    let Some(mut stash) = opened::<Numbers>(rt.alloc(), NUMBERS.as_slice()) else {
+        return Ok(());
+    };
+    match Push::extend(&mut stash, [5u64, 6, 7, 8, 9].iter().copied()) {
+        Ok(()) => assert!(rt; has(&stash, rows.as_slice())),
+        Err(error) => {
+            assert_eq!(rt; error, GrowError::Memory);
+            let count = stash.len();
+            assert!(rt; 4 <= count && count < 9);
+            assert!(rt; has(&stash, front(rows.as_slice(), count)));
+        }
+    }
+    Ok(())
+}
+
+// The pairs that an extension pushed before the refusal stay, whole, and no other
+#[test]
+fn extensions_of_pairs(rt: HostRuntime) -> Result<(), Fail> {
+    let firsts = [1, 2, 3, 4, 5, 6, 7, 8, 9];
+    let seconds = [10, 20, 30, 40, 50, 60, 70, 80, 90];
+    let mut pairs = Pairs::empty(rt.alloc());
+    let items = [
+        (1u64, 10u64),
+        (2, 20),
+        (3, 30),
+        (4, 40),
+        (5, 50),
+        (6, 60),
+        (7, 70),
+        (8, 80),
+        (9, 90),
+    ];
+    let done = Push::extend(&mut pairs, items.iter().copied());
+    let count = pairs.len();
+    match done {
+        Ok(()) => assert_eq!(rt; count, 9),
+        Err(error) => {
+            assert_eq!(rt; error, GrowError::Memory);
+            assert!(rt; count < 9);
+        }
+    }
+    assert_eq!(rt; pairs.0.as_slice(), front(firsts.as_slice(), count));
+    assert_eq!(rt; pairs.1.as_slice(), front(seconds.as_slice(), count));
+    Ok(())
+}
+
+#[test]
+fn runs_over_numbers(rt: HostRuntime) -> Result<(), Fail> {
+    let view = View::from_slice(FIRSTS.as_slice());
+    let before = NUMBERS.as_slice();
+    for (command, after) in [
+        (Command::Push(5u64), NUMBERS_AND_ONE.as_slice()),
+        (Command::Copy(0, 1), NUMBERS_AND_ONE.as_slice()),
+        (Command::Truncate(4), before),
+        (Command::MakeTyped, before),
+        (Command::MakeAligned, before),
+        (Command::Reopen, before),
+    ] {
+        let Some(stash) = opened::<Numbers>(rt.alloc(), before) else {
+            return Ok(());
+        };
+        assert!(rt; run_keeps(rt.alloc(), stash, view, [command].as_slice(), before, after));
+    }
+    Ok(())
+}
+
+#[test]
+fn a_run_over_pairs(rt: HostRuntime) -> Result<(), Fail> {
+    let pairs = (
+        View::from_slice(FIRSTS.as_slice()),
+        View::from_slice(SECONDS.as_slice()),
+    );
+    assert!(rt; pairs.check().is_ok());
+    let Some(stash) = opened::<Pairs>(rt.alloc(), PAIRS.as_slice()) else {
+        return Ok(());
+    };
+    let commands = [Command::Push((5u64, 50u64))];
+    let before = PAIRS.as_slice();
+    let after = PAIRS_AND_ONE.as_slice();
+    assert!(rt; run_keeps(rt.alloc(), stash, pairs, commands.as_slice(), before, after));
+    Ok(())
+}

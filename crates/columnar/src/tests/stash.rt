@@ -1,0 +1,307 @@
+// Stashes: a column, opened bytes and aligned bytes, what each call makes of them, and runs of commands.
+use super::{bytes_of, has, opened, refused, variant, writes};
+use crate::bytes::stash::{ByteStore, Command, Refusal, Reply, Stash, run};
+use crate::common::View;
+use crate::{Check, Clear, Len, Push, PushRef, Stored, Vecs};
+use std::rc::RcSlice;
+use std::test::Fail;
+
+type Numbers = Stash<Vec<u64>, Vec<u8>>;
+
+type Pairs = (Vec<u64>, Vec<u64>);
+
+type Lists = Vecs<Pairs, Vec<u64>>;
+
+// The numbers 7 and 8, and a word behind the last slice
+static WORD_BEHIND: [u64; 5] = [16, 32, 7, 8, 9];
+
+static SEVEN_EIGHT: [u64; 4] = [16, 32, 7, 8];
+
+// The bytes that a stash holds; none where it is a column
+fn held<C: Stored, B: ByteStore>(stash: &Stash<C, B>) -> &[u8] {
+    match stash {
+        Stash::Typed(_) => &[],
+        Stash::Bytes(checked) => checked.bytes(),
+        Stash::Align(checked) => checked.bytes(),
+    }
+}
+
+#[test]
+fn a_column_grows_and_is_cut(rt: HostRuntime) -> Result<(), Fail> {
+    let source = [5, 6, 7];
+    let mut stash = Numbers::empty(rt.alloc());
+    assert!(rt; stash.is_empty());
+    assert!(rt; stash.push(1u64).is_ok());
+    assert!(rt; stash.push(&2u64).is_ok());
+    assert!(rt; stash.push_ref(&3u64).is_ok());
+    assert!(rt;
+        stash
+            .extend_from_self(View::from_slice(source.as_slice()), 1..3)
+            .is_ok()
+    );
+    assert!(rt; has(&stash, [1, 2, 3, 6, 7].as_slice()));
+    assert_eq!(rt; stash.length_in_bytes(), Some(56));
+    if stash.len() > 1 {
+        assert!(rt; stash.truncate(1).is_ok());
+    }
+    assert!(rt; writes(&stash, [16, 24, 1].as_slice()));
+    stash.clear();
+    assert!(rt; writes(&stash, [16, 16].as_slice()));
+    assert_eq!(rt; variant(&stash), 0);
+    Ok(())
+}
+
+#[test]
+fn opened_bytes_are_given_back_as_they_are(rt: HostRuntime) -> Result<(), Fail> {
+    let stash = opened::<Vec<u64>>(rt.alloc(), WORD_BEHIND.as_slice()).expect(&rt, "opened");
+    assert!(rt; has(&stash, [7, 8].as_slice()));
+    assert_eq!(rt; stash.length_in_bytes(), Some(32));
+    assert_eq!(rt; held(&stash).len(), 40);
+    assert!(rt; writes(&stash, WORD_BEHIND.as_slice()));
+    Ok(())
+}
+
+#[test]
+fn borrowed_bytes_are_opened(rt: HostRuntime) -> Result<(), Fail> {
+    let bytes = bytes_of(rt.alloc(), WORD_BEHIND.as_slice())?;
+    let Ok(mut stash) = Stash::<Vec<u64>, &[u8]>::try_from_bytes(rt.alloc(), bytes.as_slice())
+    else {
+        assert!(rt; false);
+        return Ok(());
+    };
+    assert!(rt; has(&stash, [7, 8].as_slice()));
+    assert!(rt; writes(&stash, WORD_BEHIND.as_slice()));
+    stash.clear();
+    assert!(rt; has(&stash, [].as_slice()));
+    Ok(())
+}
+
+#[test]
+fn shared_bytes_are_opened(rt: HostRuntime) -> Result<(), Fail> {
+    let bytes = RcSlice::from_vec(bytes_of(rt.alloc(), WORD_BEHIND.as_slice())?)?;
+    let Ok(mut stash) = Stash::<Vec<u64>, RcSlice<u8>>::try_from_bytes(rt.alloc(), bytes) else {
+        assert!(rt; false);
+        return Ok(());
+    };
+    assert!(rt; has(&stash, [7, 8].as_slice()));
+    assert!(rt; writes(&stash, WORD_BEHIND.as_slice()));
+    assert!(rt; stash.push(9u64).is_ok());
+    assert!(rt; has(&stash, [7, 8, 9].as_slice()));
+    Ok(())
+}
+
+#[test]
+fn a_push_makes_a_column_of_bytes(rt: HostRuntime) -> Result<(), Fail> {
+    let mut stash = opened::<Vec<u64>>(rt.alloc(), WORD_BEHIND.as_slice()).expect(&rt, "opened");
+    assert_eq!(rt; variant(&stash), 1);
+    assert!(rt; stash.push(1u64).is_ok());
+    assert_eq!(rt; variant(&stash), 0);
+    assert!(rt; stash.make_aligned(rt.alloc()).is_ok());
+    assert_eq!(rt; variant(&stash), 2);
+    assert!(rt; stash.push_ref(&2u64).is_ok());
+    assert_eq!(rt; variant(&stash), 0);
+    assert!(rt; has(&stash, [7, 8, 1, 2].as_slice()));
+    Ok(())
+}
+
+#[test]
+fn a_copy_makes_a_column_of_bytes(rt: HostRuntime) -> Result<(), Fail> {
+    let source = [5, 6, 7];
+    let view = View::from_slice(source.as_slice());
+    let mut stash = opened::<Vec<u64>>(rt.alloc(), WORD_BEHIND.as_slice()).expect(&rt, "opened");
+    assert!(rt; stash.extend_from_self(view, 0..2).is_ok());
+    assert_eq!(rt; variant(&stash), 0);
+    assert!(rt; stash.make_aligned(rt.alloc()).is_ok());
+    assert!(rt; stash.extend_from_self(view, 3..3).is_ok());
+    assert_eq!(rt; variant(&stash), 0);
+    assert!(rt; has(&stash, [7, 8, 5, 6].as_slice()));
+    Ok(())
+}
+
+#[test]
+fn a_cut_and_a_clear_make_a_column_of_bytes(rt: HostRuntime) -> Result<(), Fail> {
+    let mut stash = opened::<Vec<u64>>(rt.alloc(), WORD_BEHIND.as_slice()).expect(&rt, "opened");
+    if stash.len() > 1 {
+        assert!(rt; stash.truncate(1).is_ok());
+    }
+    assert_eq!(rt; variant(&stash), 0);
+    assert!(rt; has(&stash, [7].as_slice()));
+    assert!(rt; stash.make_aligned(rt.alloc()).is_ok());
+    stash.clear();
+    assert_eq!(rt; variant(&stash), 0);
+    assert!(rt; stash.is_empty());
+    Ok(())
+}
+
+#[test]
+fn room_is_made(rt: HostRuntime) -> Result<(), Fail> {
+    let source = [5, 6, 7];
+    let view = View::from_slice(source.as_slice());
+    let mut stash = opened::<Vec<u64>>(rt.alloc(), WORD_BEHIND.as_slice()).expect(&rt, "opened");
+    assert!(rt; stash.reserve_for([view, view].iter().copied()).is_ok());
+    assert_eq!(rt; variant(&stash), 0);
+    assert!(rt; has(&stash, [7, 8].as_slice()));
+    let mut roomy = Numbers::with_capacity_for(rt.alloc(), [view].iter().copied())?;
+    assert!(rt; roomy.is_empty());
+    assert!(rt; roomy.reserve_for([view].iter().copied()).is_ok());
+    assert_eq!(rt; variant(&roomy), 0);
+    Ok(())
+}
+
+#[test]
+fn to_typed_leaves_the_bytes(rt: HostRuntime) -> Result<(), Fail> {
+    let stash = opened::<Vec<u64>>(rt.alloc(), WORD_BEHIND.as_slice()).expect(&rt, "opened");
+    let typed = stash.to_typed(rt.alloc())?;
+    assert_eq!(rt; variant(&typed), 0);
+    assert!(rt; has(&typed, [7, 8].as_slice()));
+    assert!(rt; writes(&typed, SEVEN_EIGHT.as_slice()));
+    let again = typed.to_typed(rt.alloc())?;
+    assert!(rt; has(&again, [7, 8].as_slice()));
+    assert_eq!(rt; variant(&stash), 1);
+    assert!(rt; has(&stash, [7, 8].as_slice()));
+    Ok(())
+}
+
+#[test]
+fn make_typed_lends_the_column(rt: HostRuntime) -> Result<(), Fail> {
+    let mut stash = opened::<Vec<u64>>(rt.alloc(), WORD_BEHIND.as_slice()).expect(&rt, "opened");
+    match stash.make_typed() {
+        Ok(column) => assert!(rt; Push::push(column, 9u64).is_ok()),
+        Err(_) => assert!(rt; false),
+    }
+    assert_eq!(rt; variant(&stash), 0);
+    assert!(rt; writes(&stash, [16, 40, 7, 8, 9].as_slice()));
+    Ok(())
+}
+
+#[test]
+fn aligned_bytes_end_with_the_last_slice(rt: HostRuntime) -> Result<(), Fail> {
+    let stash = opened::<Vec<u64>>(rt.alloc(), WORD_BEHIND.as_slice()).expect(&rt, "opened");
+    let aligned = stash.to_aligned(rt.alloc())?;
+    assert_eq!(rt; variant(&aligned), 2);
+    assert_eq!(rt; held(&aligned).len(), 32);
+    assert!(rt; has(&aligned, [7, 8].as_slice()));
+    assert_eq!(rt; aligned.length_in_bytes(), Some(32));
+    assert!(rt; writes(&aligned, SEVEN_EIGHT.as_slice()));
+    let typed = aligned.to_typed(rt.alloc())?;
+    assert!(rt; has(&typed, [7, 8].as_slice()));
+    Ok(())
+}
+
+#[test]
+fn make_aligned_keeps_the_rows(rt: HostRuntime) -> Result<(), Fail> {
+    let mut stash = opened::<Vec<u64>>(rt.alloc(), WORD_BEHIND.as_slice()).expect(&rt, "opened");
+    assert!(rt; stash.make_aligned(rt.alloc()).is_ok());
+    assert!(rt; stash.make_aligned(rt.alloc()).is_ok());
+    assert_eq!(rt; variant(&stash), 2);
+    assert!(rt; has(&stash, [7, 8].as_slice()));
+    assert!(rt; writes(&stash, SEVEN_EIGHT.as_slice()));
+    Ok(())
+}
+
+// Else the tests of refused memory would end before the call that they test.
+#[test]
+fn the_stores_of_the_refusals_are_accepted(rt: HostRuntime) -> Result<(), Fail> {
+    for store in [
+        refused::NUMBERS.as_slice(),
+        refused::NUMBERS_AND_ONE.as_slice(),
+    ] {
+        assert!(rt; opened::<Vec<u64>>(rt.alloc(), store).is_some());
+    }
+    for store in [refused::PAIRS.as_slice(), refused::PAIRS_AND_ONE.as_slice()] {
+        assert!(rt; opened::<Pairs>(rt.alloc(), store).is_some());
+    }
+    for store in [refused::LISTS.as_slice(), refused::LISTS_AND_ONE.as_slice()] {
+        assert!(rt; opened::<Lists>(rt.alloc(), store).is_some());
+    }
+    Ok(())
+}
+
+static DONE: Reply = Reply::Done;
+
+static RANGE: Reply = Reply::Refused(Refusal::Range);
+
+#[test]
+fn a_run_answers_each_command(rt: HostRuntime) -> Result<(), Fail> {
+    let source = [5, 6, 7];
+    let commands = [
+        Command::Push(1u64),
+        Command::Copy(1, 3),
+        Command::Copy(2, 4),
+        Command::Reopen,
+        Command::Truncate(2),
+        Command::Truncate(9),
+    ];
+    let (stash, replies) = run(
+        rt.alloc(),
+        Numbers::empty(rt.alloc()),
+        View::from_slice(source.as_slice()),
+        commands.as_slice(),
+    );
+    assert_eq!(rt;
+        replies?.as_slice(),
+        [DONE, DONE, RANGE, DONE, DONE, RANGE].as_slice()
+    );
+    assert_eq!(rt; variant(&stash), 0);
+    assert!(rt; has(&stash, [1, 6].as_slice()));
+    Ok(())
+}
+
+#[test]
+fn a_run_changes_the_variant(rt: HostRuntime) -> Result<(), Fail> {
+    let source = [5, 6, 7];
+    let commands = [
+        Command::MakeAligned,
+        Command::Copy(3, 2),
+        Command::MakeTyped,
+        Command::Push(1u64),
+        Command::Clear,
+        Command::Copy(0, 3),
+        Command::MakeAligned,
+    ];
+    let (stash, replies) = run(
+        rt.alloc(),
+        Numbers::empty(rt.alloc()),
+        View::from_slice(source.as_slice()),
+        commands.as_slice(),
+    );
+    assert_eq!(rt;
+        replies?.as_slice(),
+        [DONE, RANGE, DONE, DONE, DONE, DONE, DONE].as_slice()
+    );
+    assert_eq!(rt; variant(&stash), 2);
+    assert!(rt; has(&stash, source.as_slice()));
+    Ok(())
+}
+
+#[test]
+fn a_run_over_pairs(rt: HostRuntime) -> Result<(), Fail> {
+    let firsts = [5, 6, 7];
+    let seconds = [50, 60, 70];
+    let source = (
+        View::from_slice(firsts.as_slice()),
+        View::from_slice(seconds.as_slice()),
+    );
+    assert!(rt; source.check().is_ok());
+    let commands = [
+        Command::Push((1u64, 10u64)),
+        Command::Reopen,
+        Command::Copy(1, 3),
+        Command::Copy(0, 4),
+        Command::Truncate(2),
+        Command::Reopen,
+    ];
+    let (stash, replies) = run(
+        rt.alloc(),
+        Stash::<Pairs, Vec<u8>>::empty(rt.alloc()),
+        source,
+        commands.as_slice(),
+    );
+    assert_eq!(rt;
+        replies?.as_slice(),
+        [DONE, DONE, DONE, RANGE, DONE, DONE].as_slice()
+    );
+    assert_eq!(rt; variant(&stash), 1);
+    assert!(rt; writes(&stash, [24, 40, 56, 1, 6, 10, 60].as_slice()));
+    Ok(())
+}

@@ -1,0 +1,140 @@
+// What each use prints, and with which status it ends, also where an output fails.
+use super::*;
+use std::io::{Error, ErrorKind};
+use std::test::Fail;
+
+static FIRST: &str = "16 24 7\nrows: 1\n";
+
+static USAGE_LINE: &str = "usage: roster [first | write PATH | check PATH]\n";
+
+static CANNOT_WRITE: &str = "failed: cannot write\n";
+
+// Takes so many bytes, and then fails
+#[derive(Drop)]
+struct Brief {
+    taken: Vec<u8>,
+    limit: usize,
+}
+
+impl Write for Brief {
+    fn write(&mut self, buf: &[u8]) -> io::Result<usize> {
+        let left = self.limit.saturating_sub(self.taken.len());
+        let count = buf.len().min(left);
+        if count == 0 {
+            return Err(Error::from(ErrorKind::BrokenPipe));
+        }
+        self.taken.extend_from_slice(&buf[..count])?;
+        Ok(count)
+    }
+
+    fn flush(&mut self) -> io::Result<()> {
+        Ok(())
+    }
+}
+
+// What the words make of outputs that take so many bytes: the status, and what was taken
+#[derive(Drop)]
+struct Outcome {
+    status: u8,
+    out: Vec<u8>,
+    err: Vec<u8>,
+}
+
+fn outcome(
+    rt: &HostRuntime,
+    words: &[&str],
+    out_limit: usize,
+    err_limit: usize,
+) -> Result<Outcome, Fail> {
+    let alloc = rt.alloc();
+    let mut owned = Vec::new(alloc);
+    for word in words {
+        owned.push(String::from_str(alloc, word)?)?;
+    }
+    let mut out = Brief {
+        taken: Vec::new(alloc),
+        limit: out_limit,
+    };
+    let mut err = Brief {
+        taken: Vec::new(alloc),
+        limit: err_limit,
+    };
+    let status = run_words(rt, alloc, owned.as_slice(), &mut out, &mut err);
+    Ok(Outcome {
+        status,
+        out: out.taken,
+        err: err.taken,
+    })
+}
+
+// The first bytes
+fn front(bytes: &[u8], len: usize) -> &[u8] {
+    if len <= bytes.len() {
+        &bytes[..len]
+    } else {
+        bytes
+    }
+}
+
+#[test]
+fn first_prints_two_lines(rt: HostRuntime) -> Result<(), Fail> {
+    let done = outcome(&rt, ["first"].as_slice(), 100, 100)?;
+    assert_eq!(rt; done.status, 0);
+    assert_eq!(rt; done.out.as_slice(), FIRST.as_bytes());
+    assert_eq!(rt; done.err.len(), 0);
+    Ok(())
+}
+
+#[test]
+fn every_other_use_prints_the_usage_line(rt: HostRuntime) -> Result<(), Fail> {
+    let none: [&str; 0] = [];
+    for words in [
+        none.as_slice(),
+        [""].as_slice(),
+        ["First"].as_slice(),
+        ["first "].as_slice(),
+        ["second"].as_slice(),
+        ["first", "first"].as_slice(),
+        ["write"].as_slice(),
+        ["check"].as_slice(),
+        ["write", "a"].as_slice(),
+        ["check", "a"].as_slice(),
+        ["write", "a", "b"].as_slice(),
+        ["check", "a", "b"].as_slice(),
+    ] {
+        let done = outcome(&rt, words, 100, 100)?;
+        assert_eq!(rt; done.status, 2);
+        assert_eq!(rt; done.out.len(), 0);
+        assert_eq!(rt; done.err.as_slice(), USAGE_LINE.as_bytes());
+    }
+    Ok(())
+}
+
+#[test]
+fn a_standard_output_that_fails_is_told(rt: HostRuntime) -> Result<(), Fail> {
+    let text = FIRST.as_bytes();
+    for limit in 0..text.len() {
+        let done = outcome(&rt, ["first"].as_slice(), limit, 100)?;
+        assert_eq!(rt; done.status, 1);
+        assert_eq!(rt; done.out.as_slice(), front(text, limit));
+        assert_eq!(rt; done.err.as_slice(), CANNOT_WRITE.as_bytes());
+    }
+    let done = outcome(&rt, ["first"].as_slice(), text.len(), 0)?;
+    assert_eq!(rt; done.status, 0);
+    Ok(())
+}
+
+#[test]
+fn a_standard_error_that_fails_changes_no_status(rt: HostRuntime) -> Result<(), Fail> {
+    let text = USAGE_LINE.as_bytes();
+    for limit in 0..text.len() {
+        let done = outcome(&rt, ["second"].as_slice(), 100, limit)?;
+        assert_eq!(rt; done.status, 2);
+        assert_eq!(rt; done.out.len(), 0);
+        assert_eq!(rt; done.err.as_slice(), front(text, limit));
+        let done = outcome(&rt, ["first"].as_slice(), 0, limit)?;
+        assert_eq!(rt; done.status, 1);
+        assert_eq!(rt; done.err.as_slice(), front(CANNOT_WRITE.as_bytes(), limit));
+    }
+    Ok(())
+}

@@ -40,7 +40,7 @@ struct Outcome {
     err: Vec<u8>,
 }
 
-fn outcome(
+fn outcome_of(
     rt: &HostRuntime,
     words: &[&str],
     out_limit: usize,
@@ -78,7 +78,7 @@ fn front(bytes: &[u8], len: usize) -> &[u8] {
 
 #[test]
 fn first_prints_two_lines(rt: HostRuntime) -> Result<(), Fail> {
-    let done = outcome(&rt, ["first"].as_slice(), 100, 100)?;
+    let done = outcome_of(&rt, ["first"].as_slice(), 100, 100)?;
     assert_eq!(rt; done.status, 0);
     assert_eq!(rt; done.out.as_slice(), FIRST.as_bytes());
     assert_eq!(rt; done.err.len(), 0);
@@ -102,7 +102,7 @@ fn every_other_use_prints_the_usage_line(rt: HostRuntime) -> Result<(), Fail> {
         ["write", "a", "b"].as_slice(),
         ["check", "a", "b"].as_slice(),
     ] {
-        let done = outcome(&rt, words, 100, 100)?;
+        let done = outcome_of(&rt, words, 100, 100)?;
         assert_eq!(rt; done.status, 2);
         assert_eq!(rt; done.out.len(), 0);
         assert_eq!(rt; done.err.as_slice(), USAGE_LINE.as_bytes());
@@ -114,12 +114,12 @@ fn every_other_use_prints_the_usage_line(rt: HostRuntime) -> Result<(), Fail> {
 fn a_standard_output_that_fails_is_told(rt: HostRuntime) -> Result<(), Fail> {
     let text = FIRST.as_bytes();
     for limit in 0..text.len() {
-        let done = outcome(&rt, ["first"].as_slice(), limit, 100)?;
+        let done = outcome_of(&rt, ["first"].as_slice(), limit, 100)?;
         assert_eq!(rt; done.status, 1);
         assert_eq!(rt; done.out.as_slice(), front(text, limit));
         assert_eq!(rt; done.err.as_slice(), CANNOT_WRITE.as_bytes());
     }
-    let done = outcome(&rt, ["first"].as_slice(), text.len(), 0)?;
+    let done = outcome_of(&rt, ["first"].as_slice(), text.len(), 0)?;
     assert_eq!(rt; done.status, 0);
     Ok(())
 }
@@ -128,11 +128,11 @@ fn a_standard_output_that_fails_is_told(rt: HostRuntime) -> Result<(), Fail> {
 fn a_standard_error_that_fails_changes_no_status(rt: HostRuntime) -> Result<(), Fail> {
     let text = USAGE_LINE.as_bytes();
     for limit in 0..text.len() {
-        let done = outcome(&rt, ["second"].as_slice(), 100, limit)?;
+        let done = outcome_of(&rt, ["second"].as_slice(), 100, limit)?;
         assert_eq!(rt; done.status, 2);
         assert_eq!(rt; done.out.len(), 0);
         assert_eq!(rt; done.err.as_slice(), front(text, limit));
-        let done = outcome(&rt, ["first"].as_slice(), 0, limit)?;
+        let done = outcome_of(&rt, ["first"].as_slice(), 0, limit)?;
         assert_eq!(rt; done.status, 1);
         assert_eq!(rt; done.err.as_slice(), front(CANNOT_WRITE.as_bytes(), limit));
     }

@@ -40,7 +40,7 @@ struct Outcome {
     err: Vec<u8>,
 }
 
-fn outcome(
+fn outcome_of(
     rt: &HostRuntime,
     words: &[&str],
     out_limit: usize,
@@ -78,35 +78,32 @@ fn front(bytes: &[u8], len: usize) -> &[u8] {
 
 #[test]
 fn first_prints_two_lines(rt: HostRuntime) -> Result<(), Fail> {
-    let done = outcome(&rt, ["first"].as_slice(), 100, 100)?;
+    let done = outcome_of(&rt, ["first"].as_slice(), 100, 100)?;
     assert_eq!(rt; done.status, 0);
     assert_eq!(rt; done.out.as_slice(), FIRST.as_bytes());
     assert_eq!(rt; done.err.len(), 0);
     Ok(())
 }
 
+// Do the words print the usage line on standard error alone, with status 2?
+fn is_misuse(rt: &HostRuntime, words: &[&str]) -> Result<bool, Fail> {
+    let done = outcome_of(rt, words, 100, 100)?;
+    Ok(done.status == 2 && done.out.len() == 0 && done.err.as_slice() == USAGE_LINE.as_bytes())
+}
+
 #[test]
 fn every_other_use_prints_the_usage_line(rt: HostRuntime) -> Result<(), Fail> {
-    let none: [&str; 0] = [];
-    for words in [
-        none.as_slice(),
-        [""].as_slice(),
-        ["First"].as_slice(),
-        ["first "].as_slice(),
-        ["second"].as_slice(),
-        ["first", "first"].as_slice(),
-        ["write"].as_slice(),
-        ["check"].as_slice(),
-        ["write", "a"].as_slice(),
-        ["check", "a"].as_slice(),
-        ["write", "a", "b"].as_slice(),
-        ["check", "a", "b"].as_slice(),
-    ] {
-        let done = outcome(&rt, words, 100, 100)?;
-        assert_eq!(rt; done.status, 2);
-        assert_eq!(rt; done.out.len(), 0);
-        assert_eq!(rt; done.err.as_slice(), USAGE_LINE.as_bytes());
-    }
+    assert!(rt; is_misuse(&rt, [].as_slice())?);
+    assert!(rt; is_misuse(&rt, [""].as_slice())?);
+    assert!(rt; is_misuse(&rt, ["First"].as_slice())?);
+    assert!(rt; is_misuse(&rt, ["first "].as_slice())?);
+    assert!(rt; is_misuse(&rt, ["second"].as_slice())?);
+    assert!(rt; is_misuse(&rt, ["first", "first"].as_slice())?);
+    assert!(rt; is_misuse(&rt, ["write"].as_slice())?);
+    assert!(rt; is_misuse(&rt, ["check"].as_slice())?);
+    assert!(rt; is_misuse(&rt, ["write", "a"].as_slice())?);
+    assert!(rt; is_misuse(&rt, ["check", "a"].as_slice())?);
+    assert!(rt; is_misuse(&rt, ["write", "a", "b"].as_slice())?);
     Ok(())
 }
 
@@ -114,12 +111,12 @@ fn every_other_use_prints_the_usage_line(rt: HostRuntime) -> Result<(), Fail> {
 fn a_standard_output_that_fails_is_told(rt: HostRuntime) -> Result<(), Fail> {
     let text = FIRST.as_bytes();
     for limit in 0..text.len() {
-        let done = outcome(&rt, ["first"].as_slice(), limit, 100)?;
+        let done = outcome_of(&rt, ["first"].as_slice(), limit, 100)?;
         assert_eq!(rt; done.status, 1);
         assert_eq!(rt; done.out.as_slice(), front(text, limit));
         assert_eq!(rt; done.err.as_slice(), CANNOT_WRITE.as_bytes());
     }
-    let done = outcome(&rt, ["first"].as_slice(), text.len(), 0)?;
+    let done = outcome_of(&rt, ["first"].as_slice(), text.len(), 0)?;
     assert_eq!(rt; done.status, 0);
     Ok(())
 }
@@ -128,11 +125,11 @@ fn a_standard_output_that_fails_is_told(rt: HostRuntime) -> Result<(), Fail> {
 fn a_standard_error_that_fails_changes_no_status(rt: HostRuntime) -> Result<(), Fail> {
     let text = USAGE_LINE.as_bytes();
     for limit in 0..text.len() {
-        let done = outcome(&rt, ["second"].as_slice(), 100, limit)?;
+        let done = outcome_of(&rt, ["second"].as_slice(), 100, limit)?;
         assert_eq!(rt; done.status, 2);
         assert_eq!(rt; done.out.len(), 0);
         assert_eq!(rt; done.err.as_slice(), front(text, limit));
-        let done = outcome(&rt, ["first"].as_slice(), 0, limit)?;
+        let done = outcome_of(&rt, ["first"].as_slice(), 0, limit)?;
         assert_eq!(rt; done.status, 1);
         assert_eq!(rt; done.err.as_slice(), front(CANNOT_WRITE.as_bytes(), limit));
     }

@@ -15,3 +15,6 @@ pub mod Views
 pub mod ViewLaws
 pub mod Tuples
 pub mod TupleLaws
+pub mod WordViews
+pub mod WordViewLaws
+pub mod OptionRows

@@ -4,10 +4,13 @@
 
 pub mod element;
 pub mod fault;
+pub mod metered;
 pub mod slice;
 pub mod storage;
 pub mod tally;
 pub mod traits;
+pub mod truth;
 pub mod tuple;
 pub mod vector;
 pub mod view;
+pub mod words;

@@ -12,7 +12,10 @@ pub mod writer;
 
 pub use columnar_base::element;
 pub use columnar_base::fault;
+pub use columnar_base::metered;
 pub use columnar_base::slice;
 pub use columnar_base::tally;
 pub use columnar_base::traits;
+pub use columnar_base::truth;
 pub use columnar_base::view;
+pub use columnar_base::words;

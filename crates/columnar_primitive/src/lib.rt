@@ -1,0 +1,4 @@
+//! Columns of simple values.
+#![tactic(auto)]
+
+pub mod bools;

@@ -154,7 +154,6 @@ bits_of_cut ws t c u n h l same =
     (cases_lt k (64 * (n / 64)))) ∙
     sym (take-truths (bit_in (ws ++ t ∷ [])) (64 * length ws + c) n h)
 
-
 pub pow_le : (i j : ℕ) → i ≤ j → 2 ^ i ≤ 2 ^ j
 pow_le i j h = ⊎_elim (λ (p : i < j). let l = pow_below i j p in omega arith) (λ (p : j ≤ i). let e : i ≡ j = omega arith in let d = ap (λ (x : ℕ). 2 ^ x) e in omega arith) (cases_lt i j)
 
@@ -270,7 +269,6 @@ copy_more new old mid xs w a b c n em en et ec h =
 
 pub cut_back : (now old more : List Bool) (n : ℕ) → now ≡ old ++ more → n ≡ length old → take n now ≡ old
 cut_back now old more n e l = ap (take n) e ∙ take_at old more n (sym l)
-
 
 -- ---- numbers
 

@@ -1,8 +1,8 @@
 -- Columns of truth values: whole words, and a tail of two words, the last bits and how many of them count.
-use Rattle.std.specs.Prelude.{ℕ, Bool, true, false, List, [], ◌∷◌, ◌++◌, ◌≡◌, ◌<◌, ◌+◌, ◌*◌, ◌/◌, ◌%◌, ◌^◌, ◌&&◌, length, map, drop, nat_eq, nat_lt, slice_index, Vec}
+use Rattle.std.specs.Prelude.{ℕ, Bool, List, [], ◌∷◌, ◌++◌, ◌+◌, ◌*◌, ◌/◌, ◌^◌, ◌&&◌, length, map, drop, nat_eq, nat_lt, slice_index, Vec}
 use Rattle.std.specs.Global.{Global}
-use Rattle.columnar_core.specs.Row.{Row, truth, row_eq}
-use Rattle.columnar_core.specs.Format.{Format, Content, slice, both, part, plain, Fault, fault, moved, unless, misfit, Excess}
+use Rattle.columnar_core.specs.Row.{truth, row_eq}
+use Rattle.columnar_core.specs.Format.{Format, Content, slice, both, part, plain, Fault, fault, moved, unless, misfit}
 use Rattle.columnar_core.specs.Elements.{elements_broken, first_slice, past_count}
 use Rattle.columnar_core.specs.WordViews.{words_in, bytes_of, bytes_of_words}
 use Rattle.columnar_primitive.specs.Bits.{bits_of}

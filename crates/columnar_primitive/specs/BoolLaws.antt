@@ -1,20 +1,23 @@
-use Rattle.std.proofs.Common.{◌≡◌, ℕ, zero, suc, ◌+◌, ◌-◌, ◌*◌, ◌/◌, ◌%◌, ◌^◌, ◌<◌, ◌≤◌, Bool, true, false, eqb, ◌&&◌, List, [], ◌∷◌, ◌++◌, length, take, drop, map, refl, sym, ◌∙◌, ap, arith, length-append, subst}
-use Rattle.std.specs.Prelude.{slice_get, slice_index, slice_index_or, Some, None, nat_eq, nat_lt, bit_and}
-use Rattle.std.proofs.lemmas.List.{map-append, length-map, take-map, length-take-le, length_push}
-use Rattle.std.proofs.lemmas.Option.{slice_get-map, slice_get-get_or}
+use Rattle.std.proofs.Common.{◌≡◌, ℕ, ◌+◌, ◌-◌, ◌*◌, ◌/◌, ◌%◌, ◌^◌, ◌<◌, ◌≤◌, Bool, true, false, eqb, List, [], ◌∷◌, ◌++◌, length, take, drop, map, refl, sym, ◌∙◌, ap, arith, length-append}
+use Rattle.std.specs.Prelude.{slice_index, slice_index_or, nat_eq, nat_lt, bit_and, slice_range}
+use Rattle.std.proofs.lemmas.List.{map-append, length-map, take-map, length-take-le, length_push, nil_from_length, length-drop}
 use Rattle.std.proofs.lemmas.Bool.{and_parts, and_from, eqb-true, eq-eqb, ltb-true, lt-ltb}
 use Rattle.std.proofs.Math.Path.{ap₂}
 use Rattle.columnar_core.specs.Row.{Row, truth, row_eq}
 use Rattle.columnar_core.specs.Format.{Format, Content, slice, both, part, plain, IsSound, IsLawful, IsStorable, lengths, slices_of, Fault, fault, moved, unless, Excess, too_many, misplaced}
 use Rattle.columnar_core.specs.FaultLaws.{nothing_left, nothing_both, nothing_moved, moved_nothing, unless_true, true_unless}
 use Rattle.columnar_core.specs.AlikeLaws.{alike_all, row_eq_same}
-use Rattle.columnar_core.specs.Change.{Keeps, Grew, Stayed, WasCut, Took, Copied}
-use Rattle.columnar_core.specs.Elements.{elements_broken, first_slice, past_count}
+use Rattle.columnar_core.specs.Change.{Keeps, Grew, Stayed, WasCut, Took, Copied, Refused}
+use Rattle.columnar_core.specs.ChangeLaws.{unchanged}
+use Rattle.columnar_core.specs.Appended.{map_drop}
+use Rattle.columnar_core.specs.declared.fault.GrowError.{GrowError}
+use Rattle.columnar_core.specs.declared.fault.GrowError.TheVariants.{Memory, Length, Offset, Format as FormatError}
+use Rattle.columnar_core.specs.Elements.{elements_broken, past_count}
 use Rattle.columnar_core.specs.WordViews.{words_in, bit_words, bytes_of_words}
-use Rattle.columnar_core.specs.WordViewLaws.{length-words_in, length-bytes_of_words, word_of_words, words_pushed, words_cut, words_back}
-use Rattle.columnar_primitive.specs.Bits.{bit, bit_in, truths, bits_of}
+use Rattle.columnar_core.specs.WordViewLaws.{length-words_in, length-bytes_of_words, word_of_words, words_pushed, words_cut}
+use Rattle.columnar_primitive.specs.Bits.{bit, truths}
 use Rattle.columnar_primitive.specs.BitLaws.{length-bits_of, get_or-bits_of, bit_in_word, bit_shown, bit_shr, bits_of_more, bits_of_spill, bits_of_cut}
-use Rattle.columnar_primitive.specs.BoolColumns.{last_word, last_count, bit_count, bits_in, is_tail, tail_broken, bools_broken, bools_bits, bools_format}
+use Rattle.columnar_primitive.specs.BoolColumns.{IsOfGrowth, last_word, last_count, bit_count, bits_in, is_tail, tail_broken, bools_format}
 
 -- what the soundness of a column of bits is made of
 pub record SoundBools (values tail : List ℕ) : Type 0 where
@@ -94,8 +97,8 @@ bools_full c s =
     let p : SoundBools f.values f.tail = bools_parts (rw f.is at s) in
     rw f.is (full_of p)
   where
-  full_of : {a b : List ℕ} → SoundBools a b → 8 * (length (map truth (bits_in a b)) / 64) ∷ 16 ∷ [] ≡ length a ∷ length b ∷ []
-  full_of {a} {b} p = rw (length-bools a b, words_of_bits p, p.two) refl
+    full_of : {a b : List ℕ} → SoundBools a b → 8 * (length (map truth (bits_in a b)) / 64) ∷ 16 ∷ [] ≡ length a ∷ length b ∷ []
+    full_of {a} {b} p = rw (length-bools a b, words_of_bits p, p.two) refl
 
 bools_counted : (c : Content) → IsSound bools_format c → length (slices_of c) ≡ 2
 bools_counted c s = let f = bools_form c s in rw f.is refl
@@ -227,9 +230,10 @@ tail_cut {a} {b} {a'} {b'} {u} {n} s t ea la l clear same =
     let i = bits_length a b in
     let eu : last_word b' ≡ u = t.word in
     let en : last_count b' ≡ n % 64 = t.count in
-    let k : length (words_in a') ≡ n / 64 = rw ea (length-take-le (n / 64) (words_in a) (omega arith)) in
-    (record { whole = omega arith; two = t.two; few = omega arith; clear = rw (eu, en) clear; short = omega arith },
-    rw (eu, en, ea) (bits_of_cut (words_in a) (last_word b) (last_count b) u n (omega arith) p same))
+    let k : length (words_in a') ≡ n / 64 = rw ea (length-take-le (n / 64) (words_in a) (omega arith)) in (
+      record { whole = omega arith; two = t.two; few = omega arith; clear = rw (eu, en) clear; short = omega arith },
+      rw (eu, en, ea) (bits_of_cut (words_in a) (last_word b) (last_count b) u n (omega arith) p same),
+    )
 
 -- bits by their words
 
@@ -304,3 +308,59 @@ owned_bits_of {xs} {tail} {v} {w} {c} h e p q =
 -- one word more
 pub words_grown : (xs ys : List ℕ) (u : ℕ) → ys ≡ xs ++ u ∷ [] → u < 2 ^ 64 → (words_in (bytes_of_words ys) ≡ words_in (bytes_of_words xs) ++ u ∷ []) × (length (bytes_of_words ys) ≡ 8 + length (bytes_of_words xs))
 words_grown xs ys u e h = (rw e (words_pushed xs u h), omega (arith, length-bytes_of_words ys, length-bytes_of_words xs, ap length e, length_push xs u))
+
+-- one bit, as a number
+pub bit_one : truths (bit 1) 1 ≡ true ∷ []
+unfolding bit truths
+bit_one = refl
+
+pub bit_zero : truths (bit 0) 1 ≡ false ∷ []
+unfolding bit truths
+bit_zero = refl
+
+-- no words, and an empty tail
+pub bools_none : (xs tail : List ℕ) → xs ≡ [] → Tail (bytes_of_words tail) 0 0 → SoundBools (bytes_of_words xs) (bytes_of_words tail) × (bits_in (bytes_of_words xs) (bytes_of_words tail) ≡ [])
+bools_none xs tail e t =
+    let n = length_words_back xs in
+    let l : length xs ≡ 0 = ap length e in
+    let m = length-bytes_of_words xs in
+    let w = t.word in let c = t.count in (
+      record { whole = omega arith; two = t.two; few = omega arith; clear = rw (w, c) (omega arith); short = omega arith },
+      nil_from_length _ (bits_length (bytes_of_words xs) (bytes_of_words tail) ∙ omega arith),
+    )
+
+-- an owned column was cut
+pub owned_cut : (xs ys tail tail' : List ℕ) {u n : ℕ} → IsSound bools_format (both (slice (bytes_of_words xs)) (slice (bytes_of_words tail))) → ys ≡ take (n / 64) xs → Tail (bytes_of_words tail') u (n % 64) → n ≤ length (map truth (bits_in (bytes_of_words xs) (bytes_of_words tail))) → u < 2 ^ (n % 64) → ((j : ℕ) → j < n % 64 → bit u j ≡ bit (slice_index (bit_words (bytes_of_words xs) (bytes_of_words tail)) (n / 64)) j) → WasCut bools_format (both (slice (bytes_of_words xs)) (slice (bytes_of_words tail))) (both (slice (bytes_of_words ys)) (slice (bytes_of_words tail'))) n
+owned_cut xs ys tail tail' {u} {n} h e t l clear same =
+    let s = bools_parts h in
+    let k : n ≤ length (bits_in (bytes_of_words xs) (bytes_of_words tail)) = omega (arith, length-map (bits_in (bytes_of_words xs) (bytes_of_words tail)) truth) in
+    let few = s.few in
+    let m = bits_length (bytes_of_words xs) (bytes_of_words tail) in
+    let w = length_words_back xs in
+    let y : length ys ≡ n / 64 = rw e (length-take-le (n / 64) xs (omega arith)) in
+    let c = tail_cut s t (rw e (words_cut xs (n / 64))) (length-bytes_of_words ys ∙ (rw y refl)) k clear same in
+    bools_cut c.0 c.1 k
+
+-- a refusal, by its two causes
+pub bools_refused : {a b a' b' : List ℕ} (rs : List Row) (e : GrowError) → Stayed bools_format (both (slice a) (slice b)) (both (slice a') (slice b')) → IsOfGrowth e → (e ≡ Length → 2 ^ 64 ≤ length (bits_in a b) + length rs) → Refused bools_format (both (slice a) (slice b)) (both (slice a') (slice b')) rs e
+bools_refused {a} {b} rs Memory s k h = record { stayed = s; cause = tt }
+bools_refused {a} {b} rs Length s k h = record { stayed = s; cause = bools_past a b rs (h refl) }
+bools_refused {a} {b} rs Offset s k h = absurd k
+bools_refused {a} {b} rs FormatError s k h = absurd k
+
+-- nothing changed
+pub bools_same : {a b : List ℕ} {d : Content} → IsSound bools_format (both (slice a) (slice b)) → d ≡ both (slice a) (slice b) → Stayed bools_format (both (slice a) (slice b)) d
+bools_same {a} {b} {d} s e = rw e (unchanged s)
+
+-- a range of the rows is that of the bits
+pub rows_between : (xs : List Bool) (i j : ℕ) → map truth (slice_range xs i j) ≡ take (j - i) (drop i (map truth xs))
+rows_between xs i j = rw (map_drop truth i xs) (sym (take-map truth (j - i) (drop i xs)))
+
+pub length_between : (xs : List Bool) (i j : ℕ) → j ≤ length (map truth xs) → length (take (j - i) (drop i (map truth xs))) ≡ j - i
+length_between xs i j l = length-take-le (j - i) (drop i (map truth xs)) (omega (arith, length-drop i (map truth xs)))
+
+pub length_added : (new old xs : List Bool) (i j : ℕ) → new ≡ old ++ slice_range xs i j → i ≤ j → j ≤ length xs → length new ≡ length old + (j - i)
+length_added new old xs i j e h l = omega (arith, ap length e, length-append old (slice_range xs i j), length-take-le (j - i) (drop i xs) (omega (arith, length-drop i xs)))
+
+pub grew_to : {f : Format} {c d e : Content} {rs : List Row} → e ≡ d → Grew f c d rs → Grew f c e rs
+grew_to q g = rw q g

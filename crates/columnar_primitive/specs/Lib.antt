@@ -2,3 +2,4 @@ pub mod Bits
 pub mod BitLaws
 pub mod BoolColumns
 pub mod BoolLaws
+pub mod BoolBytes

@@ -3,24 +3,26 @@ ghost use Rattle.std.specs.Prelude.{◌≡◌, ℕ, ◌⊎◌, ◌+◌, ◌-◌,
 ghost use Rattle.columnar_core.specs.Row.{truth};
 ghost use Rattle.columnar_core.specs.Format.{slice, both, IsSound, first, moved};
 ghost use Rattle.columnar_core.specs.Faults.{verdict};
-ghost use Rattle.columnar_core.specs.Change.{WasCut, Copied, Refused};
+ghost use Rattle.columnar_core.specs.Change.{Stayed, WasCut, Copied, Refused};
 ghost use Rattle.columnar_core.specs.WordViews.{words_in, bytes_of_words, view_bytes, view_words, bit_words};
 ghost use Rattle.columnar_primitive.specs.Bits.{bit as bit_of, bit_in, truths, number_of_bits};
 ghost use Rattle.columnar_primitive.specs.BoolColumns.{bools_format, bools_content, bools_broken, IsOfGrowth, bits_held, bits_in, owned_content, owned_bits, last_word, last_count};
 ghost use Rattle.columnar_primitive.specs.BoolLaws.{SoundBools, Tail, bools_lawful, bools_storable};
 
-use columnar_core::container::Storage;
+use columnar_core::container::{Borrow, Container, ExtendFrom, Reborrow, Storage};
 use columnar_core::fault::GrowError;
+use columnar_core::metered::word_or_tail;
 use columnar_core::tally::Tally;
 use columnar_core::traits::{Clear, Column, Index, Len, Push, PushRef};
 use columnar_core::view::View;
 use columnar_core::words::{Words, word_at, word_count};
-use columnar_core::metered::word_or_tail;
 use std::alloc::Global;
 use std::ops::Range;
 
+mod bytes;
+
 /// Truth values, packed as bits, the lowest first.
-#[derive(Clone, PartialEq, Drop)]
+#[derive(Clone, Copy, PartialEq, Drop)]
 pub struct Bools<VC, TC> {
     /// Whole words of 64 bits.
     pub values: VC,
@@ -35,7 +37,7 @@ impl<VC: Words, TC: Words> Column for Bools<VC, TC> {
 }
 
 // How many bits there are.
-fn count_bits(values: View<'_, u64>, tail: View<'_, u64>) -> usize
+pub(crate) fn count_bits(values: View<'_, u64>, tail: View<'_, u64>) -> usize
     requires { SoundBools (view_bytes values) (view_bytes tail) }
     ensures { result ≡ length (bits_in (view_bytes values.entry) (view_bytes tail.entry)) }
 {
@@ -129,7 +131,11 @@ fn taken(values: View<'_, u64>, tail: View<'_, u64>, index: usize, count: usize)
         return 0;
     }
     let window = window(values, tail, index, count);
-    if count == 64 { window } else { low_bits(window, count as u64) }
+    if count == 64 {
+        window
+    } else {
+        low_bits(window, count as u64)
+    }
 }
 
 impl<VC: Words, TC: Words> Bools<VC, TC> {
@@ -149,7 +155,7 @@ impl<VC: Words, TC: Words> Bools<VC, TC> {
 }
 
 // The last bits that a tail holds, and how many of them count.
-fn tail_parts(tail: View<'_, u64>) -> (u64, u64)
+pub(crate) fn tail_parts(tail: View<'_, u64>) -> (u64, u64)
     requires { length (view_bytes tail) ≡ 16 }
     ensures word { result.0 ≡ last_word (view_bytes tail.entry) }
     ensures count { result.1 ≡ last_count (view_bytes tail.entry) }
@@ -158,10 +164,19 @@ fn tail_parts(tail: View<'_, u64>) -> (u64, u64)
 }
 
 // The tail of these two words.
-fn tail_of(word: u64, count: u64) -> [u64; 2]
+pub(crate) fn tail_of(word: u64, count: u64) -> [u64; 2]
     ensures { Tail (bytes_of_words result) word count }
 {
     [word, count]
+}
+
+// The number of one bit.
+#[tactic(auto, using(crate::specs::BoolLaws::bit_one, crate::specs::BoolLaws::bit_zero))]
+fn one_bit(bit: bool) -> u64
+    ensures bits { truths (bit_of result) 1 ≡ bit ∷ [] }
+    ensures below { result < 2 ^ 1 }
+{
+    if bit { 1 } else { 0 }
 }
 
 impl Bools<Vec<u64>, [u64; 2]> {
@@ -198,5 +213,235 @@ impl Bools<Vec<u64>, [u64; 2]> {
             }
             Err(_) => Err(GrowError::Memory),
         }
+    }
+
+    /// Appends one bit, and is refused as `push_bits` of one.
+    pub fn push_bit(&mut self, bit: bool) -> Result<(), GrowError>
+        requires { IsSound bools_format (owned_content self.old) }
+        ensures ok { OnOk result (owned_bits self.new ≡ owned_bits self.old ++ bit ∷ []) }
+        ensures err { OnErr result (owned_content self.new ≡ owned_content self.old) }
+        ensures length { result ≡ Err GrowError.Length → 2 ^ 64 ≤ length (owned_bits self.old) + 1 }
+        ensures full { 2 ^ 64 ≤ length (owned_bits self.old) + 1 → result ≡ Err GrowError.Length }
+        ensures kinds { IfErr result IsOfGrowth }
+        ensures no_memory { length (owned_bits self.old) % 64 < 63 → IsOk result }
+        ensures sound { IsSound bools_format (owned_content self.new) }
+    {
+        self.push_bits(one_bit(bit), 1)
+    }
+
+    /// Appends the bits of the range of `other`, up to 64 at a time: all of them or none. After a refusal the bits are
+    /// as before. It answers Length exactly where there would be more than 2^64 - 1 bits. The turns that it takes are
+    /// added to the tally: at most one for each 16 bits, and 64.
+    pub fn extend_bits_from_tallied<V: Words, T: Words, L>(
+        &mut self,
+        other: &Bools<V, T>,
+        range: Range<usize>,
+        tally: &mut Tally<L>,
+    ) -> Result<(), GrowError>
+        requires sound { IsSound bools_format (owned_content self.old) }
+        requires other { IsSound bools_format (bools_content V.bytes T.bytes other.now) }
+        requires ordered { range.start ≤ range.«end» }
+        requires in_range { range.«end» ≤ length (bits_held V.bytes T.bytes other.now) }
+        ensures ok { OnOk result (owned_bits self.new ≡ owned_bits self.old ++ slice_range (bits_held V.bytes T.bytes other.now) range.start range.«end») }
+        ensures err { OnErr result (Stayed bools_format (owned_content self.old) (owned_content self.new)) }
+        ensures length { result ≡ Err GrowError.Length → 2 ^ 64 ≤ length (owned_bits self.old) + (range.«end» - range.start) }
+        ensures full { 2 ^ 64 ≤ length (owned_bits self.old) + (range.«end» - range.start) → result ≡ Err GrowError.Length }
+        ensures kinds { IfErr result IsOfGrowth }
+        ensures sound { IsSound bools_format (owned_content self.new) }
+        ensures turns { tally.new.turns ≤ tally.old.turns + ((range.«end» - range.start) / 16 + 64) }
+    {
+        let end = range.end;
+        let mut at = range.start;
+        let start = self.len();
+        if end - at > usize::MAX - start {
+            return Err(GrowError::Length);
+        }
+        while at < end {
+            tally.tick();
+            let count = (end - at).min(64);
+            match self.push_bits(other.bits_at(at, count), count) {
+                Ok(()) => {}
+                Err(error) => {
+                    self.truncate(start);
+                    return Err(error);
+                }
+            }
+            at += count;
+        }
+        Ok(())
+    }
+
+    /// Appends the bits of the range of `other`, up to 64 at a time: all of them or none. After a refusal the bits are
+    /// as before. It answers Length exactly where there would be more than 2^64 - 1 bits.
+    pub fn extend_bits_from<V: Words, T: Words>(
+        &mut self,
+        other: &Bools<V, T>,
+        range: Range<usize>,
+    ) -> Result<(), GrowError>
+        requires sound { IsSound bools_format (owned_content self.old) }
+        requires other { IsSound bools_format (bools_content V.bytes T.bytes other.now) }
+        requires ordered { range.start ≤ range.«end» }
+        requires in_range { range.«end» ≤ length (bits_held V.bytes T.bytes other.now) }
+        ensures ok { OnOk result (owned_bits self.new ≡ owned_bits self.old ++ slice_range (bits_held V.bytes T.bytes other.now) range.start range.«end») }
+        ensures err { OnErr result (Stayed bools_format (owned_content self.old) (owned_content self.new)) }
+        ensures length { result ≡ Err GrowError.Length → 2 ^ 64 ≤ length (owned_bits self.old) + (range.«end» - range.start) }
+        ensures full { 2 ^ 64 ≤ length (owned_bits self.old) + (range.«end» - range.start) → result ≡ Err GrowError.Length }
+        ensures kinds { IfErr result IsOfGrowth }
+        ensures sound { IsSound bools_format (owned_content self.new) }
+    {
+        match self.extend_bits_from_tallied(other, range, &mut Tally::new()) {
+            Ok(()) => Ok(()),
+            Err(error) => Err(error),
+        }
+    }
+}
+
+impl Clear for Bools<Vec<u64>, [u64; 2]> {
+    fn clear(&mut self) {
+        self.values.clear();
+        self.tail = tail_of(0, 0);
+    }
+}
+
+impl Storage for Bools<Vec<u64>, [u64; 2]> {
+    type Room = usize;
+
+    ghost lawful = { bools_lawful };
+
+    fn empty(alloc: Global) -> Self {
+        Bools {
+            values: Vec::new(alloc),
+            tail: tail_of(0, 0),
+        }
+    }
+
+    fn duplicate(&self, alloc: Global) -> Result<Self, GrowError> {
+        match Vec::from_slice(alloc, self.values.as_slice()) {
+            Ok(values) => Ok(Bools {
+                values,
+                tail: self.tail,
+            }),
+            Err(_) => Err(GrowError::Memory),
+        }
+    }
+
+    fn truncate(&mut self, n: usize) {
+        let count = (n % 64) as u64;
+        let word = low_bits(
+            word_or_tail(self.values.words(), self.tail.words(), n / 64),
+            count,
+        );
+        self.values.truncate(n / 64);
+        self.tail = tail_of(word, count);
+    }
+
+    fn no_room() -> usize {
+        0
+    }
+
+    fn reserve_room(&mut self, room: usize) -> Result<(), GrowError> {
+        match self.values.reserve(room) {
+            Ok(()) => Ok(()),
+            Err(_) => Err(GrowError::Memory),
+        }
+    }
+}
+
+impl Push<bool> for Bools<Vec<u64>, [u64; 2]> {
+    fn push(&mut self, item: bool) -> Result<(), GrowError> {
+        match self.push_bit(item) {
+            Ok(()) => Ok(()),
+            Err(error) => Err(error),
+        }
+    }
+}
+
+impl<'x> Push<&'x bool> for Bools<Vec<u64>, [u64; 2]> {
+    fn push(&mut self, item: &'x bool) -> Result<(), GrowError> {
+        match self.push_bit(*item) {
+            Ok(()) => Ok(()),
+            Err(error) => Err(error),
+        }
+    }
+}
+
+impl PushRef<bool> for Bools<Vec<u64>, [u64; 2]> {
+    fn push_ref(&mut self, item: &bool) -> Result<(), GrowError> {
+        match self.push_bit(*item) {
+            Ok(()) => Ok(()),
+            Err(error) => Err(error),
+        }
+    }
+}
+
+impl<'x> ExtendFrom<Bools<View<'x, u64>, View<'x, u64>>> for Bools<Vec<u64>, [u64; 2]> {
+    fn add_room(room: usize, view: Bools<View<'x, u64>, View<'x, u64>>) -> usize {
+        room.saturating_add(word_count(view.values))
+    }
+
+    fn extend_from_self(
+        &mut self,
+        view: Bools<View<'x, u64>, View<'x, u64>>,
+        range: Range<usize>,
+    ) -> Result<(), GrowError> {
+        match self.extend_bits_from(&view, range) {
+            Ok(()) => Ok(()),
+            Err(error) => Err(error),
+        }
+    }
+}
+
+impl<'a> Borrow<'a> for Bools<Vec<u64>, [u64; 2]> {
+    type Ref = bool;
+
+    type Borrowed = Bools<View<'a, u64>, View<'a, u64>>;
+
+    type Parts = bool;
+
+    ghost same_format = { refl };
+
+    fn borrow(&'a self) -> Bools<View<'a, u64>, View<'a, u64>> {
+        Bools {
+            values: View::from_slice(self.values.as_slice()),
+            tail: View::from_slice(&self.tail),
+        }
+    }
+}
+
+impl<'a> Container<'a> for Bools<Vec<u64>, [u64; 2]> {}
+
+impl<'a, 'b> Reborrow<'b> for Bools<View<'a, u64>, View<'a, u64>>
+where
+    'a: 'b,
+{
+    type Short = Bools<View<'b, u64>, View<'b, u64>>;
+
+    ghost same_short = { refl };
+
+    fn reborrow(self) -> Bools<View<'b, u64>, View<'b, u64>> {
+        Bools {
+            values: self.values,
+            tail: self.tail,
+        }
+    }
+}
+
+impl<'x, VC: Words, TC: Words> Column for &'x Bools<VC, TC> {
+    ghost format = { bools_format };
+
+    ghost content = { λ b. bools_content VC.bytes TC.bytes b.now };
+}
+
+impl<'x, VC: Words, TC: Words> Len for &'x Bools<VC, TC> {
+    fn len(&self) -> usize {
+        count_bits(self.values.words(), self.tail.words())
+    }
+}
+
+impl<'x, VC: Words, TC: Words> Index for &'x Bools<VC, TC> {
+    type Ref = bool;
+
+    fn get(&self, index: usize) -> bool {
+        bit_at(self.values.words(), self.tail.words(), index)
     }
 }

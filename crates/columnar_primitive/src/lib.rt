@@ -2,3 +2,5 @@
 #![tactic(auto)]
 
 pub mod bools;
+#[cfg(test)]
+mod bools_tests;

@@ -1,4 +1,4 @@
-use Rattle.std.proofs.Common.{◌≡◌, ℕ, ◌+◌, ◌-◌, ◌%◌, ◌<◌, ◌≤◌, ◌∙◌, arith, ⊎_elim}
+use Rattle.std.proofs.Common.{◌-◌, ◌%◌, ◌<◌, ◌≤◌, ◌∙◌, arith, ⊎_elim}
 use Rattle.std.proofs.lemmas.Bool.{cases_lt}
 use Rattle.columnar_core.specs.WordViews.{view_bytes}
 use Rattle.columnar_primitive.specs.BoolLaws.{two_words, word_there, next_there, window_low, window_high}

@@ -1,4 +1,4 @@
-use Rattle.std.proofs.Common.{◌≡◌, refl, arith}
+use Rattle.std.proofs.Common.{refl, arith}
 use Rattle.columnar_primitive.specs.BoolLaws.{owned_bits_of, tail_more, word_more, words_grown, bools_sound}
 use Rattle.columnar_primitive.proofs.bools.Bools+Vec+u64+array+2+u64.push_bits.Goals as goal
 

@@ -297,3 +297,14 @@ number_back n (suc c) h =
 
 pub number_of : (n c : ℕ) (bs : List Bool) → n < 2 ^ c → truths (bit n) c ≡ bs → n ≡ number_of_bits bs
 number_of n c bs h e = sym (number_back n c h) ∙ ap number_of_bits e
+
+-- the lowest k bits cleared
+pub cleared_low : (n k j : ℕ) → k < 64 → j < k → bit (n / 2 ^ k * 2 ^ k % 2 ^ 64) j ≡ false
+unfolding bit
+cleared_low n k j h l = ap (λ (x : ℕ). eqb x 1) (shl_low (n / 2 ^ k) k j l (omega arith))
+
+pub cleared_high : (n k j : ℕ) → k ≤ j → j < 64 → bit (n / 2 ^ k * 2 ^ k % 2 ^ 64) j ≡ bit n j
+unfolding bit
+cleared_high n k j h l =
+    let e : k + (j - k) ≡ j = omega arith in
+    ap (λ (x : ℕ). eqb x 1) (shl_high (n / 2 ^ k) k j h l) ∙ bit_shr n k (j - k) ∙ ap (bit n) e

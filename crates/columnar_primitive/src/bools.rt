@@ -21,6 +21,8 @@ use std::ops::Range;
 
 mod bytes;
 
+pub use bytes::{judged, view_slice};
+
 /// Truth values, packed as bits, the lowest first.
 #[derive(Clone, Copy, PartialEq, Drop)]
 pub struct Bools<VC, TC> {
@@ -36,16 +38,16 @@ impl<VC: Words, TC: Words> Column for Bools<VC, TC> {
     ghost content = { bools_content VC.bytes TC.bytes };
 }
 
-// How many bits there are.
-pub(crate) fn count_bits(values: View<'_, u64>, tail: View<'_, u64>) -> usize
+/// How many bits whole words and a tail hold.
+pub fn count_bits(values: View<'_, u64>, tail: View<'_, u64>) -> usize
     requires { SoundBools (view_bytes values) (view_bytes tail) }
     ensures { result ≡ length (bits_in (view_bytes values.entry) (view_bytes tail.entry)) }
 {
     64 * word_count(values) + word_at(tail, 1) as usize
 }
 
-// Bit `index`.
-fn bit_at(values: View<'_, u64>, tail: View<'_, u64>, index: usize) -> bool
+/// Bit `index` of whole words and a tail.
+pub fn bit_at(values: View<'_, u64>, tail: View<'_, u64>, index: usize) -> bool
     requires sound { SoundBools (view_bytes values) (view_bytes tail) }
     requires in_range { index < length (bits_in (view_bytes values) (view_bytes tail)) }
     ensures { result ≡ slice_index_or (bits_in (view_bytes values.entry) (view_bytes tail.entry)) index false }

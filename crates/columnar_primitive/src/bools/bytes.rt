@@ -35,8 +35,8 @@ fn fits_tail(word: u64, count: u64) -> bool
     count < 64 && word >> count == 0
 }
 
-// Which rule do the words and the tail break first? Slices are counted from `from` on.
-fn judged(values: View<'_, u64>, tail: View<'_, u64>, from: usize) -> Result<(), StoreFault>
+/// Which rule do the words and the tail break first? Slices are counted from `from` on.
+pub fn judged(values: View<'_, u64>, tail: View<'_, u64>, from: usize) -> Result<(), StoreFault>
     requires { from + 2 < 2 ^ 64 }
     ensures { verdict result ≡ first (moved from (bools_broken (both (slice (view_bytes values.entry)) (slice (view_bytes tail.entry))))) }
 {

@@ -1,0 +1,5 @@
+pub mod Counting
+pub mod CountLaws
+pub mod CountsKept
+pub mod RankColumns
+pub mod RankLaws

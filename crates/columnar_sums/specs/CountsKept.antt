@@ -1,10 +1,10 @@
 -- Counts of a list that grows or is cut, and places.
 use Rattle.std.proofs.Common.{◌≡◌, ℕ, zero, suc, ◌+◌, ◌-◌, ◌*◌, ◌/◌, ◌%◌, ◌<◌, ◌≤◌, Bool, true, false, cond, eqb, List, [], ◌∷◌, ◌++◌, length, take, map, refl, sym, ap, ◌∙◌, subst, ⊎_elim, arith, Option, Some, None}
-use Rattle.std.specs.Prelude.{count_by, slice_index, slice_index_or, option_map}
+use Rattle.std.specs.Prelude.{count_by, slice_index, slice_index_or, option_map, IfSome, IfNone, IsNone}
 use Rattle.std.proofs.lemmas.List.{take-append-le, take_at, length_push, get_or_append_left, get_or_push, take-take, get_or-take, length-take-le}
 use Rattle.std.proofs.lemmas.Bool.{cases_lt}
 use Rattle.columnar_sums.specs.Counting.{ones, place, AreCounts}
-use Rattle.columnar_sums.specs.CountLaws.{ones_more, ones_zero, ones_true, ones_false}
+use Rattle.columnar_sums.specs.CountLaws.{place_none, ones_more, ones_zero, ones_true, ones_false}
 
 ones_front : (b ys : List Bool) (p : ℕ) → p ≤ length b → ones (b ++ ys) p ≡ ones b p
 unfolding ones
@@ -87,3 +87,32 @@ place_found (true ∷ b) (suc k) p e = moved (IsFound b k) (IsFound (true ∷ b)
 
 pub place_within : (b : List Bool) (k p : ℕ) → place b k ≡ Some p → p < length b
 place_within b k p e = (place_found b k p e).within
+
+-- no place: at most k are set
+none_of : (o : Option ℕ) → option_map suc o ≡ None → o ≡ None
+none_of None h = refl
+none_of (Some x) h = cc
+
+pub place_past : (b : List Bool) (k : ℕ) → place b k ≡ None → ones b (length b) ≤ k
+unfolding place ones
+place_past [] k e = omega arith
+place_past (false ∷ b) k e =
+    let h : ones b (length b) ≤ k = place_past b k (none_of (place b k) e) in
+    subst (λ (x : ℕ). x ≤ k) (sym (ones_false b (length b))) h
+place_past (true ∷ b) zero e = cc
+place_past (true ∷ b) (suc k) e =
+    let h : ones b (length b) ≤ k = place_past b k (none_of (place b k) e) in
+    let r : suc (ones b (length b)) ≤ suc k = omega arith in
+    subst (λ (x : ℕ). x ≤ suc k) (sym (ones_true b (length b))) r
+
+-- what a place that was found tells
+pub found_set : (b : List Bool) (k : ℕ) (o : Option ℕ) → o ≡ place b k → IfSome o (λ q. (slice_index_or b q false ≡ true) × (ones b q ≡ k))
+found_set b k None e = tt
+found_set b k (Some q) e = let f = place_found b k q (sym e) in (f.set, f.before)
+
+pub found_none : (b : List Bool) (k : ℕ) (o : Option ℕ) → o ≡ place b k → IfNone o (ones b (length b) ≤ k)
+found_none b k None e = place_past b k (sym e)
+found_none b k (Some q) e = tt
+
+pub found_past : (b : List Bool) (k : ℕ) (o : Option ℕ) → o ≡ place b k → ones b (length b) ≤ k → IsNone o
+found_past b k o e l = rw (e, place_none b k l) refl

@@ -3,3 +3,5 @@ pub mod CountLaws
 pub mod CountsKept
 pub mod RankColumns
 pub mod RankLaws
+pub mod PlaceLaws
+pub mod CursorLaws

@@ -64,11 +64,12 @@ ranked_bits r = bits_ranked (λ (v : Vec ℕ Global). bytes_of_words v.items) by
 -- ---- cursors
 
 -- where a cursor stands: the bits that it goes over, the place of the next one to look at, and the number of the word
--- that it has loaded
+-- that it has loaded; and how many counts the column has
 pub record Standing : Type 0 where
   pub bits : List Bool
   pub pos : ℕ
   pub word : ℕ
+  pub counts : ℕ
 
 -- the least place of a set bit, from pos on
 abbrev pub IsNextTrue : List Bool → ℕ → ℕ → Type 0

@@ -233,7 +233,7 @@ impl Bools<Vec<u64>, [u64; 2]> {
 
     /// Appends the bits of the range of `other`, up to 64 at a time: all of them or none. After a refusal the bits are
     /// as before. It answers Length exactly where there would be more than 2^64 - 1 bits. The turns that it takes are
-    /// added to the tally: at most one for each 16 bits, and 64.
+    /// added to the tally: at most one for each 64 bits, and one.
     pub fn extend_bits_from_tallied<V: Words, T: Words, L>(
         &mut self,
         other: &Bools<V, T>,
@@ -250,7 +250,7 @@ impl Bools<Vec<u64>, [u64; 2]> {
         ensures full { 2 ^ 64 ≤ length (owned_bits self.old) + (range.«end» - range.start) → result ≡ Err GrowError.Length }
         ensures kinds { IfErr result IsOfGrowth }
         ensures sound { IsSound bools_format (owned_content self.new) }
-        ensures turns { tally.new.turns ≤ tally.old.turns + ((range.«end» - range.start) / 16 + 64) }
+        ensures turns { tally.new.turns ≤ tally.old.turns + ((range.«end» - range.start) / 64 + 1) }
     {
         let end = range.end;
         let mut at = range.start;

@@ -5,3 +5,4 @@ pub mod RankColumns
 pub mod RankLaws
 pub mod PlaceLaws
 pub mod CursorLaws
+pub mod RankChanges

@@ -7,7 +7,9 @@ ghost use Rattle.columnar_sums.specs.Counting.{ones, place, Adds, digits};
 ghost use Rattle.columnar_sums.specs.RankColumns.{ranks_format, ranks_content, bits_ranked, IsRanked, owned_ranks, ranked_bits};
 ghost use Rattle.columnar_sums.specs.RankLaws.{ranks_lawful};
 
+mod bytes;
 mod cursor;
+mod grow;
 mod search;
 
 pub use cursor::Cursor;

@@ -1,12 +1,12 @@
 //! A cursor that goes forward over bits, and keeps the word in which it stands.
-ghost use Rattle.std.specs.Prelude.{◌≡◌, ℕ, ◌+◌, ◌-◌, ◌*◌, ◌/◌, ◌%◌, ◌<◌, ◌≤◌, ◌^◌, ◌↔◌, [], ◌∷◌, ◌++◌, length, max, min, slice_index_or, true, false, IsTrue, IfSome, IfNone, MatchOption, cond};
+ghost use Rattle.std.specs.Prelude.{◌≡◌, ℕ, ◌+◌, ◌-◌, ◌*◌, ◌/◌, ◌%◌, ◌<◌, ◌≤◌, ◌^◌, ◌↔◌, [], ◌∷◌, ◌++◌, length, max, min, slice_index_or, true, false, IsTrue, IfSome, IfNone, MatchOption};
 ghost use Rattle.std.specs.List.{range_with_len};
 ghost use Rattle.columnar_core.specs.WordViews.{words_in};
 ghost use Rattle.columnar_primitive.specs.Bits.{bit as bit_of, bit_in};
 ghost use Rattle.columnar_sums.specs.Counting.{ones, ones_below, place, Adds, digits};
 ghost use Rattle.columnar_sums.specs.RankColumns.{bits_ranked, IsRanked, IsAt, AreClear, IsNextTrue, AreFalseFrom, Standing};
 
-use super::search::ones_in;
+use super::search::{one_of, ones_in};
 use super::RankSelect;
 use columnar_core::metered::MeteredWords;
 use columnar_core::tally::Tally;
@@ -326,11 +326,4 @@ impl<'a, CC: Words, VC: Words, WC: Words> Cursor<'a, CC, VC, WC> {
     {
         self.seek_to_rank_tallied(rank, &mut Tally::new())
     }
-}
-
-// The number of set bits that a bit is.
-fn one_of(bit: bool) -> u64
-    ensures { result ≡ cond bit 1 0 }
-{
-    if bit { 1 } else { 0 }
 }

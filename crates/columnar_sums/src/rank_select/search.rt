@@ -1,5 +1,5 @@
 //! Counting and finding set bits, over metered words and counts.
-ghost use Rattle.std.specs.Prelude.{◌≡◌, ℕ, ◌+◌, ◌-◌, ◌*◌, ◌/◌, ◌%◌, ◌^◌, ◌<◌, ◌≤◌, length, slice_index, true, MatchOption, count_ones};
+ghost use Rattle.std.specs.Prelude.{◌≡◌, ℕ, ◌+◌, ◌-◌, ◌*◌, ◌/◌, ◌%◌, ◌^◌, ◌<◌, ◌≤◌, length, slice_index, true, MatchOption, count_ones, cond};
 ghost use Rattle.columnar_primitive.specs.Bits.{bit as bit_of, bit_in};
 ghost use Rattle.columnar_sums.specs.Counting.{ones_below, CountWords, count_before, Adds, digits};
 
@@ -141,4 +141,12 @@ pub(crate) fn select_in<L>(
         sum += ones;
     }
     None
+}
+
+// The number of set bits that a bit is.
+pub(crate) fn one_of(bit: bool) -> u64
+    ensures value { result ≡ cond bit 1 0 }
+    ensures small { result ≤ 1 }
+{
+    if bit { 1 } else { 0 }
 }

@@ -22,18 +22,18 @@ overflow_add-self g c =
     let a : List ℕ = g.VC.Words.bytes c.self.inside.column.now.values.values in
     let b : List ℕ = g.WC.Words.bytes c.self.inside.column.now.values.tail in
     let l : c.self.inside.place.pos < length (bits_in a b) = omega (arith, c.self.invariant.inside, c.if-place-len.false, c.len.ensures, length-ranks a b, bits_length a b) in
-    omega (arith, (stands_stepped c.self.invariant c.metered_words.ensures l c.step_in-bit.ensures.at c.step_in-bit.ensures.floor c.step_in-bit.ensures.value c.step_in-bit.ensures.pos c.one_of.ensures).fits)
+    omega (arith, (stands_stepped c.self.invariant c.metered_words.ensures l c.step_in-bit.ensures.at c.step_in-bit.ensures.floor c.step_in-bit.ensures.value c.step_in-bit.ensures.pos c.one_of.ensures.value).fits)
 
 pub invariant_of-self : goal.invariant_of-self
 invariant_of-self g c =
     let a : List ℕ = g.VC.Words.bytes c.self.inside.column.now.values.values in
     let b : List ℕ = g.WC.Words.bytes c.self.inside.column.now.values.tail in
     let l : c.self.inside.place.pos < length (bits_in a b) = omega (arith, c.self.invariant.inside, c.if-place-len.false, c.len.ensures, length-ranks a b, bits_length a b) in
-    (stands_stepped c.self.invariant c.metered_words.ensures l c.step_in-bit.ensures.at c.step_in-bit.ensures.floor c.step_in-bit.ensures.value c.step_in-bit.ensures.pos c.one_of.ensures).stands
+    (stands_stepped c.self.invariant c.metered_words.ensures l c.step_in-bit.ensures.at c.step_in-bit.ensures.floor c.step_in-bit.ensures.value c.step_in-bit.ensures.pos c.one_of.ensures.value).stands
 
 pub returns-clause-answer : goal.returns-clause-answer
 returns-clause-answer g c =
     let a : List ℕ = g.VC.Words.bytes c.self.inside.column.now.values.values in
     let b : List ℕ = g.WC.Words.bytes c.self.inside.column.now.values.tail in
     let l : c.self.inside.place.pos < length (bits_in a b) = omega (arith, c.self.invariant.inside, c.if-place-len.false, c.len.ensures, length-ranks a b, bits_length a b) in
-    rw (← c.self.view_is) (l, (stands_stepped c.self.invariant c.metered_words.ensures l c.step_in-bit.ensures.at c.step_in-bit.ensures.floor c.step_in-bit.ensures.value c.step_in-bit.ensures.pos c.one_of.ensures).value, c.step_in-bit.ensures.pos)
+    rw (← c.self.view_is) (l, (stands_stepped c.self.invariant c.metered_words.ensures l c.step_in-bit.ensures.at c.step_in-bit.ensures.floor c.step_in-bit.ensures.value c.step_in-bit.ensures.pos c.one_of.ensures.value).value, c.step_in-bit.ensures.pos)

@@ -1,0 +1,1 @@
+//! Columns of bits and counts in slices of bytes.

@@ -6,3 +6,4 @@ pub mod RankLaws
 pub mod PlaceLaws
 pub mod CursorLaws
 pub mod RankChanges
+pub mod RankBytes

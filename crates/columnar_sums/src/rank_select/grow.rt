@@ -101,7 +101,7 @@ impl Held {
         }
     }
 
-    /// As `extend_from`; the turns that it takes are added to the tally: at most one for each 16 bits, and 64.
+    /// As `extend_from_self`, of any column of bits and counts; the turns that it takes are added to the tally: at most one for each 16 bits, and 64.
     pub fn extend_ranked_tallied<C: Words, V: Words, W: Words, L>(
         &mut self,
         other: &RankSelect<C, V, W>,

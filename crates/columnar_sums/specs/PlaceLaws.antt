@@ -199,9 +199,9 @@ rest_clear ws i r p (suc n) h l m =
     let k : ones_below (bit r) n ≡ 0 = rest_clear ws i r p n h (omega arith) (omega arith) in
     rw (c, k) refl
   where
-  not_set : (b : Bool) → (b ≡ true → ⊥) → b ≡ false
-  not_set true h = absurd (h refl)
-  not_set false h = refl
+    not_set : (b : Bool) → (b ≡ true → ⊥) → b ≡ false
+    not_set true h = absurd (h refl)
+    not_set false h = refl
 
 -- how many set bits lie between
 pub ones_passed : (ws : List ℕ) (i r p q at : ℕ) → IsAt ws i r p → 64 * i ≤ p → p ≤ q → q < 64 * i + 64 → at ≡ q - 64 * i → ones_below (bit_in ws) p + ones_below (bit r) at ≡ ones_below (bit_in ws) q
@@ -213,8 +213,8 @@ ones_passed ws i r p q at h f le l e =
     let z : ones_below (bit r) d ≡ 0 = rest_clear ws i r p d h (omega arith) (omega arith) in
     let u : ones_below (bit r) (d + n) ≡ ones_below (bit r) d + ones_below (λ (j : ℕ). bit r (d + j)) n = ones_below_add (bit r) (λ (j : ℕ). bit r (d + j)) d n (λ j m. refl) in
     let v : ones_below (bit_in ws) (p + n) ≡ ones_below (bit_in ws) p + ones_below (λ (j : ℕ). bit r (d + j)) n = ones_below_add (bit_in ws) (λ (j : ℕ). bit r (d + j)) p n (λ j m.
-      let k : 64 * i + (d + j) ≡ p + j = omega arith in
-      sym (h.same (d + j) (omega arith) (omega arith) ∙ ap (bit_in ws) k)) in
+    let k : 64 * i + (d + j) ≡ p + j = omega arith in
+    sym (h.same (d + j) (omega arith) (omega arith) ∙ ap (bit_in ws) k)) in
     let w : ones_below (bit r) at ≡ ones_below (λ (j : ℕ). bit r (d + j)) n = sym (ap (ones_below (bit r)) ed) ∙ u ∙ (rw z (omega arith)) in
     rw w (sym v ∙ ap (ones_below (bit_in ws)) eq)
 
@@ -225,16 +225,17 @@ adds_twice a b m n x y z p q =
     let lx : length x.words ≤ length y.words = kept_longer x.words y.words p.2 in
     (omega (arith, p.0, q.0), omega arith, front_kept x.words y.words z.words p.2 q.2 lx)
   where
-  kept_longer : (xs ys : List ℕ) → take (length xs) ys ≡ xs → length xs ≤ length ys
-  kept_longer [] ys h = omega arith
-  kept_longer (x ∷ xs) [] h = cc
-  kept_longer (x ∷ xs) (y ∷ ys) h = let e : take (length xs) ys ≡ xs = cc in let k = kept_longer xs ys e in omega arith
-  front_kept : (xs ys zs : List ℕ) → take (length xs) ys ≡ xs → take (length ys) zs ≡ ys → length xs ≤ length ys → take (length xs) zs ≡ xs
-  front_kept [] ys zs p q l = refl
-  front_kept (x ∷ xs) [] zs p q l = cc
-  front_kept (x ∷ xs) (y ∷ ys) [] p q l = cc
-  front_kept (x ∷ xs) (y ∷ ys) (z ∷ zs) p q l =
-      let e : take (length xs) ys ≡ xs = cc in let f : take (length ys) zs ≡ ys = cc in
-      let g : x ≡ y = cc in let i : y ≡ z = cc in
-      let k = front_kept xs ys zs e f (omega arith) in
-      ap₂ (λ (u : ℕ) (v : List ℕ). u ∷ v) (sym i ∙ sym g) k
+    kept_longer : (xs ys : List ℕ) → take (length xs) ys ≡ xs → length xs ≤ length ys
+    kept_longer [] ys h = omega arith
+    kept_longer (x ∷ xs) [] h = cc
+    kept_longer (x ∷ xs) (y ∷ ys) h = let e : take (length xs) ys ≡ xs = cc in let k = kept_longer xs ys e in omega arith
+
+    front_kept : (xs ys zs : List ℕ) → take (length xs) ys ≡ xs → take (length ys) zs ≡ ys → length xs ≤ length ys → take (length xs) zs ≡ xs
+    front_kept [] ys zs p q l = refl
+    front_kept (x ∷ xs) [] zs p q l = cc
+    front_kept (x ∷ xs) (y ∷ ys) [] p q l = cc
+    front_kept (x ∷ xs) (y ∷ ys) (z ∷ zs) p q l =
+        let e : take (length xs) ys ≡ xs = cc in let f : take (length ys) zs ≡ ys = cc in
+        let g : x ≡ y = cc in let i : y ≡ z = cc in
+        let k = front_kept xs ys zs e f (omega arith) in
+        ap₂ (λ (u : ℕ) (v : List ℕ). u ∷ v) (sym i ∙ sym g) k

@@ -49,8 +49,8 @@ pub wrong_count : {a b : List ℕ} (cs : List ℕ) (at sum : ℕ) → SoundBools
 unfolding CountWords
 wrong_count {a} {b} cs at sum s l m e h o =
     counts_differ a b cs (λ k.
-      let q : 1024 * (at / 16 + 1) ≡ 64 * (at + 1) = omega arith in
-      h (counts_in_words a b cs s.few k (at / 16) (omega arith) ∙ ap (ones_below (bit_in (bit_words a b))) q ∙ sym o))
+    let q : 1024 * (at / 16 + 1) ≡ 64 * (at + 1) = omega arith in
+    h (counts_in_words a b cs s.few k (at / 16) (omega arith) ∙ ap (ones_below (bit_in (bit_words a b))) q ∙ sym o))
 
 -- the first broken rule
 pub ranks_bad_size : (c a b : List ℕ) (o : ℕ) → (length c % 8 ≡ 0 → ⊥) → Some (fault 8 o) ≡ first (moved o (ranks_broken (both (slice c) (both (slice a) (slice b)))))

@@ -110,10 +110,12 @@ unfolding CountWords AreCounts
 counts_so_far {c} {a} {b} a' b' cs s e =
     let h = s.are_counts in
     let n = h.0 in
-    let l : length (bits_in a' b') ≡ length (bits_in a b) + length cs = rw e (length-append (bits_in a b) cs) in
-    (λ i k.
-      let m : 1024 * (i + 1) ≤ length (bits_in a b) = omega arith in
-      h.1 i k ∙ sym (ones_front (bits_in a b) cs (1024 * (i + 1)) m) ∙ ap (λ (x : List Bool). ones x (1024 * (i + 1))) (sym e) ∙ ones_bits a' b' (1024 * (i + 1)) (omega arith), n)
+    let l : length (bits_in a' b') ≡ length (bits_in a b) + length cs = rw e (length-append (bits_in a b) cs) in (
+      λ i k.
+          let m : 1024 * (i + 1) ≤ length (bits_in a b) = omega arith in
+          h.1 i k ∙ sym (ones_front (bits_in a b) cs (1024 * (i + 1)) m) ∙ ap (λ (x : List Bool). ones x (1024 * (i + 1))) (sym e) ∙ ones_bits a' b' (1024 * (i + 1)) (omega arith),
+      n,
+    )
 
 pub counts_complete : (a b cs : List ℕ) → CountWords (bit_words a b) cs → length cs ≡ length (bits_in a b) / 1024 → AreCounts (bits_in a b) cs
 unfolding CountWords AreCounts
@@ -144,9 +146,9 @@ sum_start ws cs n h e = count_before_is ws cs n h (omega arith) ∙ ap (ones_bel
 pub counts_differ : (a b cs : List ℕ) → (AreCounts (bits_in a b) cs → ⊥) → numbers_eq cs (counts_of (bits_in a b)) ≡ false
 counts_differ a b cs h = not_true (numbers_eq cs (counts_of (bits_in a b))) (λ e. h (counts_from (bits_in a b) cs e))
   where
-  not_true : (b : Bool) → (b ≡ true → ⊥) → b ≡ false
-  not_true true h = absurd (h refl)
-  not_true false h = refl
+    not_true : (b : Bool) → (b ≡ true → ⊥) → b ≡ false
+    not_true true h = absurd (h refl)
+    not_true false h = refl
 
 -- one pushed and taken back
 pub items_back : (xs ys zs : List ℕ) (n k : ℕ) → ys ≡ xs ++ n ∷ [] → zs ≡ take k ys → k ≡ length xs → zs ≡ xs

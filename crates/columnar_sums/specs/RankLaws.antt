@@ -118,8 +118,8 @@ ranks_full x s =
     let p : SoundRanks f.counts f.values f.tail = ranks_parts (rw f.is at s) in
     rw f.is (full_of p)
   where
-  full_of : {c a b : List ℕ} → SoundRanks c a b → 8 * (length (map truth (bits_in a b)) / 1024) ∷ 8 * (length (map truth (bits_in a b)) / 64) ∷ 16 ∷ [] ≡ length c ∷ length a ∷ length b ∷ []
-  full_of {c} {a} {b} p = rw (length-ranks a b, bytes_of_counts p, words_of_bits p.bools, p.bools.two) refl
+    full_of : {c a b : List ℕ} → SoundRanks c a b → 8 * (length (map truth (bits_in a b)) / 1024) ∷ 8 * (length (map truth (bits_in a b)) / 64) ∷ 16 ∷ [] ≡ length c ∷ length a ∷ length b ∷ []
+    full_of {c} {a} {b} p = rw (length-ranks a b, bytes_of_counts p, words_of_bits p.bools, p.bools.two) refl
 
 ranks_counted : (x : Content) → IsSound ranks_format x → length (slices_of x) ≡ 3
 ranks_counted x s = let f = ranks_form x s in rw f.is refl

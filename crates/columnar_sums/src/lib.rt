@@ -2,3 +2,5 @@
 #![tactic(auto)]
 
 pub mod rank_select;
+#[cfg(test)]
+mod rank_tests;

@@ -12,16 +12,13 @@ mod cursor;
 mod grow;
 mod search;
 
-pub use cursor::Cursor;
-pub use cursor::Cursor as RankSelectCursor;
-
-
 use columnar_core::fault::GrowError;
 use columnar_core::metered::{MeteredCounts, MeteredWords};
 use columnar_core::tally::Tally;
 use columnar_core::traits::{Column, Index, Len};
 use columnar_core::words::Words;
 use columnar_primitive::bools::{Bools, bit_at, count_bits};
+pub use cursor::{Cursor, Cursor as RankSelectCursor};
 use search::{rank_in, select_in};
 
 /// Truth values, and how many are set up to the end of each 1024 of them.

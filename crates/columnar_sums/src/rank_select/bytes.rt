@@ -33,7 +33,12 @@ fn is_count(counts: View<'_, u64>, at: usize, sum: u64) -> bool
 }
 
 // Are there just the counts of the bits? A turn for each word.
-fn counts_right<L>(counts: View<'_, u64>, values: View<'_, u64>, tail: View<'_, u64>, tally: &mut Tally<L>) -> bool
+fn counts_right<L>(
+    counts: View<'_, u64>,
+    values: View<'_, u64>,
+    tail: View<'_, u64>,
+    tally: &mut Tally<L>,
+) -> bool
     requires { SoundBools (view_bytes values) (view_bytes tail) }
     ensures value { result ≡ numbers_eq (view_words counts.entry) (counts_of (bits_in (view_bytes values.entry) (view_bytes tail.entry))) }
     ensures turns { tally.new.turns ≤ tally.old.turns + length (view_words values.entry) }
@@ -54,7 +59,13 @@ fn counts_right<L>(counts: View<'_, u64>, values: View<'_, u64>, tail: View<'_, 
 }
 
 // Which rule do the counts, the words and the tail break first? Slices are counted from `from` on.
-fn judged_ranks<L>(counts: View<'_, u64>, values: View<'_, u64>, tail: View<'_, u64>, from: usize, tally: &mut Tally<L>) -> Result<(), StoreFault>
+fn judged_ranks<L>(
+    counts: View<'_, u64>,
+    values: View<'_, u64>,
+    tail: View<'_, u64>,
+    from: usize,
+    tally: &mut Tally<L>,
+) -> Result<(), StoreFault>
     requires { from + 3 < 2 ^ 64 }
     ensures exact { verdict result ≡ first (moved from (ranks_broken (both (slice (view_bytes counts.entry)) (both (slice (view_bytes values.entry)) (slice (view_bytes tail.entry)))))) }
     ensures turns { tally.new.turns ≤ tally.old.turns + 4 * (length (view_bytes counts.entry) + (length (view_bytes values.entry) + length (view_bytes tail.entry))) }
@@ -66,7 +77,10 @@ fn judged_ranks<L>(counts: View<'_, u64>, values: View<'_, u64>, tail: View<'_, 
         Ok(()) => {}
         Err(fault) => return Err(fault),
     }
-    if counts_right(counts, values, tail, tally) { Ok(()) } else { Err(StoreFault::Counts(from)) }
+    if !counts_right(counts, values, tail, tally) {
+        return Err(StoreFault::Counts(from));
+    }
+    Ok(())
 }
 
 impl<CC: Words, VC: Words, WC: Words> Stored for RankSelect<CC, VC, WC> {
@@ -93,7 +107,11 @@ impl<CC: Words, VC: Words, WC: Words> Stored for RankSelect<CC, VC, WC> {
         }
     }
 
-    fn judge_tallied<L>(store: &DecodedStore<'_>, offset: usize, tally: &mut Tally<L>) -> Result<(), StoreFault> {
+    fn judge_tallied<L>(
+        store: &DecodedStore<'_>,
+        offset: usize,
+        tally: &mut Tally<L>,
+    ) -> Result<(), StoreFault> {
         let counts = View::from_le_bytes(store.get(offset));
         let values = View::from_le_bytes(store.get(offset + 1));
         let tail = View::from_le_bytes(store.get(offset + 2));
@@ -112,7 +130,13 @@ impl<CC: Words, VC: Words, WC: Words> Stored for RankSelect<CC, VC, WC> {
 
 impl<CC: Words, VC: Words, WC: Words> Check for RankSelect<CC, VC, WC> {
     fn check_from_tallied<L>(&self, from: usize, tally: &mut Tally<L>) -> Result<(), StoreFault> {
-        match judged_ranks(self.counts.words(), self.values.values.words(), self.values.tail.words(), from, tally) {
+        match judged_ranks(
+            self.counts.words(),
+            self.values.values.words(),
+            self.values.tail.words(),
+            from,
+            tally,
+        ) {
             Ok(()) => Ok(()),
             Err(fault) => Err(fault),
         }

@@ -6,8 +6,8 @@ ghost use Rattle.columnar_primitive.specs.Bits.{bit as bit_of, bit_in};
 ghost use Rattle.columnar_sums.specs.Counting.{ones, ones_below, place, Adds, digits};
 ghost use Rattle.columnar_sums.specs.RankColumns.{bits_ranked, IsRanked, IsAt, AreClear, IsNextTrue, AreFalseFrom, Standing};
 
-use super::search::{one_of, ones_in};
 use super::RankSelect;
+use super::search::{one_of, ones_in};
 use columnar_core::metered::MeteredWords;
 use columnar_core::tally::Tally;
 use columnar_core::traits::Len;
@@ -165,7 +165,10 @@ impl<'a, CC: Words, VC: Words, WC: Words> Model for Cursor<'a, CC, VC, WC> {
 
 impl<'a, CC: Words, VC: Words, WC: Words> Cursor<'a, CC, VC, WC> {
     // Before the first bit, with word 0 loaded.
-    pub(crate) fn new<L>(column: &'a RankSelect<CC, VC, WC>, tally: &mut Tally<L>) -> Cursor<'a, CC, VC, WC>
+    pub(crate) fn new<L>(
+        column: &'a RankSelect<CC, VC, WC>,
+        tally: &mut Tally<L>,
+    ) -> Cursor<'a, CC, VC, WC>
         requires { IsRanked CC.bytes VC.bytes WC.bytes column.now }
         ensures stands { result ≡ record { bits = bits_ranked VC.bytes WC.bytes column.now; pos = 0; word = 0; counts = length (words_in (CC.bytes column.now.counts)) } }
         ensures loads { tally.new.words ≡ tally.old.words ++ 0 ∷ [] }

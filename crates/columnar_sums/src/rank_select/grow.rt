@@ -31,11 +31,20 @@ fn count_behind(counts: View<'_, u64>, chunk: usize) -> u64
     requires { chunk ≤ length (view_words counts) }
     ensures { result ≡ count_before (view_words counts.entry) chunk }
 {
-    if chunk == 0 { 0 } else { word_at(counts, chunk - 1) }
+    if chunk == 0 {
+        0
+    } else {
+        word_at(counts, chunk - 1)
+    }
 }
 
 // Appends a count for each chunk of words that is complete and has none; all or none.
-fn count_on<L>(counts: &mut Vec<u64>, values: View<'_, u64>, tail: View<'_, u64>, tally: &mut Tally<L>) -> Result<(), GrowError>
+fn count_on<L>(
+    counts: &mut Vec<u64>,
+    values: View<'_, u64>,
+    tail: View<'_, u64>,
+    tally: &mut Tally<L>,
+) -> Result<(), GrowError>
     requires exact { CountWords (bit_words (view_bytes values) (view_bytes tail)) (words_in (bytes_of_words counts.old.items)) }
     requires within { length counts.old.items ≤ length (view_words values) / 16 }
     requires tail { 0 < length (view_words tail) }
@@ -121,11 +130,19 @@ impl Held {
         ensures turns { tally.new.turns ≤ tally.old.turns + ((range.«end» - range.start) / 16 + 64) }
     {
         let start = self.values.len();
-        match self.values.extend_bits_from_tallied(&other.values, range, tally) {
+        match self
+            .values
+            .extend_bits_from_tallied(&other.values, range, tally)
+        {
             Ok(()) => {}
             Err(error) => return Err(error),
         }
-        match count_on(&mut self.counts, self.values.values.words(), self.values.tail.words(), tally) {
+        match count_on(
+            &mut self.counts,
+            self.values.values.words(),
+            self.values.tail.words(),
+            tally,
+        ) {
             Ok(()) => Ok(()),
             Err(error) => {
                 self.values.truncate(start);

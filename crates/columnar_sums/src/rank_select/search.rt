@@ -17,11 +17,7 @@ pub(crate) fn ones_in(word: u64, count: u64) -> u64
 
 // The count before a chunk.
 #[tactic(auto, using(crate::specs::CountLaws::count_before_none, crate::specs::CountLaws::count_before_some))]
-fn ones_before<L>(
-    counts: &MeteredCounts<'_, L>,
-    chunk: usize,
-    tally: &mut Tally<L>,
-) -> u64
+fn ones_before<L>(counts: &MeteredCounts<'_, L>, chunk: usize, tally: &mut Tally<L>) -> u64
     requires { chunk ≤ length counts.now }
     ensures value { result ≡ count_before counts.now chunk }
     ensures counts { tally.new.counts ≤ tally.old.counts + 1 }
@@ -86,11 +82,7 @@ fn place_in_word(word: u64, rank: u64) -> u64
 
 #[tactic(auto, using(crate::specs::CountLaws::digits_from))]
 // The first chunk with more than `rank` trues up to its end, by binary search.
-fn find_chunk<L>(
-    counts: &MeteredCounts<'_, L>,
-    rank: u64,
-    tally: &mut Tally<L>,
-) -> usize
+fn find_chunk<L>(counts: &MeteredCounts<'_, L>, rank: u64, tally: &mut Tally<L>) -> usize
     ensures within { result ≤ length counts.now }
     ensures below { count_before counts.now result ≤ rank }
     ensures above { result < length counts.now → rank < slice_index counts.now result }

@@ -41,7 +41,7 @@ loop-at-preserved g c =
     record {
       sum = e;
       counted = elim c.if-at-eq15.branch [
-          then-at-eq15+in-Ok w ↦ counted_end s i.counted (omega (arith, i.counted.many, i.from)) w.if-at-eq15.true e f (ap (λ v. v.items) w.counts-is ∙ w.in-Ok.ensures.items)
+        | then-at-eq15+in-Ok w ↦ counted_end s i.counted (omega (arith, i.counted.many, i.from)) w.if-at-eq15.true e f (ap (λ v. v.items) w.counts-is ∙ w.in-Ok.ensures.items)
         | else-at-eq15 w ↦ counted_within i.counted w.if-at-eq15.false (ap (λ v. v.items) w.counts-is)
       ];
       from = omega (arith, i.from);

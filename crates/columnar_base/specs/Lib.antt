@@ -22,3 +22,6 @@ pub mod Tuples
 pub mod TupleLaws
 pub mod Rules
 pub mod LongTuples
+pub mod WordViews
+pub mod WordViewLaws
+pub mod OptionRows

@@ -5,11 +5,14 @@
 mod borrowed;
 pub mod element;
 pub mod fault;
+pub mod metered;
 pub mod slice;
 pub mod storage;
 pub mod tally;
 pub mod traits;
+pub mod truth;
 pub mod tuple;
 pub mod values;
 pub mod vector;
 pub mod view;
+pub mod words;

@@ -8,7 +8,7 @@ use Rattle.columnar_base.specs.Elements.{elements, elements_rows}
 use Rattle.columnar_base.specs.ElementLaws.{IsElement, rows_typed}
 use Rattle.columnar_base.specs.ChangeLaws.{slice_get-drop, take-suc_get}
 
-map_drop : {A B : Type 0} (f : A → B) (n : ℕ) (xs : List A) → drop n (map f xs) ≡ map f (drop n xs)
+pub map_drop : {A B : Type 0} (f : A → B) (n : ℕ) (xs : List A) → drop n (map f xs) ≡ map f (drop n xs)
 map_drop f zero xs = refl
 map_drop f (suc n) [] = refl
 map_drop f (suc n) (x ∷ xs) = map_drop f n xs

@@ -18,4 +18,4 @@ pub mod viewed;
 pub mod words;
 pub mod writer;
 
-pub use columnar_base::{element, fault, tally, traits, view};
+pub use columnar_base::{element, fault, metered, tally, traits, truth, view};

@@ -12,6 +12,7 @@ use crate::store::DecodedStore;
 use columnar_base::tally::Tally;
 use columnar_base::traits::{Column, Index, Len};
 use columnar_base::view::View;
+pub use columnar_base::words::{Words, byte_count, word_at, word_count};
 
 // As `rises_to` of a column of numbers: reads them one by one, a turn for each.
 fn rises_by_reading<C: Index<Ref = u64>, L>(column: &C, end: u64, tally: &mut Tally<L>) -> bool

@@ -18,3 +18,8 @@ pub mod Stride
 pub mod StrideLaws
 pub mod Tried
 pub mod TriedLaws
+pub mod Bits
+pub mod BitLaws
+pub mod BoolColumns
+pub mod BoolLaws
+pub mod BoolBytes

@@ -1,6 +1,9 @@
-//! Columns of the values of the language: numbers by other names, characters, durations, units and offsets.
+//! Columns of the values of the language: numbers by other names, characters, durations, units, truth values and offsets.
 #![tactic(auto)]
 
+pub mod bools;
+#[cfg(test)]
+mod bools_tests;
 pub mod chars;
 pub mod codes;
 pub mod count;

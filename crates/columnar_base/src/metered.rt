@@ -1,0 +1,127 @@
+//! Views of words that count what is read of them.
+//!
+//! A body that is generic in `L` and is handed metered views and a `Tally<L>` can read nothing uncounted: it has no
+//! other way to the words, and it can't make a tally of that name.
+ghost use Rattle.std.specs.Prelude.{◌≡◌, ℕ, ◌<◌, ◌≤◌, ◌+◌, ◌^◌, List, [], ◌∷◌, ◌++◌, length, slice_index};
+ghost use Rattle.columnar_base.specs.WordViews.{bit_words, view_bytes, view_words};
+
+use crate::tally::Tally;
+use crate::view::View;
+use crate::words::{word_at, word_count};
+use std::marker::{Model, PhantomData};
+
+/// A list of counts. A read of one is noted as a count.
+#[derive(Drop)]
+pub struct MeteredCounts<'a, L> {
+    counts: View<'a, u64>,
+    of: PhantomData<L>,
+}
+
+impl<'a, L> Model for MeteredCounts<'a, L> {
+    ghost use Rattle.std.specs.Prelude.{ℕ, List};
+    ghost use Rattle.columnar_base.specs.WordViews.{view_words};
+
+    ghost Value = { List ℕ };
+
+    ghost view = { λ m. view_words m.counts };
+}
+
+impl<'a, L> MeteredCounts<'a, L> {
+    /// The counts of the view.
+    pub fn new(counts: View<'a, u64>) -> MeteredCounts<'a, L>
+        ensures { result ≡ view_words counts.entry }
+    {
+        MeteredCounts {
+            counts,
+            of: PhantomData,
+        }
+    }
+
+    /// How many counts there are.
+    pub fn len(&self) -> usize
+        ensures count { result ≡ length self.now }
+        ensures short { result < 2 ^ 61 }
+    {
+        word_count(self.counts)
+    }
+
+    /// Count `index`, noted in the tally.
+    pub fn read(&self, index: usize, tally: &mut Tally<L>) -> u64
+        requires { index < length self.now }
+        ensures value { result ≡ slice_index self.now index }
+        ensures counts { tally.new.counts ≡ tally.old.counts + 1 }
+        ensures words { tally.new.words ≡ tally.old.words }
+        ensures turns { tally.new.turns ≡ tally.old.turns }
+    {
+        tally.count();
+        word_at(self.counts, index)
+    }
+}
+
+/// The words of bits: whole words, and behind them the tail's first word. A read of one is noted as a word, with its
+/// number.
+#[derive(Drop)]
+pub struct MeteredWords<'a, L> {
+    values: View<'a, u64>,
+    tail: View<'a, u64>,
+    of: PhantomData<L>,
+}
+
+impl<'a, L> Model for MeteredWords<'a, L> {
+    ghost use Rattle.std.specs.Prelude.{ℕ, List, ◌<◌, length};
+    ghost use Rattle.columnar_base.specs.WordViews.{bit_words, view_bytes, view_words};
+
+    ghost Value = { List ℕ };
+
+    ghost view = { λ m. bit_words (view_bytes m.values) (view_bytes m.tail) };
+
+    ghost invariant = { λ m. 0 < length (view_words m.tail) };
+}
+
+impl<'a, L> MeteredWords<'a, L> {
+    /// The words of `values`, and behind them the first of `tail`. Asks that the tail has one.
+    pub fn new(values: View<'a, u64>, tail: View<'a, u64>) -> MeteredWords<'a, L>
+        requires { 0 < length (view_words tail) }
+        ensures { result ≡ bit_words (view_bytes values.entry) (view_bytes tail.entry) }
+    {
+        MeteredWords {
+            values,
+            tail,
+            of: PhantomData,
+        }
+    }
+
+    /// How many words there are, the tail's one too.
+    pub fn len(&self) -> usize
+        ensures count { result ≡ length self.now }
+        ensures short { result ≤ 2 ^ 61 }
+    {
+        let values = self.values;
+        word_count(values) + 1
+    }
+
+    /// Word `index`, noted in the tally.
+    pub fn read(&self, index: usize, tally: &mut Tally<L>) -> u64
+        requires { index < length self.now }
+        ensures value { result ≡ slice_index self.now index }
+        ensures words { tally.new.words ≡ tally.old.words ++ index ∷ [] }
+        ensures counts { tally.new.counts ≡ tally.old.counts }
+        ensures turns { tally.new.turns ≡ tally.old.turns }
+    {
+        tally.word(index as u64);
+        word_or_tail(self.values, self.tail, index)
+    }
+}
+
+/// Word `index` of whole words with the tail's first word behind them.
+pub fn word_or_tail(values: View<'_, u64>, tail: View<'_, u64>, index: usize) -> u64
+    requires tail { 0 < length (view_words tail) }
+    requires in_range { index < length (bit_words (view_bytes values) (view_bytes tail)) }
+    ensures { result ≡ slice_index (bit_words (view_bytes values.entry) (view_bytes tail.entry)) index }
+{
+    if index < word_count(values) {
+        word_at(values, index)
+    } else {
+        word_at(tail, 0)
+    }
+}

@@ -1,0 +1,18 @@
+//! Truth values and options as rows.
+ghost use Rattle.std.specs.Prelude.{ℕ};
+ghost use Rattle.columnar_base.specs.Row.{truth};
+ghost use Rattle.columnar_base.specs.OptionRows.{option_row, option_valid};
+
+use crate::traits::Item;
+
+impl Item for bool {
+    ghost meaning = { λ b. truth b };
+
+    ghost valid = { λ b. Unit {0} };
+}
+
+impl<T: Item> Item for Option<T> {
+    ghost meaning = { option_row T.meaning };
+
+    ghost valid = { option_valid T.valid };
+}

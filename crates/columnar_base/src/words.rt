@@ -1,0 +1,71 @@
+//! Words of 64 bits, read by their number: from a `Vec`, an array or a view of them.
+ghost use Rattle.std.specs.Prelude.{◌≡◌, ℕ, ◌^◌, ◌<◌, List, length, slice_index};
+ghost use Rattle.columnar_base.specs.WordViews.{words_in, bytes_of_words, view_bytes, view_words};
+
+use crate::view::{Items, View, element_at, element_in};
+
+/// A list of words that can be viewed.
+pub trait Words {
+    // the bytes of the words, each lowest first
+    ghost bytes: { Self → List ℕ };
+
+    /// The view of the words. Needs no memory.
+    fn words(&self) -> View<'_, u64>
+        ensures { view_bytes result ≡ bytes self.now };
+}
+
+impl Words for Vec<u64> {
+    ghost bytes = { λ v. bytes_of_words v.items };
+
+    fn words(&self) -> View<'_, u64> {
+        View::from_slice(self.as_slice())
+    }
+}
+
+impl Words for [u64; 2] {
+    ghost bytes = { λ words. bytes_of_words words };
+
+    fn words(&self) -> View<'_, u64> {
+        View::from_slice(self)
+    }
+}
+
+impl<'v> Words for View<'v, u64> {
+    ghost bytes = { λ v. view_bytes v };
+
+    fn words(&self) -> View<'_, u64> {
+        *self
+    }
+}
+
+/// How many bytes the words of the view have, those of a last broken word included.
+pub fn byte_count(view: View<'_, u64>) -> usize
+    ensures { result ≡ length (view_bytes view.entry) }
+{
+    match view.items() {
+        Items::Typed(items) => 8 * items.len(),
+        Items::Bytes(bytes) => bytes.len(),
+    }
+}
+
+/// How many words the view has, a last broken one not counted.
+pub fn word_count(view: View<'_, u64>) -> usize
+    ensures count { result ≡ length (view_words view.entry) }
+    ensures short { result < 2 ^ 61 }
+{
+    match view.items() {
+        Items::Typed(items) => items.len(),
+        Items::Bytes(bytes) => bytes.len() / 8,
+    }
+}
+
+/// Word `index` of the view. Asks that the view has it.
+pub fn word_at(view: View<'_, u64>, index: usize) -> u64
+    requires { index < length (view_words view) }
+    ensures { result ≡ slice_index (view_words view.entry) index }
+{
+    match view.items() {
+        Items::Typed(items) => element_at(items, index),
+        Items::Bytes(bytes) => element_in(bytes, index),
+    }
+}

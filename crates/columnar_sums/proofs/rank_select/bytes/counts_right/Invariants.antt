@@ -1,0 +1,14 @@
+use Rattle.std.proofs.Common.{◌≡◌, ◌+◌, ◌*◌, ◌/◌, ◌<◌, length}
+use Rattle.columnar_core.specs.WordViews.{bit_words, view_bytes, view_words}
+use Rattle.columnar_primitive.specs.Bits.{bit_in}
+use Rattle.columnar_sums.specs.Counting.{ones_below}
+use Rattle.columnar_sums.specs.RankBytes.{AreRight}
+use Rattle.columnar_sums.proofs.rank_select.bytes.counts_right.Given as goal
+
+abbrev pub invariant-loop-at : goal.invariant-loop-at
+invariant-loop-at g l =
+    record {
+      sum : l.sum ≡ ones_below (bit_in (bit_words (view_bytes l.values) (view_bytes l.tail))) (64 * l.at);
+      right : AreRight (bit_words (view_bytes l.values) (view_bytes l.tail)) (view_words l.counts) (l.at / 16);
+      turns : l.tally.turns ≡ l.fn.tally.turns + l.at;
+    }

@@ -1,0 +1,15 @@
+use Rattle.std.proofs.Common.{◌≡◌, ◌+◌, ◌*◌, ◌≤◌}
+use Rattle.columnar_core.specs.WordViews.{bit_words, view_bytes}
+use Rattle.columnar_primitive.specs.Bits.{bit_in}
+use Rattle.columnar_sums.specs.Counting.{ones_below}
+use Rattle.columnar_sums.specs.RankChanges.{CountedTo}
+use Rattle.columnar_sums.proofs.rank_select.grow.count_on.Given as goal
+
+abbrev pub invariant-loop-at : goal.invariant-loop-at
+invariant-loop-at g l =
+    record {
+      sum : l.sum ≡ ones_below (bit_in (bit_words (view_bytes l.values) (view_bytes l.tail))) (64 * l.at);
+      counted : CountedTo (bit_words (view_bytes l.values) (view_bytes l.tail)) l.fn.counts.items l.counts.items l.before l.at;
+      from : 16 * l.before ≤ l.at;
+      turns : l.tally.turns + 16 * l.before ≡ l.fn.tally.turns + l.at;
+    }

@@ -1,0 +1,20 @@
+use Rattle.std.proofs.Common.{◌≡◌, ◌+◌, ◌-◌, ◌*◌, ◌^◌, ◌<◌, ◌≤◌, length}
+use Rattle.std.specs.Prelude.{slice_index}
+use Rattle.columnar_sums.specs.Counting.{count_before}
+use Rattle.columnar_sums.proofs.rank_select.search.find_chunk.Given as goal
+
+abbrev pub invariant-loop-low : goal.invariant-loop-low
+invariant-loop-low g l =
+    record {
+      order : l.low ≤ l.high;
+      within : l.high ≤ length l.counts;
+      below : count_before l.counts l.low ≤ l.rank;
+      above : l.high < length l.counts → l.rank < slice_index l.counts l.high;
+      more : l.fn.tally.counts ≤ l.tally.counts;
+      shrinks : 2 ^ (l.tally.counts - l.fn.tally.counts) * (l.high - l.low) ≤ length l.counts;
+      cost : 2 ^ (l.tally.counts - l.fn.tally.counts) ≤ 2 * length l.counts + 1;
+      words : l.tally.words ≡ l.fn.tally.words;
+    }
+
+abbrev pub decreases-loop-low : goal.decreases-loop-low
+decreases-loop-low g l = l.high - l.low

@@ -1,0 +1,17 @@
+use Rattle.std.proofs.Common.{◌≡◌, ◌+◌, ◌/◌, ◌^◌, ◌<◌, ◌≤◌}
+use Rattle.columnar_primitive.specs.Bits.{bit}
+use Rattle.columnar_sums.specs.Counting.{ones_below}
+use Rattle.columnar_sums.proofs.rank_select.search.place_in_word.Given as goal
+
+abbrev pub invariant-loop-level : goal.invariant-loop-level
+invariant-loop-level l =
+    record {
+      rest : l.rest ≡ l.word / 2 ^ l.place;
+      left : l.left < ones_below (bit l.rest) (2 ^ l.level);
+      before : l.left + ones_below (bit l.word) l.place ≡ l.rank;
+      level : l.level ≤ 6;
+      within : l.place + 2 ^ l.level ≤ 64;
+    }
+
+abbrev pub decreases-loop-level : goal.decreases-loop-level
+decreases-loop-level l = l.level

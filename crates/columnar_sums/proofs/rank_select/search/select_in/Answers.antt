@@ -1,0 +1,26 @@
+use Rattle.std.proofs.Common.{◌≡◌, ℕ, ◌*◌, ◌∙◌, ap, length, take, arith}
+use Rattle.std.proofs.lemmas.List.{take_all}
+use Rattle.columnar_primitive.specs.Bits.{bit_in}
+use Rattle.columnar_sums.specs.Counting.{ones_below}
+use Rattle.columnar_sums.specs.CountLaws.{count_before_is, found_in, none_left}
+use Rattle.columnar_sums.proofs.rank_select.search.select_in.Goals as goal
+
+pub loop-at-init : goal.loop-at-init
+loop-at-init g c =
+    let chunk : ℕ = c.find_chunk-chunk.result in
+    record {
+      sum = c.ones_before-sum.ensures.value ∙ count_before_is _ _ chunk c.requires.exact (omega arith) ∙ ap (ones_below (bit_in c.args.words.now)) (let e : 1024 * chunk ≡ 64 * (16 * chunk) = omega arith in e);
+      below = omega arith;
+      counts = omega arith;
+      words = omega (arith, ap length c.ones_before-sum.ensures.words, ap length c.find_chunk-chunk.ensures.words);
+      kept = ap (take (length c.args.tally.now.words)) (c.ones_before-sum.ensures.words ∙ c.find_chunk-chunk.ensures.words) ∙ take_all _ _ (omega arith);
+    }
+
+pub returns-then-rank-sum-clause-value : goal.returns-then-rank-sum-clause-value
+returns-then-rank-sum-clause-value g c =
+    let f = found_in c.args.words.now c.loop-at.at c.read-word.result c.place_in_word.result c.loop-at.sum c.args.rank c.read-word.ensures.value c.place_in_word.ensures.within c.place_in_word.ensures.set c.place_in_word.ensures.before c.loop-at.invariant.below c.loop-at.invariant.sum in
+    (omega arith, f.0, f.1)
+
+pub returns-clause-value : goal.returns-clause-value
+returns-clause-value g c =
+    none_left c.args.words.now c.args.counts.now c.args.rank c.find_chunk-chunk.result c.loop-at.at c.loop-at.sum c.min-end.result c.requires.exact (omega arith) c.requires.enough c.find_chunk-chunk.ensures.within c.find_chunk-chunk.ensures.above (omega arith) (omega arith) c.loop-at.invariant.sum c.loop-at.invariant.below

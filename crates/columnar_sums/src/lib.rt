@@ -1,0 +1,6 @@
+//! Columns of sums: bits that are counted, and rows that may be absent.
+#![tactic(auto)]
+
+pub mod rank_select;
+#[cfg(test)]
+mod rank_tests;

@@ -1,0 +1,131 @@
+//! Truth values with counts of the trues before a place.
+ghost use Rattle.std.specs.Prelude.{◌≡◌, ℕ, ◌+◌, ◌-◌, ◌*◌, ◌/◌, ◌%◌, ◌^◌, ◌<◌, ◌≤◌, [], ◌∷◌, ◌++◌, length, slice_index, slice_index_or, slice_range, false, true, take, drop, OnOk, OnErr, IfErr, IsOk, IfSome, IfNone, IsNone, Some, None, refl};
+ghost use Rattle.columnar_core.specs.Change.{Stayed};
+ghost use Rattle.columnar_core.specs.WordViews.{words_in, bit_words, bytes_of_words};
+ghost use Rattle.columnar_primitive.specs.BoolColumns.{IsOfGrowth};
+ghost use Rattle.columnar_sums.specs.Counting.{ones, place, Adds, digits};
+ghost use Rattle.columnar_sums.specs.RankColumns.{ranks_format, ranks_content, bits_ranked, IsRanked, owned_ranks, ranked_bits};
+ghost use Rattle.columnar_sums.specs.RankLaws.{ranks_lawful};
+
+mod bytes;
+mod cursor;
+mod grow;
+mod search;
+
+use columnar_core::fault::GrowError;
+use columnar_core::metered::{MeteredCounts, MeteredWords};
+use columnar_core::tally::Tally;
+use columnar_core::traits::{Column, Index, Len};
+use columnar_core::words::Words;
+use columnar_primitive::bools::{Bools, bit_at, count_bits};
+pub use cursor::{Cursor, Cursor as RankSelectCursor};
+use search::{rank_in, select_in};
+
+/// Truth values, and how many are set up to the end of each 1024 of them.
+#[derive(Clone, Copy, PartialEq, Drop)]
+pub struct RankSelect<CC, VC, WC> {
+    /// One count for each complete 1024 bits: how many are set up to its end.
+    pub counts: CC,
+    /// The bits.
+    pub values: Bools<VC, WC>,
+}
+
+impl<CC: Words, VC: Words, WC: Words> Column for RankSelect<CC, VC, WC> {
+    ghost format = { ranks_format };
+
+    ghost content = { ranks_content CC.bytes VC.bytes WC.bytes };
+}
+
+impl<CC: Words, VC: Words, WC: Words> Len for RankSelect<CC, VC, WC> {
+    fn len(&self) -> usize {
+        count_bits(self.values.values.words(), self.values.tail.words())
+    }
+}
+
+impl<CC: Words, VC: Words, WC: Words> Index for RankSelect<CC, VC, WC> {
+    type Ref = bool;
+
+    fn get(&self, index: usize) -> bool {
+        bit_at(self.values.values.words(), self.values.tail.words(), index)
+    }
+}
+
+impl<CC: Words, VC: Words, WC: Words> RankSelect<CC, VC, WC> {
+    // Its counts, metered.
+    pub(crate) fn metered_counts<L>(&self) -> MeteredCounts<'_, L>
+        ensures { result ≡ words_in (CC.bytes self.now.counts) }
+    {
+        MeteredCounts::new(self.counts.words())
+    }
+
+    // Its words, metered.
+    pub(crate) fn metered_words<L>(&self) -> MeteredWords<'_, L>
+        requires { IsRanked CC.bytes VC.bytes WC.bytes self.now }
+        ensures { result ≡ bit_words (VC.bytes self.now.values.values) (WC.bytes self.now.values.tail) }
+    {
+        MeteredWords::new(self.values.values.words(), self.values.tail.words())
+    }
+
+    /// How many of the first `index` bits are set. Asks that there are as many bits. `select` finds a set bit again by
+    /// its rank.
+    #[tactic(auto, using(crate::specs::CountLaws::place_some))]
+    pub fn rank(&self, index: usize) -> usize
+        requires ranked { IsRanked CC.bytes VC.bytes WC.bytes self.now }
+        requires in_range { index ≤ length (bits_ranked VC.bytes WC.bytes self.now) }
+        ensures value { result ≡ ones (bits_ranked VC.bytes WC.bytes self.now) index }
+        ensures found_again { slice_index_or (bits_ranked VC.bytes WC.bytes self.now) index false ≡ true → place (bits_ranked VC.bytes WC.bytes self.now) result ≡ Some index }
+    {
+        self.rank_tallied(index, &mut Tally::new())
+    }
+
+    /// As `rank`; what it reads is added to the tally: at most one count and 16 words.
+    pub fn rank_tallied<L>(&self, index: usize, tally: &mut Tally<L>) -> usize
+        requires ranked { IsRanked CC.bytes VC.bytes WC.bytes self.now }
+        requires in_range { index ≤ length (bits_ranked VC.bytes WC.bytes self.now) }
+        ensures value { result ≡ ones (bits_ranked VC.bytes WC.bytes self.now) index }
+        ensures reads { Adds 1 16 tally.old tally.new }
+        ensures some_read { length tally.old.words < length tally.new.words }
+    {
+        rank_in(&self.metered_counts(), &self.metered_words(), index, tally)
+    }
+
+    /// Where the set bit stands before which `rank` others are set; None exactly where at most `rank` are set.
+    pub fn select(&self, rank: u64) -> Option<usize>
+        requires { IsRanked CC.bytes VC.bytes WC.bytes self.now }
+        ensures value { result ≡ place (bits_ranked VC.bytes WC.bytes self.now) rank }
+        ensures set { IfSome result (λ q. (slice_index_or (bits_ranked VC.bytes WC.bytes self.now) q false ≡ true) × (ones (bits_ranked VC.bytes WC.bytes self.now) q ≡ rank)) }
+        ensures none { IfNone result (ones (bits_ranked VC.bytes WC.bytes self.now) (length (bits_ranked VC.bytes WC.bytes self.now)) ≤ rank) }
+        ensures past { ones (bits_ranked VC.bytes WC.bytes self.now) (length (bits_ranked VC.bytes WC.bytes self.now)) ≤ rank → IsNone result }
+    {
+        self.select_tallied(rank, &mut Tally::new())
+    }
+
+    /// As `select`; what it reads is added to the tally: at most 16 words, and one count more than the number of
+    /// counts has binary digits.
+    pub fn select_tallied<L>(&self, rank: u64, tally: &mut Tally<L>) -> Option<usize>
+        requires { IsRanked CC.bytes VC.bytes WC.bytes self.now }
+        ensures value { result ≡ place (bits_ranked VC.bytes WC.bytes self.now) rank }
+        ensures reads { Adds (digits (length (words_in (CC.bytes self.now.counts))) + 1) 16 tally.old tally.new }
+        ensures some_read { length tally.old.words < length tally.new.words }
+    {
+        select_in(&self.metered_counts(), &self.metered_words(), rank, tally)
+    }
+
+    /// A cursor before the first bit.
+    pub fn cursor(&self) -> Cursor<'_, CC, VC, WC>
+        requires { IsRanked CC.bytes VC.bytes WC.bytes self.now }
+        ensures { result ≡ record { bits = bits_ranked VC.bytes WC.bytes self.now; pos = 0; word = 0; counts = length (words_in (CC.bytes self.now.counts)) } }
+    {
+        self.cursor_tallied(&mut Tally::new())
+    }
+
+    /// As `cursor`; it has loaded word 0 and stands in it, which is added to the tally.
+    pub fn cursor_tallied<L>(&self, tally: &mut Tally<L>) -> Cursor<'_, CC, VC, WC>
+        requires { IsRanked CC.bytes VC.bytes WC.bytes self.now }
+        ensures stands { result ≡ record { bits = bits_ranked VC.bytes WC.bytes self.now; pos = 0; word = 0; counts = length (words_in (CC.bytes self.now.counts)) } }
+        ensures loads { tally.new.words ≡ tally.old.words ++ 0 ∷ [] }
+        ensures counts { tally.new.counts ≡ tally.old.counts }
+    {
+        Cursor::new(self, tally)
+    }
+}

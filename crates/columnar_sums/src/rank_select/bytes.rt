@@ -1,0 +1,194 @@
+//! Columns of bits and counts in slices of bytes.
+ghost use Rattle.std.specs.Prelude.{◌≡◌, ℕ, ◌+◌, ◌-◌, ◌*◌, ◌/◌, ◌%◌, ◌^◌, ◌<◌, ◌≤◌, [], ◌∷◌, length, refl, slice_index, true, false};
+ghost use Rattle.columnar_core.specs.Row.{numbers_eq};
+ghost use Rattle.columnar_core.specs.Format.{slice, both, first, moved};
+ghost use Rattle.columnar_core.specs.Faults.{verdict};
+ghost use Rattle.columnar_core.specs.WordViews.{view_bytes, view_words, bit_words};
+ghost use Rattle.columnar_primitive.specs.BoolColumns.{bits_in};
+ghost use Rattle.columnar_primitive.specs.BoolLaws.{SoundBools};
+ghost use Rattle.columnar_sums.specs.Counting.{counts_of};
+ghost use Rattle.columnar_sums.specs.RankColumns.{ranks_broken};
+ghost use Rattle.columnar_sums.specs.RankLaws.{ranks_storable};
+
+use super::RankSelect;
+use columnar_core::byte_slice::ByteSlice;
+use columnar_core::bytes::{AsBytes, Check, FromBytes, Stored};
+use columnar_core::container::ContainerBytes;
+use columnar_core::fault::{GrowError, StoreFault};
+use columnar_core::metered::word_or_tail;
+use columnar_core::store::DecodedStore;
+use columnar_core::tally::Tally;
+use columnar_core::view::View;
+use columnar_core::words::{Words, byte_count, word_at, word_count};
+use columnar_primitive::bools::{Bools, count_bits, judged, view_slice};
+use std::alloc::Global;
+
+// Where word `at` ends a chunk: is the sum the chunk's count?
+fn is_count(counts: View<'_, u64>, at: usize, sum: u64) -> bool
+    requires { at % 16 ≡ 15 → at / 16 < length (view_words counts) }
+    ensures right { result ≡ true → at % 16 ≡ 15 → slice_index (view_words counts.entry) (at / 16) ≡ sum }
+    ensures wrong { result ≡ false → (at % 16 ≡ 15) × (slice_index (view_words counts.entry) (at / 16) ≡ sum → ⊥) }
+{
+    at % 16 != 15 || word_at(counts, at / 16) == sum
+}
+
+// Are there just the counts of the bits? A turn for each word.
+fn counts_right<L>(
+    counts: View<'_, u64>,
+    values: View<'_, u64>,
+    tail: View<'_, u64>,
+    tally: &mut Tally<L>,
+) -> bool
+    requires { SoundBools (view_bytes values) (view_bytes tail) }
+    ensures value { result ≡ numbers_eq (view_words counts.entry) (counts_of (bits_in (view_bytes values.entry) (view_bytes tail.entry))) }
+    ensures turns { tally.new.turns ≤ tally.old.turns + length (view_words values.entry) }
+{
+    let total = word_count(values);
+    if word_count(counts) != total / 16 {
+        return false;
+    }
+    let mut sum = 0u64;
+    for at in 0..total {
+        tally.tick();
+        sum += word_or_tail(values, tail, at).count_ones() as u64;
+        if !is_count(counts, at, sum) {
+            return false;
+        }
+    }
+    true
+}
+
+// Which rule do the counts, the words and the tail break first? Slices are counted from `from` on.
+fn judged_ranks<L>(
+    counts: View<'_, u64>,
+    values: View<'_, u64>,
+    tail: View<'_, u64>,
+    from: usize,
+    tally: &mut Tally<L>,
+) -> Result<(), StoreFault>
+    requires { from + 3 < 2 ^ 64 }
+    ensures exact { verdict result ≡ first (moved from (ranks_broken (both (slice (view_bytes counts.entry)) (both (slice (view_bytes values.entry)) (slice (view_bytes tail.entry)))))) }
+    ensures turns { tally.new.turns ≤ tally.old.turns + 4 * (length (view_bytes counts.entry) + (length (view_bytes values.entry) + length (view_bytes tail.entry))) }
+{
+    if byte_count(counts) % 8 != 0 {
+        return Err(StoreFault::ElementSize(from));
+    }
+    match judged(values, tail, from + 1) {
+        Ok(()) => {}
+        Err(fault) => return Err(fault),
+    }
+    if !counts_right(counts, values, tail, tally) {
+        return Err(StoreFault::Counts(from));
+    }
+    Ok(())
+}
+
+impl<CC: Words, VC: Words, WC: Words> Stored for RankSelect<CC, VC, WC> {
+    ghost storable = { ranks_storable };
+
+    ghost counted = { λ r. refl };
+
+    fn slice_count() -> usize {
+        3
+    }
+
+    fn element_sizes(sizes: &mut Vec<usize>) -> Result<(), GrowError> {
+        let before = sizes.len();
+        match sizes.push(8) {
+            Ok(()) => {}
+            Err(_) => return Err(GrowError::Memory),
+        }
+        match Bools::<VC, WC>::element_sizes(sizes) {
+            Ok(()) => Ok(()),
+            Err(error) => {
+                sizes.truncate(before);
+                Err(error)
+            }
+        }
+    }
+
+    fn judge_tallied<L>(
+        store: &DecodedStore<'_>,
+        offset: usize,
+        tally: &mut Tally<L>,
+    ) -> Result<(), StoreFault> {
+        let counts = View::from_le_bytes(store.get(offset));
+        let values = View::from_le_bytes(store.get(offset + 1));
+        let tail = View::from_le_bytes(store.get(offset + 2));
+        match judged_ranks(counts, values, tail, offset, tally) {
+            Ok(()) => Ok(()),
+            Err(fault) => Err(fault),
+        }
+    }
+
+    fn rows_in(store: &DecodedStore<'_>, offset: usize) -> usize {
+        let values = View::from_le_bytes(store.get(offset + 1));
+        let tail = View::from_le_bytes(store.get(offset + 2));
+        count_bits(values, tail)
+    }
+}
+
+impl<CC: Words, VC: Words, WC: Words> Check for RankSelect<CC, VC, WC> {
+    fn check_from_tallied<L>(&self, from: usize, tally: &mut Tally<L>) -> Result<(), StoreFault> {
+        match judged_ranks(
+            self.counts.words(),
+            self.values.values.words(),
+            self.values.tail.words(),
+            from,
+            tally,
+        ) {
+            Ok(()) => Ok(()),
+            Err(fault) => Err(fault),
+        }
+    }
+}
+
+impl<'s> FromBytes<'s> for RankSelect<View<'s, u64>, View<'s, u64>, View<'s, u64>> {
+    fn from_store(store: &DecodedStore<'s>, offset: &mut usize) -> Self {
+        let start = *offset;
+        *offset = start + 3;
+        let counts = View::from_le_bytes(store.get(start));
+        let values = View::from_le_bytes(store.get(start + 1));
+        let tail = View::from_le_bytes(store.get(start + 2));
+        RankSelect {
+            counts,
+            values: Bools { values, tail },
+        }
+    }
+}
+
+impl<'s> AsBytes<'s> for RankSelect<View<'s, u64>, View<'s, u64>, View<'s, u64>> {
+    fn get_byte_slice(&self, index: usize) -> (u64, ByteSlice<'s>) {
+        let slice = if index == 0 {
+            view_slice(self.counts)
+        } else if index == 1 {
+            view_slice(self.values.values)
+        } else {
+            view_slice(self.values.tail)
+        };
+        (slice.align(), slice)
+    }
+}
+
+impl ContainerBytes for RankSelect<Vec<u64>, Vec<u64>, [u64; 2]> {
+    fn byte_slice(&self, index: usize) -> ByteSlice<'_> {
+        if index == 0 {
+            view_slice(self.counts.words())
+        } else if index == 1 {
+            view_slice(self.values.values.words())
+        } else {
+            view_slice(self.values.tail.words())
+        }
+    }
+
+    fn load(alloc: Global, store: &DecodedStore<'_>, offset: usize) -> Result<Self, GrowError> {
+        let counts = match <Vec<u64> as ContainerBytes>::load(alloc, store, offset) {
+            Ok(counts) => counts,
+            Err(error) => return Err(error),
+        };
+        match <Bools<Vec<u64>, [u64; 2]> as ContainerBytes>::load(alloc, store, offset + 1) {
+            Ok(values) => Ok(RankSelect { counts, values }),
+            Err(error) => Err(error),
+        }
+    }
+}

@@ -1,0 +1,262 @@
+//! Columns of bits and counts that grow and are cut.
+ghost use Rattle.std.specs.Prelude.{◌≡◌, ℕ, ◌+◌, ◌-◌, ◌*◌, ◌/◌, ◌%◌, ◌^◌, ◌<◌, ◌≤◌, [], ◌∷◌, ◌++◌, length, slice_range, take, drop, OnOk, OnErr, IfErr, IfOk, IsOk, refl};
+ghost use Rattle.columnar_core.specs.Format.{IsSound};
+ghost use Rattle.columnar_core.specs.Change.{Stayed};
+ghost use Rattle.columnar_core.specs.WordViews.{words_in, bit_words, bytes_of_words, view_bytes, view_words};
+ghost use Rattle.columnar_primitive.specs.BoolColumns.{IsOfGrowth};
+ghost use Rattle.columnar_sums.specs.Counting.{CountWords, count_before};
+ghost use Rattle.columnar_sums.specs.RankColumns.{ranks_format, bits_ranked, IsRanked, owned_ranks, ranked_bits};
+ghost use Rattle.columnar_sums.specs.RankLaws.{ranks_lawful};
+
+use super::RankSelect;
+use super::search::one_of;
+use columnar_core::container::{Borrow, ExtendFrom, Reborrow, Storage};
+use columnar_core::fault::GrowError;
+use columnar_core::metered::word_or_tail;
+use columnar_core::tally::Tally;
+use columnar_core::traits::{Clear, Len, Push, PushRef};
+use columnar_core::view::View;
+use columnar_core::words::{Words, word_at, word_count};
+use columnar_primitive::bools::Bools;
+use std::alloc::Global;
+use std::ops::Range;
+
+type Held = RankSelect<Vec<u64>, Vec<u64>, [u64; 2]>;
+
+type Viewed<'a> = RankSelect<View<'a, u64>, View<'a, u64>, View<'a, u64>>;
+
+// Count number `chunk` - 1, 0 where there is none.
+#[tactic(auto, using(crate::specs::CountLaws::count_before_none, crate::specs::CountLaws::count_before_some))]
+fn count_behind(counts: View<'_, u64>, chunk: usize) -> u64
+    requires { chunk ≤ length (view_words counts) }
+    ensures { result ≡ count_before (view_words counts.entry) chunk }
+{
+    if chunk == 0 {
+        0
+    } else {
+        word_at(counts, chunk - 1)
+    }
+}
+
+// Appends a count for each chunk of words that is complete and has none; all or none.
+fn count_on<L>(
+    counts: &mut Vec<u64>,
+    values: View<'_, u64>,
+    tail: View<'_, u64>,
+    tally: &mut Tally<L>,
+) -> Result<(), GrowError>
+    requires exact { CountWords (bit_words (view_bytes values) (view_bytes tail)) (words_in (bytes_of_words counts.old.items)) }
+    requires within { length counts.old.items ≤ length (view_words values) / 16 }
+    requires tail { 0 < length (view_words tail) }
+    requires short { length (view_words values) < 2 ^ 58 }
+    ensures ok { OnOk result (CountWords (bit_words (view_bytes values.entry) (view_bytes tail.entry)) (words_in (bytes_of_words counts.new.items)) × (length counts.new.items ≡ length (view_words values.entry) / 16)) }
+    ensures err { OnErr result (counts.new.items ≡ counts.old.items) }
+    ensures memory { IfErr result (λ e. e ≡ GrowError.Memory) }
+    ensures turns { tally.new.turns + 16 * length counts.old.items ≤ tally.old.turns + 16 * (length (view_words values.entry) / 16) }
+{
+    let before = counts.len();
+    let mut sum = count_behind(counts.words(), before);
+    for at in 16 * before..16 * (word_count(values) / 16) {
+        tally.tick();
+        sum += word_or_tail(values, tail, at).count_ones() as u64;
+        if at % 16 == 15 {
+            match counts.push(sum) {
+                Ok(()) => {}
+                Err(_) => {
+                    counts.truncate(before);
+                    return Err(GrowError::Memory);
+                }
+            }
+        }
+    }
+    Ok(())
+}
+
+impl Held {
+    /// Appends one bit, and a count where it completes 1024 of them; both or none. After a refusal the bits are as
+    /// before. It answers Length exactly where there would be more than 2^64 - 1 bits. Where the bit fills no word, it
+    /// needs no memory.
+    pub fn push_bit(&mut self, bit: bool) -> Result<(), GrowError>
+        requires { IsSound ranks_format (owned_ranks self.old) }
+        ensures ok { OnOk result (ranked_bits self.new ≡ ranked_bits self.old ++ bit ∷ []) }
+        ensures err { OnErr result (Stayed ranks_format (owned_ranks self.old) (owned_ranks self.new)) }
+        ensures length { result ≡ Err GrowError.Length → 2 ^ 64 ≤ length (ranked_bits self.old) + 1 }
+        ensures full { 2 ^ 64 ≤ length (ranked_bits self.old) + 1 → result ≡ Err GrowError.Length }
+        ensures kinds { IfErr result IsOfGrowth }
+        ensures no_memory { length (ranked_bits self.old) % 64 < 63 → IsOk result }
+        ensures sound { IsSound ranks_format (owned_ranks self.new) }
+    {
+        let len = self.values.len();
+        if len % 1024 < 1023 {
+            return match self.values.push_bit(bit) {
+                Ok(()) => Ok(()),
+                Err(error) => Err(error),
+            };
+        }
+        if len == usize::MAX {
+            return Err(GrowError::Length);
+        }
+        let total = self.rank(len) as u64 + one_of(bit);
+        match self.counts.push(total) {
+            Ok(()) => {}
+            Err(_) => return Err(GrowError::Memory),
+        }
+        match self.values.push_bit(bit) {
+            Ok(()) => Ok(()),
+            Err(error) => {
+                self.counts.truncate(len / 1024);
+                Err(error)
+            }
+        }
+    }
+
+    /// As `extend_from_self`, of any column of bits and counts; the turns that it takes are added to the tally: at most one for each 16 bits, and 64.
+    pub fn extend_ranked_tallied<C: Words, V: Words, W: Words, L>(
+        &mut self,
+        other: &RankSelect<C, V, W>,
+        range: Range<usize>,
+        tally: &mut Tally<L>,
+    ) -> Result<(), GrowError>
+        requires sound { IsSound ranks_format (owned_ranks self.old) }
+        requires other { IsRanked C.bytes V.bytes W.bytes other.now }
+        requires ordered { range.start ≤ range.«end» }
+        requires in_range { range.«end» ≤ length (bits_ranked V.bytes W.bytes other.now) }
+        ensures ok { OnOk result (ranked_bits self.new ≡ ranked_bits self.old ++ slice_range (bits_ranked V.bytes W.bytes other.now) range.start range.«end») }
+        ensures err { OnErr result (Stayed ranks_format (owned_ranks self.old) (owned_ranks self.new)) }
+        ensures length { result ≡ Err GrowError.Length → 2 ^ 64 ≤ length (ranked_bits self.old) + (range.«end» - range.start) }
+        ensures full { 2 ^ 64 ≤ length (ranked_bits self.old) + (range.«end» - range.start) → result ≡ Err GrowError.Length }
+        ensures kinds { IfErr result IsOfGrowth }
+        ensures sound { IsSound ranks_format (owned_ranks self.new) }
+        ensures turns { tally.new.turns ≤ tally.old.turns + ((range.«end» - range.start) / 16 + 64) }
+    {
+        let start = self.values.len();
+        match self
+            .values
+            .extend_bits_from_tallied(&other.values, range, tally)
+        {
+            Ok(()) => {}
+            Err(error) => return Err(error),
+        }
+        match count_on(
+            &mut self.counts,
+            self.values.values.words(),
+            self.values.tail.words(),
+            tally,
+        ) {
+            Ok(()) => Ok(()),
+            Err(error) => {
+                self.values.truncate(start);
+                Err(error)
+            }
+        }
+    }
+}
+
+impl Clear for Held {
+    fn clear(&mut self) {
+        self.counts.clear();
+        self.values.clear();
+    }
+}
+
+impl Storage for Held {
+    type Room = (usize, usize);
+
+    ghost lawful = { ranks_lawful };
+
+    fn empty(alloc: Global) -> Self {
+        RankSelect {
+            counts: Vec::new(alloc),
+            values: <Bools<Vec<u64>, [u64; 2]> as Storage>::empty(alloc),
+        }
+    }
+
+    fn duplicate(&self, alloc: Global) -> Result<Self, GrowError> {
+        let counts = match Vec::from_slice(alloc, self.counts.as_slice()) {
+            Ok(counts) => counts,
+            Err(_) => return Err(GrowError::Memory),
+        };
+        match self.values.duplicate(alloc) {
+            Ok(values) => Ok(RankSelect { counts, values }),
+            Err(error) => Err(error),
+        }
+    }
+
+    fn truncate(&mut self, n: usize) {
+        self.counts.truncate(n / 1024);
+        self.values.truncate(n);
+    }
+
+    fn no_room() -> (usize, usize) {
+        (0, 0)
+    }
+
+    fn reserve_room(&mut self, room: (usize, usize)) -> Result<(), GrowError> {
+        match self.counts.reserve(room.0) {
+            Ok(()) => {}
+            Err(_) => return Err(GrowError::Memory),
+        }
+        match self.values.values.reserve(room.1) {
+            Ok(()) => Ok(()),
+            Err(_) => Err(GrowError::Memory),
+        }
+    }
+}
+
+impl Push<bool> for Held {
+    fn push(&mut self, item: bool) -> Result<(), GrowError> {
+        match self.push_bit(item) {
+            Ok(()) => Ok(()),
+            Err(error) => Err(error),
+        }
+    }
+}
+
+impl<'x> ExtendFrom<Viewed<'x>> for Held {
+    fn add_room(room: (usize, usize), view: Viewed<'x>) -> (usize, usize) {
+        (
+            room.0.saturating_add(word_count(view.counts)),
+            room.1.saturating_add(word_count(view.values.values)),
+        )
+    }
+
+    fn extend_from_self(&mut self, view: Viewed<'x>, range: Range<usize>) -> Result<(), GrowError> {
+        match self.extend_ranked_tallied(&view, range, &mut Tally::new()) {
+            Ok(()) => Ok(()),
+            Err(error) => Err(error),
+        }
+    }
+}
+
+impl<'a> Borrow<'a> for Held {
+    type Ref = bool;
+
+    type Borrowed = Viewed<'a>;
+
+    type Parts = bool;
+
+    ghost same_format = { refl };
+
+    fn borrow(&'a self) -> Viewed<'a> {
+        RankSelect {
+            counts: View::from_slice(self.counts.as_slice()),
+            values: self.values.borrow(),
+        }
+    }
+}
+
+impl<'a, 'b> Reborrow<'b> for Viewed<'a>
+where
+    'a: 'b,
+{
+    type Short = Viewed<'b>;
+
+    ghost same_short = { refl };
+
+    fn reborrow(self) -> Viewed<'b> {
+        RankSelect {
+            counts: self.counts,
+            values: self.values.reborrow(),
+        }
+    }
+}

@@ -1,0 +1,144 @@
+//! Counting and finding set bits, over metered words and counts.
+ghost use Rattle.std.specs.Prelude.{◌≡◌, ℕ, ◌+◌, ◌-◌, ◌*◌, ◌/◌, ◌%◌, ◌^◌, ◌<◌, ◌≤◌, length, slice_index, true, MatchOption, count_ones, cond};
+ghost use Rattle.columnar_primitive.specs.Bits.{bit as bit_of, bit_in};
+ghost use Rattle.columnar_sums.specs.Counting.{ones_below, CountWords, count_before, Adds, digits};
+
+use columnar_core::metered::{MeteredCounts, MeteredWords};
+use columnar_core::tally::Tally;
+
+// How many of the lowest `count` bits of the word are set.
+#[tactic(auto, using(crate::specs::CountLaws::ones_of_low))]
+pub(crate) fn ones_in(word: u64, count: u64) -> u64
+    requires { count < 64 }
+    ensures { result ≡ ones_below (bit_of word) count }
+{
+    (word & ((1 << count) - 1)).count_ones() as u64
+}
+
+// The count before a chunk.
+#[tactic(auto, using(crate::specs::CountLaws::count_before_none, crate::specs::CountLaws::count_before_some))]
+fn ones_before<L>(counts: &MeteredCounts<'_, L>, chunk: usize, tally: &mut Tally<L>) -> u64
+    requires { chunk ≤ length counts.now }
+    ensures value { result ≡ count_before counts.now chunk }
+    ensures counts { tally.new.counts ≤ tally.old.counts + 1 }
+    ensures words { tally.new.words ≡ tally.old.words }
+{
+    if chunk == 0 {
+        0
+    } else {
+        counts.read(chunk - 1, tally)
+    }
+}
+
+// How many of the first `index` bits of the words are set, from the count of the chunk before and the words since.
+#[tactic(auto, using(crate::specs::CountLaws::ones_word_whole, crate::specs::CountLaws::ones_word, crate::specs::CountLaws::ones_below_le, crate::specs::CountLaws::kept_more, crate::specs::CountLaws::count_before_is, crate::specs::CountLaws::length_words))]
+pub(crate) fn rank_in<L>(
+    counts: &MeteredCounts<'_, L>,
+    words: &MeteredWords<'_, L>,
+    index: usize,
+    tally: &mut Tally<L>,
+) -> usize
+    requires within { index / 64 < length words.now }
+    requires counted { index / 1024 ≤ length counts.now }
+    requires exact { CountWords words.now counts.now }
+    ensures value { result ≡ ones_below (bit_in words.now) index }
+    ensures reads { Adds 1 16 tally.old tally.new }
+    ensures some_read { length tally.old.words < length tally.new.words }
+{
+    let block = index / 64;
+    let chunk = block / 16;
+    let mut sum = ones_before(counts, chunk, tally) as usize;
+    for at in 16 * chunk..block {
+        tally.tick();
+        sum += words.read(at, tally).count_ones() as usize;
+    }
+    sum + ones_in(words.read(block, tally), (index % 64) as u64) as usize
+}
+
+// The place of the set bit of the word before which there are `rank` others, by halving.
+#[tactic(auto, using(crate::specs::CountLaws::halves_high, crate::specs::CountLaws::halves_rank, crate::specs::CountLaws::halves_end, crate::specs::CountLaws::halves_start))]
+fn place_in_word(word: u64, rank: u64) -> u64
+    requires { rank < count_ones word }
+    ensures within { result < 64 }
+    ensures set { bit_of word result ≡ true }
+    ensures before { ones_below (bit_of word) result ≡ rank }
+{
+    let mut rest = word;
+    let mut left = rank;
+    let mut place = 0;
+    let mut level: u32 = 6;
+    while level > 0 {
+        level -= 1;
+        let half = 1 << level;
+        let low = ones_in(rest, half);
+        if low <= left {
+            left -= low;
+            place += half;
+            rest >>= half;
+        }
+    }
+    place
+}
+
+#[tactic(auto, using(crate::specs::CountLaws::digits_from))]
+// The first chunk with more than `rank` trues up to its end, by binary search.
+fn find_chunk<L>(counts: &MeteredCounts<'_, L>, rank: u64, tally: &mut Tally<L>) -> usize
+    ensures within { result ≤ length counts.now }
+    ensures below { count_before counts.now result ≤ rank }
+    ensures above { result < length counts.now → rank < slice_index counts.now result }
+    ensures cost { tally.new.counts ≤ tally.old.counts + digits (length counts.now) }
+    ensures counts { tally.old.counts ≤ tally.new.counts }
+    ensures words { tally.new.words ≡ tally.old.words }
+{
+    let mut low = 0;
+    let mut high = counts.len();
+    while low < high {
+        tally.tick();
+        let middle = low + (high - low) / 2;
+        if counts.read(middle, tally) <= rank {
+            low = middle + 1
+        } else {
+            high = middle
+        }
+    }
+    low
+}
+
+// The place of the set bit before which there are `rank` others.
+#[tactic(auto, using(crate::specs::CountLaws::ones_word_whole, crate::specs::CountLaws::ones_below_le, crate::specs::CountLaws::kept_more, crate::specs::CountLaws::found_in, crate::specs::CountLaws::none_left, crate::specs::CountLaws::length_words))]
+pub(crate) fn select_in<L>(
+    counts: &MeteredCounts<'_, L>,
+    words: &MeteredWords<'_, L>,
+    rank: u64,
+    tally: &mut Tally<L>,
+) -> Option<usize>
+    requires short { length words.now ≤ 2 ^ 58 }
+    requires enough { 16 * length counts.now < length words.now }
+    requires counted { length words.now ≤ 16 * length counts.now + 16 }
+    requires exact { CountWords words.now counts.now }
+    ensures value { MatchOption result (ones_below (bit_in words.now) (64 * length words.now) ≤ rank) (λ p. (p < 64 * length words.now) × (bit_in words.now p ≡ true) × (ones_below (bit_in words.now) p ≡ rank)) }
+    ensures reads { Adds (digits (length counts.now) + 1) 16 tally.old tally.new }
+    ensures some_read { length tally.old.words < length tally.new.words }
+{
+    let chunk = find_chunk(counts, rank, tally);
+    let mut sum = ones_before(counts, chunk, tally);
+    let end = (16 * chunk + 16).min(words.len());
+    for at in 16 * chunk..end {
+        tally.tick();
+        let word = words.read(at, tally);
+        let ones = word.count_ones() as u64;
+        if rank - sum < ones {
+            return Some(64 * at + place_in_word(word, rank - sum) as usize);
+        }
+        sum += ones;
+    }
+    None
+}
+
+// The number of set bits that a bit is.
+pub(crate) fn one_of(bit: bool) -> u64
+    ensures value { result ≡ cond bit 1 0 }
+    ensures small { result ≤ 1 }
+{
+    if bit { 1 } else { 0 }
+}

@@ -7,6 +7,7 @@ pub mod bytes;
 pub mod common;
 pub mod fault;
 pub mod primitive;
+pub mod sums;
 #[cfg(test)]
 mod tests;
 pub mod vector;

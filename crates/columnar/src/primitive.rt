@@ -1,8 +1,9 @@
-//! Columns of numbers, characters, durations and units.
+//! Columns of numbers, characters, durations, units and truth values.
 
 pub mod offsets;
 
 pub use columnar_core::vector::Sliced;
+pub use columnar_primitive::bools::Bools;
 pub use columnar_primitive::chars::Chars;
 pub use columnar_primitive::codes::{Coded, Codes};
 pub use columnar_primitive::count::Count;

@@ -428,18 +428,6 @@ where
     }
 }
 
-impl<'x, VC: Words, TC: Words> Column for &'x Bools<VC, TC> {
-    ghost format = { bools_format };
-
-    ghost content = { λ b. bools_content VC.bytes TC.bytes b.now };
-}
-
-impl<'x, VC: Words, TC: Words> Len for &'x Bools<VC, TC> {
-    fn len(&self) -> usize {
-        count_bits(self.values.words(), self.tail.words())
-    }
-}
-
 impl<'x, VC: Words, TC: Words> Index for &'x Bools<VC, TC> {
     type Ref = bool;
 

@@ -1,0 +1,3 @@
+//! Columns of sums.
+
+pub mod rank_select;

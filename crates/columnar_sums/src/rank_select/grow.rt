@@ -54,7 +54,7 @@ fn count_on<L>(
     ensures memory { IfErr result (λ e. e ≡ GrowError.Memory) }
     ensures turns { tally.new.turns + 16 * length counts.old.items ≤ tally.old.turns + 16 * (length (view_words values.entry) / 16) }
 {
-    let before = counts.len();
+    let before = Vec::len(counts);
     let mut sum = count_behind(counts.words(), before);
     for at in 16 * before..16 * (word_count(values) / 16) {
         tally.tick();

@@ -133,6 +133,25 @@ impl<'b> ReborrowRef<'b> for char {
     }
 }
 
+impl<'b> ReborrowRef<'b> for bool {
+    type ShortRef = bool;
+
+    fn reborrow_ref(self) -> bool {
+        self
+    }
+}
+
+impl<'b, T: ReborrowRef<'b>> ReborrowRef<'b> for Option<T> {
+    type ShortRef = Option<T::ShortRef>;
+
+    fn reborrow_ref(self) -> Option<T::ShortRef> {
+        match self {
+            Some(row) => Some(row.reborrow_ref()),
+            None => None,
+        }
+    }
+}
+
 impl<'b> ReborrowRef<'b> for Duration {
     type ShortRef = Duration;
 

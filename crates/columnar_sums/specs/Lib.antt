@@ -7,3 +7,6 @@ pub mod PlaceLaws
 pub mod CursorLaws
 pub mod RankChanges
 pub mod RankBytes
+pub mod Options
+pub mod WeaveLaws
+pub mod OptionLaws

@@ -1,6 +1,11 @@
 //! Columns of sums: bits that are counted, and rows that may be absent.
 #![tactic(auto)]
 
+pub mod option;
 pub mod rank_select;
+#[cfg(test)]
+mod option_tests;
+#[cfg(test)]
+mod plain_tests;
 #[cfg(test)]
 mod rank_tests;

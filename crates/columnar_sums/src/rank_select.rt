@@ -12,6 +12,7 @@ mod cursor;
 mod grow;
 mod search;
 
+pub(crate) use bytes::trues_in;
 use columnar_core::fault::GrowError;
 use columnar_core::metered::{MeteredCounts, MeteredWords};
 use columnar_core::tally::Tally;
@@ -85,8 +86,18 @@ impl<CC: Words, VC: Words, WC: Words> RankSelect<CC, VC, WC> {
         ensures value { result ≡ ones (bits_ranked VC.bytes WC.bytes self.now) index }
         ensures reads { Adds 1 16 tally.old tally.new }
         ensures some_read { length tally.old.words < length tally.new.words }
+        ensures turns { tally.new.turns ≤ tally.old.turns + 16 }
     {
         rank_in(&self.metered_counts(), &self.metered_words(), index, tally)
+    }
+
+    // How many bits are set; what it reads is added to the tally, as of a rank.
+    pub(crate) fn trues_tallied<L>(&self, tally: &mut Tally<L>) -> usize
+        requires { IsRanked CC.bytes VC.bytes WC.bytes self.now }
+        ensures value { result ≡ ones (bits_ranked VC.bytes WC.bytes self.now) (length (bits_ranked VC.bytes WC.bytes self.now)) }
+        ensures turns { tally.new.turns ≤ tally.old.turns + 16 }
+    {
+        self.rank_tallied(self.len(), tally)
     }
 
     /// Where the set bit stands before which `rank` others are set; None exactly where at most `rank` are set.

@@ -1,13 +1,14 @@
 //! Columns of bits and counts in slices of bytes.
-ghost use Rattle.std.specs.Prelude.{◌≡◌, ℕ, ◌+◌, ◌-◌, ◌*◌, ◌/◌, ◌%◌, ◌^◌, ◌<◌, ◌≤◌, [], ◌∷◌, length, refl, slice_index, true, false};
+ghost use Rattle.std.specs.Prelude.{◌≡◌, ℕ, ◌+◌, ◌-◌, ◌*◌, ◌/◌, ◌%◌, ◌^◌, ◌<◌, ◌≤◌, [], ◌∷◌, length, refl, slice_index, true, false, drop};
 ghost use Rattle.columnar_core.specs.Row.{numbers_eq};
-ghost use Rattle.columnar_core.specs.Format.{slice, both, first, moved};
+ghost use Rattle.columnar_core.specs.Format.{slice, both, first, moved, Fits};
+ghost use Rattle.columnar_core.specs.Store.{slices_in};
 ghost use Rattle.columnar_core.specs.Faults.{verdict};
 ghost use Rattle.columnar_core.specs.WordViews.{view_bytes, view_words, bit_words};
 ghost use Rattle.columnar_primitive.specs.BoolColumns.{bits_in};
 ghost use Rattle.columnar_primitive.specs.BoolLaws.{SoundBools};
-ghost use Rattle.columnar_sums.specs.Counting.{counts_of};
-ghost use Rattle.columnar_sums.specs.RankColumns.{ranks_broken};
+ghost use Rattle.columnar_sums.specs.Counting.{counts_of, ones};
+ghost use Rattle.columnar_sums.specs.RankColumns.{ranks_broken, ranks_bits, ranks_format};
 ghost use Rattle.columnar_sums.specs.RankLaws.{ranks_storable};
 
 use super::RankSelect;
@@ -81,6 +82,17 @@ fn judged_ranks<L>(
         return Err(StoreFault::Counts(from));
     }
     Ok(())
+}
+
+// How many bits are set in slices that were accepted; what it reads is added to the tally, as of a rank.
+pub(crate) fn trues_in<L>(store: &DecodedStore<'_>, offset: usize, tally: &mut Tally<L>) -> usize
+    requires { Fits ranks_format offset (slices_in store.now) }
+    ensures value { result ≡ ones (ranks_bits (ranks_format.build (drop offset (slices_in store.now)))) (length (ranks_bits (ranks_format.build (drop offset (slices_in store.now))))) }
+    ensures turns { tally.new.turns ≤ tally.old.turns + 16 }
+{
+    let mut at = offset;
+    let bits = RankSelect::<View<'_, u64>, View<'_, u64>, View<'_, u64>>::from_store(store, &mut at);
+    bits.trues_tallied(tally)
 }
 
 impl<CC: Words, VC: Words, WC: Words> Stored for RankSelect<CC, VC, WC> {

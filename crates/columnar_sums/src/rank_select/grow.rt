@@ -212,6 +212,24 @@ impl Push<bool> for Held {
     }
 }
 
+impl<'x> Push<&'x bool> for Held {
+    fn push(&mut self, item: &'x bool) -> Result<(), GrowError> {
+        match self.push_bit(*item) {
+            Ok(()) => Ok(()),
+            Err(error) => Err(error),
+        }
+    }
+}
+
+impl PushRef<bool> for Held {
+    fn push_ref(&mut self, item: &bool) -> Result<(), GrowError> {
+        match self.push_bit(*item) {
+            Ok(()) => Ok(()),
+            Err(error) => Err(error),
+        }
+    }
+}
+
 impl<'x> ExtendFrom<Viewed<'x>> for Held {
     fn add_room(room: (usize, usize), view: Viewed<'x>) -> (usize, usize) {
         (

@@ -22,6 +22,7 @@ fn ones_before<L>(counts: &MeteredCounts<'_, L>, chunk: usize, tally: &mut Tally
     ensures value { result ≡ count_before counts.now chunk }
     ensures counts { tally.new.counts ≤ tally.old.counts + 1 }
     ensures words { tally.new.words ≡ tally.old.words }
+    ensures turns { tally.new.turns ≡ tally.old.turns }
 {
     if chunk == 0 {
         0
@@ -44,6 +45,7 @@ pub(crate) fn rank_in<L>(
     ensures value { result ≡ ones_below (bit_in words.now) index }
     ensures reads { Adds 1 16 tally.old tally.new }
     ensures some_read { length tally.old.words < length tally.new.words }
+    ensures turns { tally.new.turns ≤ tally.old.turns + 16 }
 {
     let block = index / 64;
     let chunk = block / 16;

@@ -12,6 +12,7 @@ loop-at-init g c =
       sum = c.ones_before-sum.ensures.value ∙ count_before_is _ _ chunk c.requires.exact (omega arith) ∙ ap (ones_below (bit_in c.args.words.now)) (let e : 1024 * chunk ≡ 64 * (16 * chunk) = omega arith in e);
       counts = omega arith;
       words = omega (arith, ap length c.ones_before-sum.ensures.words);
+      turns = omega (arith, c.ones_before-sum.ensures.turns);
       kept = ap (take (length c.args.tally.now.words)) c.ones_before-sum.ensures.words ∙ take_all _ _ (omega arith);
     }
 
@@ -20,3 +21,6 @@ overflow_add-sum g c =
     let e = ones_word_whole c.args.words.now c.loop-at.at c.read.result c.read.ensures.value c.read.type_inv in
     let l = ones_below_le (bit_in c.args.words.now) (64 * (c.loop-at.at + 1)) in
     omega arith
+
+pub returns-clause-turns : goal.returns-clause-turns
+returns-clause-turns g c = omega (arith, c.read-2.ensures.turns, c.loop-at.invariant.turns)

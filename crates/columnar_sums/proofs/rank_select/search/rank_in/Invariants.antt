@@ -9,5 +9,6 @@ invariant-loop-at g l =
       sum : l.sum ≡ ones_below (bit_in l.words) (64 * l.at);
       counts : l.tally.counts ≤ l.fn.tally.counts + 1;
       words : length l.tally.words + 16 * l.chunk ≡ length l.fn.tally.words + l.at;
+      turns : l.tally.turns + 16 * l.chunk ≤ l.fn.tally.turns + l.at;
       kept : take (length l.fn.tally.words) l.tally.words ≡ l.fn.tally.words;
     }

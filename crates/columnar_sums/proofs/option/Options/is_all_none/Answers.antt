@@ -1,0 +1,15 @@
+use Rattle.std.proofs.Common.{ℕ, List, Bool, true, false, [], ◌∷◌, ◌≡◌, ◌+◌, ◌-◌, ◌<◌, ◌≤◌, length, take, drop, map, refl, sym, ap, ◌∙◌, arith, subst}
+use Rattle.std.specs.Prelude.{IsTrue, nat_eq}
+use Rattle.std.proofs.lemmas.Bool.{eqb-true, eq-eqb}
+use Rattle.std.proofs.lemmas.List.{nil_from_length}
+use Rattle.columnar_sums.specs.OptionLaws.{options_parts, options_somes}
+use Rattle.columnar_sums.proofs.option.Options.is_all_none.Goals as goal
+
+pub len-requires : goal.len-requires
+len-requires g c = (options_parts g.TC.Column.format c.requires).values
+
+pub returns : goal.returns
+returns g c = (
+    λ h. options_somes g.TC.Column.format c.requires ∙ nil_from_length _ (sym c.len.ensures ∙ eqb-true _ _ h),
+    λ h. eq-eqb _ _ (c.len.ensures ∙ ap length (sym (options_somes g.TC.Column.format c.requires) ∙ h)),
+  )

@@ -1,0 +1,10 @@
+use Rattle.std.proofs.Common.{ℕ, List, Bool, true, false, [], ◌∷◌, ◌≡◌, ◌+◌, ◌-◌, ◌<◌, ◌≤◌, length, take, drop, map, refl, sym, ap, ◌∙◌, arith, subst}
+use Rattle.columnar_sums.specs.OptionLaws.{length-options}
+use Rattle.columnar_sums.specs.RankColumns.{ranks_content, owned_ranks, ranks_format}
+use Rattle.std.proofs.lemmas.List.{length-map}
+use Rattle.columnar_core.specs.Row.{truth}
+use Rattle.columnar_primitive.specs.BoolColumns.{bits_in}
+use Rattle.columnar_sums.proofs.option.OptionsLen.len.Goals as goal
+
+pub returns : goal.returns
+returns g c = c.len.ensures ∙ (length-map (bits_in (g.VC.Words.bytes c.args.self.now.indexes.values.values) (g.WC.Words.bytes c.args.self.now.indexes.values.tail)) truth ∙ sym (length-options g.TC.Column.format (ranks_content g.CC.Words.bytes g.VC.Words.bytes g.WC.Words.bytes c.args.self.now.indexes) (g.TC.Column.content c.args.self.now.somes)))

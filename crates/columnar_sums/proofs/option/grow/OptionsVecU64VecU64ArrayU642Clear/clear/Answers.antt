@@ -1,0 +1,11 @@
+use Rattle.std.proofs.Common.{ℕ, List, Bool, true, false, [], ◌∷◌, ◌≡◌, ◌+◌, ◌-◌, ◌<◌, ◌≤◌, length, take, drop, map, refl, sym, ap, ◌∙◌, arith, subst}
+use Rattle.columnar_sums.specs.OptionLaws.{options_none}
+use Rattle.columnar_sums.specs.WeaveLaws.{length-weave}
+use Rattle.columnar_primitive.specs.BoolLaws.{bits_from_rows}
+use Rattle.columnar_sums.proofs.option.grow.OptionsVecU64VecU64ArrayU642Clear.clear.Goals as goal
+
+pub returns-clause-sound : goal.returns-clause-sound
+returns-clause-sound g c = options_none g.TC.Column.format c.clear.ensures.sound c.clear-2.ensures.sound c.clear.ensures.rows c.clear-2.ensures.rows
+
+pub returns-clause-rows : goal.returns-clause-rows
+returns-clause-rows g c = let b = bits_from_rows _ [] c.clear.ensures.rows in rw b refl

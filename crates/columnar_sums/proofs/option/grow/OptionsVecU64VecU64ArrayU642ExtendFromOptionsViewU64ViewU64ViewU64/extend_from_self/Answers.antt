@@ -1,0 +1,43 @@
+use Rattle.std.proofs.Common.{ℕ, List, Bool, true, false, [], ◌∷◌, ◌≡◌, ◌+◌, ◌-◌, ◌<◌, ◌≤◌, length, take, drop, map, refl, sym, ap, ◌∙◌, arith, subst}
+use Rattle.columnar_sums.specs.OptionLaws.{options_parts, options_within, options_top, options_copied_range, options_refused_values_range, options_refused_bits_range}
+use Rattle.columnar_sums.specs.RankColumns.{ranks_content, owned_ranks, ranks_format}
+use Rattle.std.proofs.lemmas.List.{length-map}
+use Rattle.columnar_core.specs.Row.{truth}
+use Rattle.columnar_core.specs.ChangeLaws.{undone, unchanged}
+use Rattle.columnar_core.specs.WordViews.{view_bytes}
+use Rattle.columnar_sums.specs.RankColumns.{ranks_bits}
+use Rattle.columnar_sums.specs.WeaveLaws.{ones_grows}
+use Rattle.columnar_sums.proofs.option.grow.OptionsVecU64VecU64ArrayU642ExtendFromOptionsViewU64ViewU64ViewU64.extend_from_self.Goals as goal
+
+pub len-before-requires : goal.len-before-requires
+len-before-requires g c = (options_parts g.TC.Column.format c.requires.sound).values
+
+pub rank-first-requires-clause-in_range : goal.rank-first-requires-clause-in_range
+rank-first-requires-clause-in_range g c = options_within g.V.Column.format (ranks_content view_bytes view_bytes view_bytes c.args.view.indexes) (g.V.Column.content c.args.view.somes) c.args.range.start (let l = c.requires.ordered in let m = c.requires.in_range in omega arith)
+
+pub rank-last-requires-clause-in_range : goal.rank-last-requires-clause-in_range
+rank-last-requires-clause-in_range g c = options_within g.V.Column.format (ranks_content view_bytes view_bytes view_bytes c.args.view.indexes) (g.V.Column.content c.args.view.somes) c.args.range.«end» c.requires.in_range
+
+pub extend_from_self-requires-clause-sound : goal.extend_from_self-requires-clause-sound
+extend_from_self-requires-clause-sound g c = (options_parts g.TC.Column.format c.requires.sound).values
+
+pub extend_from_self-requires-clause-view_sound : goal.extend_from_self-requires-clause-view_sound
+extend_from_self-requires-clause-view_sound g c = (options_parts g.V.Column.format c.requires.view_sound).values
+
+pub extend_from_self-requires-clause-ordered : goal.extend_from_self-requires-clause-ordered
+extend_from_self-requires-clause-ordered g c = rw (c.rank-first.ensures.value, c.rank-last.ensures.value) (ones_grows (ranks_bits (ranks_content view_bytes view_bytes view_bytes c.args.view.indexes)) c.args.range.start c.args.range.«end» c.requires.ordered)
+
+pub extend_from_self-requires-clause-in_range : goal.extend_from_self-requires-clause-in_range
+extend_from_self-requires-clause-in_range g c = rw c.rank-last.ensures.value (options_top g.V.Column.format (ranks_content view_bytes view_bytes view_bytes c.args.view.indexes) (g.V.Column.content c.args.view.somes) c.args.range.«end» c.requires.view_sound c.requires.in_range)
+
+pub returns-in-Err-clause-err : goal.returns-in-Err-clause-err
+returns-in-Err-clause-err g c = options_refused_values_range g.TC.Column.format g.V.Column.format (ranks_content view_bytes view_bytes view_bytes c.args.view.indexes) (g.V.Column.content c.args.view.somes) c.args.range.start c.args.range.«end» c.requires.sound c.requires.view_sound c.requires.ordered c.requires.in_range (unchanged (options_parts g.TC.Column.format c.requires.sound).bits) (rw (c.rank-first.ensures.value, c.rank-last.ensures.value) at c.in-Err.ensures.err)
+
+pub extend_from_self-requires-2-clause-in_range : goal.extend_from_self-requires-2-clause-in_range
+extend_from_self-requires-2-clause-in_range g c = omega (arith, length-map (ranks_bits (ranks_content view_bytes view_bytes view_bytes c.args.view.indexes)) truth, options_within g.V.Column.format (ranks_content view_bytes view_bytes view_bytes c.args.view.indexes) (g.V.Column.content c.args.view.somes) c.args.range.«end» c.requires.in_range)
+
+pub returns-in-Ok-extend_from_self-clause-ok : goal.returns-in-Ok-extend_from_self-clause-ok
+returns-in-Ok-extend_from_self-clause-ok g c = options_copied_range g.TC.Column.format g.V.Column.format (ranks_content view_bytes view_bytes view_bytes c.args.view.indexes) (g.V.Column.content c.args.view.somes) c.args.range.start c.args.range.«end» g.met.TC.Storage.lawful.same c.requires.sound c.requires.view_sound c.requires.ordered c.requires.in_range c.in-Ok-extend_from_self.ensures.ok (rw (c.rank-first.ensures.value, c.rank-last.ensures.value) at c.in-Ok.ensures.ok)
+
+pub returns-in-Err-extend_from_self-clause-err : goal.returns-in-Err-extend_from_self-clause-err
+returns-in-Err-extend_from_self-clause-err g c = options_refused_bits_range g.TC.Column.format g.V.Column.format (ranks_content view_bytes view_bytes view_bytes c.args.view.indexes) (g.V.Column.content c.args.view.somes) c.args.range.start c.args.range.«end» c.requires.sound c.requires.ordered c.in-Err-extend_from_self.ensures.err (undone g.met.TC.Storage.lawful (options_parts g.TC.Column.format c.requires.sound).values c.in-Ok.ensures.ok.took.grew (rw c.len-before.ensures at c.truncate.ensures))

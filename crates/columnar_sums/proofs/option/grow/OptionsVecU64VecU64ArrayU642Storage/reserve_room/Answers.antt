@@ -1,0 +1,16 @@
+use Rattle.std.proofs.Common.{ℕ, List, Bool, true, false, [], ◌∷◌, ◌≡◌, ◌+◌, ◌-◌, ◌<◌, ◌≤◌, length, take, drop, map, refl, sym, ap, ◌∙◌, arith, subst}
+use Rattle.columnar_sums.specs.OptionLaws.{options_parts, options_stayed}
+use Rattle.columnar_core.specs.ChangeLaws.{unchanged}
+use Rattle.columnar_sums.proofs.option.grow.OptionsVecU64VecU64ArrayU642Storage.reserve_room.Goals as goal
+
+pub returns-in-Err-clause-stayed : goal.returns-in-Err-clause-stayed
+returns-in-Err-clause-stayed g c = options_stayed g.TC.Column.format c.requires c.reserve_room.ensures.stayed (unchanged (options_parts g.TC.Column.format c.requires).values)
+
+pub reserve_room-requires-2 : goal.reserve_room-requires-2
+reserve_room-requires-2 g c = (options_parts g.TC.Column.format c.requires).values
+
+pub returns-in-Ok-reserve_room-clause-stayed : goal.returns-in-Ok-reserve_room-clause-stayed
+returns-in-Ok-reserve_room-clause-stayed g c = options_stayed g.TC.Column.format c.requires c.reserve_room.ensures.stayed c.reserve_room-2.ensures.stayed
+
+pub returns-in-Err-reserve_room-clause-stayed : goal.returns-in-Err-reserve_room-clause-stayed
+returns-in-Err-reserve_room-clause-stayed g c = options_stayed g.TC.Column.format c.requires c.reserve_room.ensures.stayed c.reserve_room-2.ensures.stayed

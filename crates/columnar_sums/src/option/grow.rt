@@ -1,0 +1,209 @@
+//! Columns of rows that may be absent, as they grow and are cut.
+ghost use Rattle.std.specs.Prelude.{◌≡◌, ℕ, refl};
+ghost use Rattle.columnar_sums.specs.OptionLaws.{options_lawful, same_options};
+
+use super::Options;
+use crate::rank_select::RankSelect;
+use columnar_core::container::{Borrow, Container, ExtendFrom, Reborrow, ReborrowRef, Storage};
+use columnar_core::fault::GrowError;
+use columnar_core::traits::{Clear, Index, Item, Len, Push, PushRef};
+use columnar_core::view::View;
+use std::alloc::Global;
+use std::ops::Range;
+
+type Held = RankSelect<Vec<u64>, Vec<u64>, [u64; 2]>;
+
+type Viewed<'a> = RankSelect<View<'a, u64>, View<'a, u64>, View<'a, u64>>;
+
+impl<TC: Clear> Clear for Options<TC, Vec<u64>, Vec<u64>, [u64; 2]> {
+    fn clear(&mut self) {
+        self.indexes.clear();
+        self.somes.clear();
+    }
+}
+
+impl<TC: Storage> Storage for Options<TC, Vec<u64>, Vec<u64>, [u64; 2]> {
+    type Room = (<Held as Storage>::Room, TC::Room);
+
+    ghost lawful = { options_lawful TC.format TC.lawful };
+
+    fn empty(alloc: Global) -> Self {
+        let indexes = <Held as Storage>::empty(alloc);
+        let somes = TC::empty(alloc);
+        Options { indexes, somes }
+    }
+
+    fn duplicate(&self, alloc: Global) -> Result<Self, GrowError> {
+        let indexes = match self.indexes.duplicate(alloc) {
+            Ok(indexes) => indexes,
+            Err(error) => return Err(error),
+        };
+        match self.somes.duplicate(alloc) {
+            Ok(somes) => Ok(Options { indexes, somes }),
+            Err(error) => Err(error),
+        }
+    }
+
+    fn truncate(&mut self, n: usize) {
+        let values = self.indexes.rank(n);
+        self.somes.truncate(values);
+        self.indexes.truncate(n);
+    }
+
+    fn no_room() -> (<Held as Storage>::Room, TC::Room) {
+        (<Held as Storage>::no_room(), TC::no_room())
+    }
+
+    fn reserve_room(
+        &mut self,
+        room: (<Held as Storage>::Room, TC::Room),
+    ) -> Result<(), GrowError> {
+        match self.indexes.reserve_room(room.0) {
+            Ok(()) => {}
+            Err(error) => return Err(error),
+        }
+        match self.somes.reserve_room(room.1) {
+            Ok(()) => Ok(()),
+            Err(error) => Err(error),
+        }
+    }
+}
+
+/// A value is pushed first, and then its bit; where the bit is refused, the value is taken back.
+impl<T: Item + Drop, TC: Storage + Push<T>> Push<Option<T>>
+    for Options<TC, Vec<u64>, Vec<u64>, [u64; 2]> {
+    fn push(&mut self, item: Option<T>) -> Result<(), GrowError> {
+        match item {
+            Some(value) => {
+                let before = self.somes.len();
+                match self.somes.push(value) {
+                    Ok(()) => {}
+                    Err(error) => return Err(error),
+                }
+                match Push::<bool>::push(&mut self.indexes, true) {
+                    Ok(()) => Ok(()),
+                    Err(error) => {
+                        self.somes.truncate(before);
+                        Err(error)
+                    }
+                }
+            }
+            None => match Push::<bool>::push(&mut self.indexes, false) {
+                Ok(()) => Ok(()),
+                Err(error) => Err(error),
+            },
+        }
+    }
+}
+
+/// The value of the item is pushed by reference.
+impl<'x, T: Item, TC: Storage + PushRef<T>> Push<&'x Option<T>>
+    for Options<TC, Vec<u64>, Vec<u64>, [u64; 2]> {
+    fn push(&mut self, item: &'x Option<T>) -> Result<(), GrowError> {
+        match self.push_ref(item) {
+            Ok(()) => Ok(()),
+            Err(error) => Err(error),
+        }
+    }
+}
+
+impl<T: Item, TC: Storage + PushRef<T>> PushRef<Option<T>>
+    for Options<TC, Vec<u64>, Vec<u64>, [u64; 2]> {
+    fn push_ref(&mut self, item: &Option<T>) -> Result<(), GrowError> {
+        match item {
+            Some(value) => {
+                let before = self.somes.len();
+                match self.somes.push_ref(value) {
+                    Ok(()) => {}
+                    Err(error) => return Err(error),
+                }
+                match Push::<bool>::push(&mut self.indexes, true) {
+                    Ok(()) => Ok(()),
+                    Err(error) => {
+                        self.somes.truncate(before);
+                        Err(error)
+                    }
+                }
+            }
+            None => match Push::<bool>::push(&mut self.indexes, false) {
+                Ok(()) => Ok(()),
+                Err(error) => Err(error),
+            },
+        }
+    }
+}
+
+/// The values of the range are those between the ranks of its ends; they are copied first, and then the bits. Where one
+/// of the parts refuses, neither has taken any row.
+impl<'x, V: Index + Copy, TC: ExtendFrom<V>>
+    ExtendFrom<Options<V, View<'x, u64>, View<'x, u64>, View<'x, u64>>>
+    for Options<TC, Vec<u64>, Vec<u64>, [u64; 2]> {
+    fn add_room(
+        room: (<Held as Storage>::Room, TC::Room),
+        view: Options<V, View<'x, u64>, View<'x, u64>, View<'x, u64>>,
+    ) -> (<Held as Storage>::Room, TC::Room) {
+        (
+            <Held as ExtendFrom<Viewed<'x>>>::add_room(room.0, view.indexes),
+            TC::add_room(room.1, view.somes),
+        )
+    }
+
+    fn extend_from_self(
+        &mut self,
+        view: Options<V, View<'x, u64>, View<'x, u64>, View<'x, u64>>,
+        range: Range<usize>,
+    ) -> Result<(), GrowError> {
+        let before = self.somes.len();
+        let start = range.start;
+        let end = range.end;
+        let first = view.indexes.rank(start);
+        let last = view.indexes.rank(end);
+        match self.somes.extend_from_self(view.somes, first..last) {
+            Ok(()) => {}
+            Err(error) => return Err(error),
+        }
+        match self.indexes.extend_from_self(view.indexes, start..end) {
+            Ok(()) => Ok(()),
+            Err(error) => {
+                self.somes.truncate(before);
+                Err(error)
+            }
+        }
+    }
+}
+
+impl<'a, TC: Borrow<'a>> Borrow<'a> for Options<TC, Vec<u64>, Vec<u64>, [u64; 2]> {
+    type Ref = Option<TC::Ref>;
+
+    type Borrowed = Options<TC::Borrowed, View<'a, u64>, View<'a, u64>, View<'a, u64>>;
+
+    type Parts = TC::Parts;
+
+    ghost same_format = { same_options TC.same_format };
+
+    fn borrow(&'a self) -> Options<TC::Borrowed, View<'a, u64>, View<'a, u64>, View<'a, u64>> {
+        let indexes = self.indexes.borrow();
+        let somes = self.somes.borrow();
+        Options { indexes, somes }
+    }
+}
+
+impl<'a, TC: Container<'a>> Container<'a> for Options<TC, Vec<u64>, Vec<u64>, [u64; 2]> {}
+
+impl<'a, 'b, V: Reborrow<'b>> Reborrow<'b>
+    for Options<V, View<'a, u64>, View<'a, u64>, View<'a, u64>>
+where
+    'a: 'b,
+{
+    type Short = Options<V::Short, View<'b, u64>, View<'b, u64>, View<'b, u64>>;
+
+    ghost same_short = { same_options V.same_short };
+
+    fn reborrow(self) -> Options<V::Short, View<'b, u64>, View<'b, u64>, View<'b, u64>> {
+        let Options { indexes, somes } = self;
+        Options {
+            indexes: indexes.reborrow(),
+            somes: somes.reborrow(),
+        }
+    }
+}

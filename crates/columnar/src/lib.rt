@@ -20,3 +20,5 @@ pub use columnar_core::offsets::{Offsets, StoredOffsets};
 pub use columnar_core::slice::Slice;
 pub use columnar_core::traits::{Clear, Column, CopyAs, Index, IndexAs, Item, Len, Push, PushRef};
 pub use columnar_lists::vector::Vecs;
+pub use columnar_sums::option::Options;
+pub use columnar_sums::rank_select::{RankSelect, RankSelectCursor};

@@ -1,3 +1,4 @@
 //! Columns of sums.
 
+pub mod option;
 pub mod rank_select;

@@ -2,10 +2,10 @@
 #![tactic(auto)]
 
 pub mod option;
-pub mod rank_select;
 #[cfg(test)]
 mod option_tests;
 #[cfg(test)]
 mod plain_tests;
+pub mod rank_select;
 #[cfg(test)]
 mod rank_tests;

@@ -51,12 +51,21 @@ fn some_and_none(rt: HostRuntime) -> Result<(), Fail> {
 #[test]
 fn copies_of_ranges(rt: HostRuntime) -> Result<(), Fail> {
     let mut column = Held::empty(rt.alloc());
-    assert!(rt; Push::extend(&mut column, [Some(1u64), None, Some(3), Some(4), None].iter().copied()).is_ok());
+    assert!(rt;
+        Push::extend(
+            &mut column,
+            [Some(1u64), None, Some(3), Some(4), None].iter().copied()
+        )
+        .is_ok()
+    );
     let mut copy = Held::with_capacity_for(rt.alloc(), [column.borrow()].iter().copied())?;
     assert!(rt; copy.extend_from_self(column.borrow(), 1..4).is_ok());
     assert_eq!(rt; copy.somes.as_slice(), [3, 4].as_slice());
     assert_eq!(rt; copy.get(0), None);
-    assert!(rt; copy.extend_from_self(column.borrow().reborrow(), 0..2).is_ok());
+    assert!(rt;
+        copy.extend_from_self(column.borrow().reborrow(), 0..2)
+            .is_ok()
+    );
     assert_eq!(rt; copy.len(), 5);
     assert_eq!(rt; copy.get(3), Some(1));
     assert!(rt; copy.reserve_for([column.borrow()].iter().copied()).is_ok());

@@ -98,10 +98,7 @@ fn compare_random(rt: &HostRuntime, n: usize, sparse: u64, seed: &mut u64) -> Re
         return Err(Fail::from("past the end"));
     }
     let mut copy = <Held as Storage>::empty(rt.alloc());
-    if copy
-        .extend_from_self(column.borrow(), start..end)
-        .is_err()
-    {
+    if copy.extend_from_self(column.borrow(), start..end).is_err() {
         return Err(Fail::from("refused"));
     }
     compare(rt, &copy, &bits.as_slice()[start..], seed)

@@ -94,15 +94,15 @@ impl<TC: Check + Len, CC: Words, VC: Words, WC: Words> Check for Options<TC, CC,
 impl<'s, TC: FromBytes<'s> + Len> FromBytes<'s>
     for Options<TC, View<'s, u64>, View<'s, u64>, View<'s, u64>> {
     fn from_store(store: &DecodedStore<'s>, offset: &mut usize) -> Self {
-        let indexes =
-            <RankSelect<View<'s, u64>, View<'s, u64>, View<'s, u64>> as FromBytes<'s>>::from_store(store, offset);
+        let indexes = <RankSelect<View<'s, u64>, View<'s, u64>, View<'s, u64>> as FromBytes<
+            's,
+        >>::from_store(store, offset);
         let somes = TC::from_store(store, offset);
         Options { indexes, somes }
     }
 }
 
-impl<'s, TC: AsBytes<'s>> AsBytes<'s>
-    for Options<TC, View<'s, u64>, View<'s, u64>, View<'s, u64>> {
+impl<'s, TC: AsBytes<'s>> AsBytes<'s> for Options<TC, View<'s, u64>, View<'s, u64>, View<'s, u64>> {
     fn get_byte_slice(&self, index: usize) -> (u64, ByteSlice<'s>) {
         if index < 3 {
             self.indexes.get_byte_slice(index)

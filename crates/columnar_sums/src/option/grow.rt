@@ -54,10 +54,7 @@ impl<TC: Storage> Storage for Options<TC, Vec<u64>, Vec<u64>, [u64; 2]> {
         (<Held as Storage>::no_room(), TC::no_room())
     }
 
-    fn reserve_room(
-        &mut self,
-        room: (<Held as Storage>::Room, TC::Room),
-    ) -> Result<(), GrowError> {
+    fn reserve_room(&mut self, room: (<Held as Storage>::Room, TC::Room)) -> Result<(), GrowError> {
         match self.indexes.reserve_room(room.0) {
             Ok(()) => {}
             Err(error) => return Err(error),
@@ -112,7 +109,7 @@ impl<T: Item, TC: Storage + PushRef<T>> PushRef<Option<T>>
     fn push_ref(&mut self, item: &Option<T>) -> Result<(), GrowError> {
         match item {
             Some(value) => {
-                let before = self.somes.len();
+                let rows = self.somes.len();
                 match self.somes.push_ref(value) {
                     Ok(()) => {}
                     Err(error) => return Err(error),
@@ -120,7 +117,7 @@ impl<T: Item, TC: Storage + PushRef<T>> PushRef<Option<T>>
                 match Push::<bool>::push(&mut self.indexes, true) {
                     Ok(()) => Ok(()),
                     Err(error) => {
-                        self.somes.truncate(before);
+                        self.somes.truncate(rows);
                         Err(error)
                     }
                 }
@@ -135,9 +132,9 @@ impl<T: Item, TC: Storage + PushRef<T>> PushRef<Option<T>>
 
 /// The values of the range are those between the ranks of its ends; they are copied first, and then the bits. Where one
 /// of the parts refuses, neither has taken any row.
-impl<'x, V: Index + Copy, TC: ExtendFrom<V>>
-    ExtendFrom<Options<V, View<'x, u64>, View<'x, u64>, View<'x, u64>>>
-    for Options<TC, Vec<u64>, Vec<u64>, [u64; 2]> {
+impl<'x, V: Index + Copy, TC: ExtendFrom<V>> ExtendFrom<
+    Options<V, View<'x, u64>, View<'x, u64>, View<'x, u64>>,
+> for Options<TC, Vec<u64>, Vec<u64>, [u64; 2]> {
     fn add_room(
         room: (<Held as Storage>::Room, TC::Room),
         view: Options<V, View<'x, u64>, View<'x, u64>, View<'x, u64>>,
@@ -153,7 +150,7 @@ impl<'x, V: Index + Copy, TC: ExtendFrom<V>>
         view: Options<V, View<'x, u64>, View<'x, u64>, View<'x, u64>>,
         range: Range<usize>,
     ) -> Result<(), GrowError> {
-        let before = self.somes.len();
+        let taken = self.somes.len();
         let start = range.start;
         let end = range.end;
         let first = view.indexes.rank(start);
@@ -165,7 +162,7 @@ impl<'x, V: Index + Copy, TC: ExtendFrom<V>>
         match self.indexes.extend_from_self(view.indexes, start..end) {
             Ok(()) => Ok(()),
             Err(error) => {
-                self.somes.truncate(before);
+                self.somes.truncate(taken);
                 Err(error)
             }
         }

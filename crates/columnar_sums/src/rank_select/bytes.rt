@@ -91,7 +91,9 @@ pub(crate) fn trues_in<L>(store: &DecodedStore<'_>, offset: usize, tally: &mut T
     ensures turns { tally.new.turns ≤ tally.old.turns + 16 }
 {
     let mut at = offset;
-    let bits = RankSelect::<View<'_, u64>, View<'_, u64>, View<'_, u64>>::from_store(store, &mut at);
+    let bits = RankSelect::<View<'_, u64>, View<'_, u64>, View<'_, u64>>::from_store(
+        store, &mut at,
+    );
     bits.trues_tallied(tally)
 }
 

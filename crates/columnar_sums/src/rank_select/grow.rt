@@ -214,7 +214,7 @@ impl Push<bool> for Held {
 
 impl<'x> Push<&'x bool> for Held {
     fn push(&mut self, item: &'x bool) -> Result<(), GrowError> {
-        match self.push_bit(*item) {
+        match self.push_ref(item) {
             Ok(()) => Ok(()),
             Err(error) => Err(error),
         }

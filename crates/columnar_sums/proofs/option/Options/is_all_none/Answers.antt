@@ -10,6 +10,6 @@ len-requires g c = (options_parts g.TC.Column.format c.requires).values
 
 pub returns : goal.returns
 returns g c = (
-    λ h. options_somes g.TC.Column.format c.requires ∙ nil_from_length _ (sym c.len.ensures ∙ eqb-true _ _ h),
-    λ h. eq-eqb _ _ (c.len.ensures ∙ ap length (sym (options_somes g.TC.Column.format c.requires) ∙ h)),
-  )
+  λ h. options_somes g.TC.Column.format c.requires ∙ nil_from_length _ (sym c.len.ensures ∙ eqb-true _ _ h),
+  λ h. eq-eqb _ _ (c.len.ensures ∙ ap length (sym (options_somes g.TC.Column.format c.requires) ∙ h)),
+)

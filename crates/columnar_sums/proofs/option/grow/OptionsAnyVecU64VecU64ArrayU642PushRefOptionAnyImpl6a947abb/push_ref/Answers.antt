@@ -3,8 +3,8 @@ use Rattle.columnar_sums.specs.OptionLaws.{options_parts, options_took_some, opt
 use Rattle.columnar_core.specs.ChangeLaws.{undone}
 use Rattle.columnar_sums.proofs.option.grow.OptionsAnyVecU64VecU64ArrayU642PushRefOptionAnyImpl6a947abb.push_ref.Goals as goal
 
-pub len-before-requires : goal.len-before-requires
-len-before-requires g c = (options_parts g.TC.Column.format c.requires.sound).values
+pub len-rows-requires : goal.len-rows-requires
+len-rows-requires g c = (options_parts g.TC.Column.format c.requires.sound).values
 
 pub push_ref-requires-clause-sound : goal.push_ref-requires-clause-sound
 push_ref-requires-clause-sound g c = (options_parts g.TC.Column.format c.requires.sound).values
@@ -16,7 +16,7 @@ pub returns-in-Ok-push-clause-ok : goal.returns-in-Ok-push-clause-ok
 returns-in-Ok-push-clause-ok g c = rw c.in-Some.is (options_took_some g.TC.Column.format g.met.TC.Storage.lawful.same c.requires.sound c.in-Ok.ensures.ok c.in-Ok-push.ensures.ok)
 
 pub returns-in-Err-push-clause-err : goal.returns-in-Err-push-clause-err
-returns-in-Err-push-clause-err g c = rw c.in-Some.is (options_refused_true g.TC.Column.format (g.T.Item.meaning c.in-Some.value) c.requires.sound c.in-Err-push.ensures.err (undone g.met.TC.Storage.lawful (options_parts g.TC.Column.format c.requires.sound).values c.in-Ok.ensures.ok.grew (rw c.len-before.ensures at c.truncate.ensures)))
+returns-in-Err-push-clause-err g c = rw c.in-Some.is (options_refused_true g.TC.Column.format (g.T.Item.meaning c.in-Some.value) c.requires.sound c.in-Err-push.ensures.err (undone g.met.TC.Storage.lawful (options_parts g.TC.Column.format c.requires.sound).values c.in-Ok.ensures.ok.grew (rw c.len-rows.ensures at c.truncate.ensures)))
 
 pub returns-in-Ok-push-2-clause-ok : goal.returns-in-Ok-push-2-clause-ok
 returns-in-Ok-push-2-clause-ok g c = rw c.in-None.is (options_took_none g.TC.Column.format g.met.TC.Storage.lawful.same c.requires.sound c.in-Ok-push-2.ensures.ok)

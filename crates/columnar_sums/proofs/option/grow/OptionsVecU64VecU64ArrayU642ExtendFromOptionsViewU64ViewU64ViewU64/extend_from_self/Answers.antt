@@ -9,8 +9,8 @@ use Rattle.columnar_sums.specs.RankColumns.{ranks_bits}
 use Rattle.columnar_sums.specs.WeaveLaws.{ones_grows}
 use Rattle.columnar_sums.proofs.option.grow.OptionsVecU64VecU64ArrayU642ExtendFromOptionsViewU64ViewU64ViewU64.extend_from_self.Goals as goal
 
-pub len-before-requires : goal.len-before-requires
-len-before-requires g c = (options_parts g.TC.Column.format c.requires.sound).values
+pub len-taken-requires : goal.len-taken-requires
+len-taken-requires g c = (options_parts g.TC.Column.format c.requires.sound).values
 
 pub rank-first-requires-clause-in_range : goal.rank-first-requires-clause-in_range
 rank-first-requires-clause-in_range g c = options_within g.V.Column.format (ranks_content view_bytes view_bytes view_bytes c.args.view.indexes) (g.V.Column.content c.args.view.somes) c.args.range.start (let l = c.requires.ordered in let m = c.requires.in_range in omega arith)
@@ -40,4 +40,4 @@ pub returns-in-Ok-extend_from_self-clause-ok : goal.returns-in-Ok-extend_from_se
 returns-in-Ok-extend_from_self-clause-ok g c = options_copied_range g.TC.Column.format g.V.Column.format (ranks_content view_bytes view_bytes view_bytes c.args.view.indexes) (g.V.Column.content c.args.view.somes) c.args.range.start c.args.range.«end» g.met.TC.Storage.lawful.same c.requires.sound c.requires.view_sound c.requires.ordered c.requires.in_range c.in-Ok-extend_from_self.ensures.ok (rw (c.rank-first.ensures.value, c.rank-last.ensures.value) at c.in-Ok.ensures.ok)
 
 pub returns-in-Err-extend_from_self-clause-err : goal.returns-in-Err-extend_from_self-clause-err
-returns-in-Err-extend_from_self-clause-err g c = options_refused_bits_range g.TC.Column.format g.V.Column.format (ranks_content view_bytes view_bytes view_bytes c.args.view.indexes) (g.V.Column.content c.args.view.somes) c.args.range.start c.args.range.«end» c.requires.sound c.requires.ordered c.in-Err-extend_from_self.ensures.err (undone g.met.TC.Storage.lawful (options_parts g.TC.Column.format c.requires.sound).values c.in-Ok.ensures.ok.took.grew (rw c.len-before.ensures at c.truncate.ensures))
+returns-in-Err-extend_from_self-clause-err g c = options_refused_bits_range g.TC.Column.format g.V.Column.format (ranks_content view_bytes view_bytes view_bytes c.args.view.indexes) (g.V.Column.content c.args.view.somes) c.args.range.start c.args.range.«end» c.requires.sound c.requires.ordered c.in-Err-extend_from_self.ensures.err (undone g.met.TC.Storage.lawful (options_parts g.TC.Column.format c.requires.sound).values c.in-Ok.ensures.ok.took.grew (rw c.len-taken.ensures at c.truncate.ensures))

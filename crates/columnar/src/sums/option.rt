@@ -1,0 +1,3 @@
+//! Rows that may be absent.
+
+pub use columnar_sums::option::Options;

@@ -5,7 +5,7 @@ ghost use Rattle.columnar_sums.specs.RankColumns.{ranks_format, owned_ranks};
 
 use crate::rank_select::RankSelect;
 use columnar_core::container::{Borrow, ExtendFrom, Storage};
-use columnar_core::traits::{Index, Len};
+use columnar_core::traits::{Index, Len, Push};
 use std::alloc::Global;
 use std::test::Fail;
 
@@ -57,61 +57,86 @@ fn rank_of(column: &Held, index: usize) -> Result<usize, Fail>
 }
 
 // Are ranks, places and a cursor as a scan has them?
-fn compare(rt: &HostRuntime, column: &Held, bits: &[bool], seed: &mut u64) -> Result<(), Fail>
+fn agrees(column: &Held, bits: &[bool], seed: &mut u64) -> Result<bool, Fail>
     requires { IsSound ranks_format (owned_ranks column.now) }
 {
     let span = (bits.len() as u64).saturating_add(1);
     let total = plain_rank(bits, bits.len());
-    assert_eq!(rt; rank_of(column, bits.len())?, total);
+    let mut same = rank_of(column, bits.len())? == total;
     for _ in 0..64 {
         let index = (next(seed) % span) as usize;
-        assert_eq!(rt; rank_of(column, index)?, plain_rank(bits, index));
+        same = same && rank_of(column, index)? == plain_rank(bits, index);
         let rank = next(seed) % (total as u64).saturating_add(2);
-        assert_eq!(rt; column.select(rank), plain_select(bits, rank));
+        same = same && column.select(rank) == plain_select(bits, rank);
     }
     let mut cursor = column.cursor();
     for at in 0..bits.len() {
         if bits[at] {
-            assert_eq!(rt; cursor.next_one(), Some(at));
+            same = same && cursor.next_one() == Some(at);
         }
     }
-    assert_eq!(rt; cursor.next_one(), None);
-    assert_eq!(rt; cursor.rank(), total as u64);
-    Ok(())
+    Ok(same && cursor.next_one().is_none() && cursor.rank() == total as u64)
 }
 
-// so many random bits, about one in `sparse` of them set, and a copy of a part of them
-fn compare_random(rt: &HostRuntime, n: usize, sparse: u64, seed: &mut u64) -> Result<(), Fail> {
-    let mut bits = Vec::new(rt.alloc());
-    let mut column = <Held as Storage>::empty(rt.alloc());
+// so many random bits, about one in `sparse` of them set
+fn random_bits(alloc: Global, n: usize, sparse: u64, seed: &mut u64) -> Result<Vec<bool>, Fail> {
+    let mut bits = Vec::new(alloc);
     for _ in 0..n {
-        let bit = next(seed) % sparse.max(1) == 0;
-        bits.push(bit)?;
-        if column.push_bit(bit).is_err() {
-            return Err(Fail::from("refused"));
-        }
+        bits.push(next(seed) % sparse.max(1) == 0)?;
     }
-    compare(rt, &column, bits.as_slice(), seed)?;
-    let start = (next(seed) % (n as u64).saturating_add(1)) as usize;
-    let end = column.len();
-    if start > end || start > bits.len() {
-        return Err(Fail::from("past the end"));
-    }
-    let mut copy = <Held as Storage>::empty(rt.alloc());
-    if copy.extend_from_self(column.borrow(), start..end).is_err() {
+    Ok(bits)
+}
+
+// a column of these bits
+fn column_of<C: Storage + Push<bool> + Drop>(alloc: Global, bits: &[bool]) -> Result<C, Fail>
+    ensures { IfOk result (λ c. IsSound C.format (C.content c)) }
+{
+    let mut column = C::empty(alloc);
+    if Push::extend(&mut column, bits.iter().copied()).is_err() {
         return Err(Fail::from("refused"));
     }
-    compare(rt, &copy, &bits.as_slice()[start..], seed)
+    Ok(column)
+}
+
+// a copy of its rows from `start` on
+fn end_of(alloc: Global, column: &Held, start: usize) -> Result<Held, Fail>
+    requires { IsSound ranks_format (owned_ranks column.now) }
+    ensures { IfOk result (λ c. IsSound ranks_format (owned_ranks c)) }
+{
+    let mut copy = <Held as Storage>::empty(alloc);
+    if !copied(&mut copy, column.borrow(), start) {
+        return Err(Fail::from("refused"));
+    }
+    Ok(copy)
+}
+
+// Copies the rows of a view from `start` on behind those of a container.
+fn copied<V: Index + Copy, C: ExtendFrom<V>>(column: &mut C, view: V, start: usize) -> bool
+    requires sound { IsSound C.format (C.content column.old) }
+    requires view_sound { IsSound V.format (V.content view) }
+    ensures { IsSound C.format (C.content column.new) }
+{
+    let end = view.len();
+    start <= end && column.extend_from_self(view, start..end).is_ok()
+}
+
+// Do so many random bits agree, and a copy of their end?
+fn agrees_at_random(alloc: Global, n: usize, sparse: u64, seed: &mut u64) -> Result<bool, Fail> {
+    let bits = random_bits(alloc, n, sparse, seed)?;
+    let column = column_of::<Held>(alloc, bits.as_slice())?;
+    let whole = agrees(&column, bits.as_slice(), seed)?;
+    let start = ((next(seed) % (n as u64).saturating_add(1)) as usize).min(bits.len());
+    let copy = end_of(alloc, &column, start)?;
+    Ok(whole && agrees(&copy, &bits.as_slice()[start..], seed)?)
 }
 
 #[test]
 fn random_bits_of_many_lengths(rt: HostRuntime) -> Result<(), Fail> {
     let mut seed = 88172645463325252;
     for n in [0, 1, 63, 64, 65, 1023, 1024, 1025, 2048, 65536] {
-        compare_random(&rt, n, 1, &mut seed)?;
-        compare_random(&rt, n, 2, &mut seed)?;
-        compare_random(&rt, n, 40, &mut seed)?;
-        compare_random(&rt, n, 3000, &mut seed)?;
+        for sparse in [1, 2, 40, 3000] {
+            assert!(rt; agrees_at_random(rt.alloc(), n, sparse, &mut seed)?);
+        }
     }
     Ok(())
 }

@@ -8,6 +8,7 @@ use crate::{
     Borrow, Check, Clear, Len, Options, Push, PushRef, RankSelect, Reborrow, ReborrowRef, Stored,
     Vecs,
 };
+use std::alloc::Global;
 use std::test::Fail;
 
 type Numbers = Options<Vec<u64>, Vec<u64>, Vec<u64>, [u64; 2]>;
@@ -38,9 +39,9 @@ fn some_and_none_are_written_and_opened(rt: HostRuntime) -> Result<(), Fail> {
 }
 
 // The fault of words that are no column of optional numbers
-fn fault(rt: &HostRuntime, words: &[u64]) -> Result<Option<StoreFault>, Fail> {
-    let bytes = bytes_of(rt.alloc(), words)?;
-    match Stash::<Numbers, Vec<u8>>::try_from_bytes(rt.alloc(), bytes) {
+fn fault(alloc: Global, words: &[u64]) -> Result<Option<StoreFault>, Fail> {
+    let bytes = bytes_of(alloc, words)?;
+    match Stash::<Numbers, Vec<u8>>::try_from_bytes(alloc, bytes) {
         Ok(_) => Ok(None),
         Err(fault) => Ok(Some(fault)),
     }
@@ -48,20 +49,20 @@ fn fault(rt: &HostRuntime, words: &[u64]) -> Result<Option<StoreFault>, Fail> {
 
 #[test]
 fn stores_that_are_refused(rt: HostRuntime) -> Result<(), Fail> {
-    assert_eq!(rt; fault(&rt, [40, 40, 40, 56, 64, 1, 2].as_slice())?, Some(StoreFault::PastEnd(3)));
+    assert_eq!(rt; fault(rt.alloc(), [40, 40, 40, 56, 64, 1, 2].as_slice())?, Some(StoreFault::PastEnd(3)));
     assert_eq!(rt;
-        fault(&rt, [40, 48, 48, 64, 72, 1, 1, 2, 7].as_slice())?,
+        fault(rt.alloc(), [40, 48, 48, 64, 72, 1, 1, 2, 7].as_slice())?,
         Some(StoreFault::Counts(0))
     );
     assert_eq!(rt;
-        fault(&rt, [40, 40, 40, 56, 64, 5, 2, 7].as_slice())?,
+        fault(rt.alloc(), [40, 40, 40, 56, 64, 5, 2, 7].as_slice())?,
         Some(StoreFault::TailBits(1))
     );
     assert_eq!(rt;
-        fault(&rt, [40, 40, 40, 56, 64, 3, 2, 7].as_slice())?,
+        fault(rt.alloc(), [40, 40, 40, 56, 64, 3, 2, 7].as_slice())?,
         Some(StoreFault::Parts(0))
     );
-    assert_eq!(rt; fault(&rt, [40, 40, 40, 56, 64, 1, 2, 7].as_slice())?, None);
+    assert_eq!(rt; fault(rt.alloc(), [40, 40, 40, 56, 64, 1, 2, 7].as_slice())?, None);
     Ok(())
 }
 

@@ -5,6 +5,8 @@ ghost use Rattle.columnar_core.specs.Format.{IsSound, representable};
 ghost use Rattle.columnar_bytes.specs.Stashes.{stash_content};
 ghost use Rattle.columnar_bytes.specs.Machine.{IsValid};
 
+pub(super) mod values;
+
 use super::{front, has, opened, variant, writes};
 use crate::bytes::indexed::encode;
 use crate::bytes::stash::{ByteStore, Command, Refusal, Reply, Stash, run};

@@ -3,9 +3,9 @@ ghost use Rattle.std.specs.Prelude.{IsTrue};
 ghost use Rattle.columnar_core.specs.Format.{IsSound, representable};
 
 use super::{
-    NUMBERS, NUMBERS_AND_ONE, aligning_keeps, copy_keeps, cut_keeps, encoding_keeps, loading_keeps,
-    opened, push_keeps, push_ref_keeps, room_is_made_or_refused, room_keeps, sizes_keep,
-    turns_keep,
+    NUMBERS, NUMBERS_AND_ONE, aligning_keeps, clones_keep, copy_keeps, cut_keeps, encoding_keeps,
+    loading_keeps, opened, push_keeps, push_ref_keeps, room_is_made_or_refused, room_keeps,
+    sizes_keep, turns_keep,
 };
 use crate::fault::GrowError;
 use crate::primitive::offsets::{Fixeds, Strides};
@@ -26,7 +26,7 @@ type Large = U128s<Vec<[u8; 16]>>;
 
 type LargeSigned = I128s<Vec<[u8; 16]>>;
 
-pub(in crate::tests) type Times = Durations<Vec<u64>, Vec<u32>>;
+type Times = Durations<Vec<u64>, Vec<u32>>;
 
 type Units = Empties<u64>;
 
@@ -34,9 +34,9 @@ type Steps = Strides<Vec<u64>, [u64; 2]>;
 
 type Threes = Fixeds<3, u64>;
 
-pub(in crate::tests) type Bits = Bools<Vec<u64>, [u64; 2]>;
+type Bits = Bools<Vec<u64>, [u64; 2]>;
 
-pub(in crate::tests) type Ranks = RankSelect<Vec<u64>, Vec<u64>, [u64; 2]>;
+type Ranks = RankSelect<Vec<u64>, Vec<u64>, [u64; 2]>;
 
 const ONES: u64 = u64::MAX;
 
@@ -171,7 +171,7 @@ fn rooms_keep<V: Index + Copy, C: ContainerBytes + ExtendFrom<V>>(
 }
 
 // Bytes and a column are loaded, copied, aligned and cut, or not
-fn all_turns_keep<C: ContainerBytes>(
+fn all_turns_keep<C: ContainerBytes + Clone>(
     alloc: Global,
     count: usize,
     before: &[u64],
@@ -187,11 +187,37 @@ fn all_turns_keep<C: ContainerBytes>(
     };
     turns_keep(alloc, &stash, after)
         && turns_keep(alloc, &typed, after)
+        && clones_keep(alloc, &stash, after)
+        && clones_keep(alloc, &typed, after)
         && aligning_keeps(alloc, &mut stash, after)
         && turns_keep(alloc, &stash, after)
+        && clones_keep(alloc, &stash, after)
         && aligning_keeps(alloc, &mut typed, after)
         && loading_keeps(&mut typed, after)
         && cut_keeps(&mut stash, count, after, before)
+}
+
+// Are two stores accepted?
+fn are_accepted<C: ContainerBytes>(alloc: Global, before: &[u64], after: &[u64]) -> bool
+    requires { IsTrue (representable C.format) }
+{
+    opened::<C>(alloc, before).is_some() && opened::<C>(alloc, after).is_some()
+}
+
+// Are all stores of these tests accepted? Else the tests would end before the calls that they test.
+pub(in crate::tests) fn all_are_accepted(alloc: Global) -> bool {
+    are_accepted::<Sizes>(alloc, NUMBERS.as_slice(), NUMBERS_AND_ONE.as_slice())
+        && are_accepted::<Differences>(alloc, NUMBERS.as_slice(), NUMBERS_AND_ONE.as_slice())
+        && are_accepted::<Characters>(alloc, CHARACTERS.as_slice(), CHARACTERS_AND_ONE.as_slice())
+        && are_accepted::<Large>(alloc, LARGE.as_slice(), LARGE_AND_ONE.as_slice())
+        && are_accepted::<LargeSigned>(alloc, LARGE.as_slice(), LARGE_AND_MINUS.as_slice())
+        && are_accepted::<Times>(alloc, TIMES.as_slice(), TIMES_AND_ONE.as_slice())
+        && are_accepted::<Units>(alloc, [16, 24, 4].as_slice(), [16, 24, 5].as_slice())
+        && are_accepted::<Steps>(alloc, STEPS.as_slice(), STEPS_AND_ONE.as_slice())
+        && are_accepted::<Steps>(alloc, MULTIPLES.as_slice(), MULTIPLES_AND_TWO.as_slice())
+        && are_accepted::<Threes>(alloc, [16, 24, 2].as_slice(), [16, 24, 3].as_slice())
+        && are_accepted::<Bits>(alloc, BITS.as_slice(), BITS_AND_ONE.as_slice())
+        && are_accepted::<Ranks>(alloc, RANKS.as_slice(), RANKS_AND_ONE.as_slice())
 }
 
 #[test]

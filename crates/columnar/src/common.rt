@@ -6,6 +6,6 @@ pub use columnar_core::bytes::{AsBytes, FromBytes};
 pub use columnar_core::element::{Element, Primitive, Wide};
 pub use columnar_core::slice::Slice;
 pub use columnar_core::tally::{Plain, Tally};
-pub use columnar_core::traits::{Clear, Len, Push, PushRef};
+pub use columnar_core::traits::{Clear, Len, Push, PushRef, PushSlice};
 pub use columnar_core::view::{Items, View};
 pub use columnar_core::viewed::Viewed;

@@ -8,9 +8,11 @@ mod depth;
 mod options;
 mod refused;
 mod stash;
+mod values;
 mod worked;
 
 use crate::bytes::ByteSlice;
+use crate::bytes::indexed::validate;
 use crate::bytes::stash::{ByteStore, Stash};
 use crate::{Borrow, ContainerBytes, ExtendFrom, FromBytes, Index, Len, Push, Slice, Stored};
 use std::alloc::Global;
@@ -22,6 +24,22 @@ fn bytes_of(alloc: Global, words: &[u64]) -> Result<Vec<u8>, Error> {
     match ByteSlice::of_words(words).write(&mut bytes) {
         Ok(()) => Ok(bytes),
         Err(fault) => Err(fault),
+    }
+}
+
+// The number of the rule that words break as the store of a type, and its slice; 0 where they break none
+fn refusal<C: ContainerBytes>(alloc: Global, words: &[u64]) -> Result<(u8, usize), Error>
+    requires { IsTrue (representable C.format) }
+{
+    let bytes = bytes_of(alloc, words)?;
+    let judged = match validate::<C>(bytes.as_slice()) {
+        Ok(()) => (0, 0),
+        Err(fault) => (fault.number(), fault.slice()),
+    };
+    match Stash::<C, Vec<u8>>::try_from_bytes(alloc, bytes) {
+        Ok(_) if judged.0 == 0 => Ok(judged),
+        Err(fault) if (fault.number(), fault.slice()) == judged => Ok(judged),
+        _ => Ok((99, 0)),
     }
 }
 

@@ -42,3 +42,10 @@ abbrev pub written_bytes : {C B : Type 0} {column : ColumnOf C} {store : BytesOf
 written_bytes {C} {B} {column} {store} (Typed c) = store_bytes (slices_of (column.content c))
 written_bytes {C} {B} {column} {store} (Bytes k) = checked_bytes k
 written_bytes {C} {B} {column} {store} (Align k) = checked_bytes k
+
+-- a clone of a stash: of the same variant, with a clone of the column, or the same bytes
+abbrev pub IsStashClone : {C B : Type 0} {column : ColumnOf C} {store : BytesOf B} → (C → C → Type 0) → Stash C B column store → Stash C B column store → Type 0
+IsStashClone is_clone (Typed c) (Typed d) = is_clone c d
+IsStashClone is_clone (Bytes k) (Bytes l) = checked_bytes l ≡ checked_bytes k
+IsStashClone is_clone (Align k) (Align l) = checked_bytes l ≡ checked_bytes k
+IsStashClone is_clone _ _ = ⊥

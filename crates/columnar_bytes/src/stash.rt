@@ -1,9 +1,10 @@
 //! A column, or bytes that were accepted for one.
-ghost use Rattle.std.specs.Prelude.{◌≡◌, ℕ, length, List, IsTrue};
+ghost use Rattle.std.specs.Prelude.{◌≡◌, ℕ, length, List, IfOk, IsTrue};
 ghost use Rattle.columnar_core.specs.Format.{representable};
 ghost use Rattle.columnar_core.specs.Frame.{framed_slices};
 ghost use Rattle.columnar_bytes.specs.Accepted.{Accepted};
 
+mod clone;
 mod commands;
 mod convert;
 mod framed;
@@ -15,7 +16,7 @@ use columnar_core::container::ContainerBytes;
 use columnar_core::store::DecodedStore;
 use columnar_core::traits::{Column, Len};
 pub use commands::{Command, Refusal, Reply, run};
-use std::alloc::Global;
+use std::alloc::{AllocError, Global};
 use std::marker::PhantomData;
 use std::ops::DerefSlice;
 use std::rc::RcSlice;
@@ -28,6 +29,10 @@ pub trait ByteStore: Drop {
     /// The bytes.
     fn as_slice(&self) -> &[u8]
         ensures { result.now ≡ bytes self.now };
+
+    /// A value that holds the same bytes; want of memory alone refuses it.
+    fn clone_store(&self) -> Result<Self, AllocError>
+        ensures { IfOk result (λ s. bytes s ≡ bytes self.now) };
 }
 
 impl ByteStore for Vec<u8> {
@@ -36,13 +41,21 @@ impl ByteStore for Vec<u8> {
     fn as_slice(&self) -> &[u8] {
         Vec::as_slice(self)
     }
+
+    fn clone_store(&self) -> Result<Self, AllocError> {
+        Vec::from_slice(*self.allocator(), Vec::as_slice(self))
+    }
 }
 
 impl<'a> ByteStore for &'a [u8] {
     ghost bytes = { λ s. s.now };
 
     fn as_slice(&self) -> &[u8] {
-        self
+        *self
+    }
+
+    fn clone_store(&self) -> Result<Self, AllocError> {
+        Ok(*self)
     }
 }
 
@@ -53,6 +66,10 @@ impl ByteStore for RcSlice<u8> {
 
     fn as_slice(&self) -> &[u8] {
         DerefSlice::deref(self)
+    }
+
+    fn clone_store(&self) -> Result<Self, AllocError> {
+        self.clone()
     }
 }
 

@@ -1,19 +1,13 @@
 // Lists of pairs, pairs of lists, and lists of lists: pushed, written, opened and read item by item.
-ghost use Rattle.std.specs.Prelude.{IsTrue};
-ghost use Rattle.columnar_core.specs.Format.{representable};
-
-use super::{bytes_of, copied, item_of, opened, pushed, reopened, row_at, row_of};
+use super::{bytes_of, copied, item_of, opened, pushed, refusal, reopened, row_at, row_of};
 use crate::bytes::ByteSlices;
 use crate::bytes::indexed::{encode, validate};
 use crate::bytes::stash::Stash;
 use crate::common::View;
 use crate::fault::StoreFault;
 use crate::{
-    AsBytes, Borrow, Check, Clear, ContainerBytes, Len, Push, Reborrow, ReborrowRef, Slice,
-    Storage, Stored, Vecs,
+    AsBytes, Borrow, Check, Clear, Len, Push, Reborrow, ReborrowRef, Slice, Storage, Stored, Vecs,
 };
-use std::alloc::Global;
-use std::io::Error;
 use std::test::Fail;
 
 type Pairs = (Vec<u64>, Vec<u64>);
@@ -44,22 +38,6 @@ static NESTED: [u64; 19] = [
 static FIRSTS: [u64; 3] = [1, 2, 3];
 
 static SECONDS: [u64; 3] = [10, 20, 30];
-
-// The number of the rule that words break as the store of a type, and its slice; 0 where they break none
-fn refusal<C: ContainerBytes>(alloc: Global, words: &[u64]) -> Result<(u8, usize), Error>
-    requires { IsTrue (representable C.format) }
-{
-    let bytes = bytes_of(alloc, words)?;
-    let judged = match validate::<C>(bytes.as_slice()) {
-        Ok(()) => (0, 0),
-        Err(fault) => (fault.number(), fault.slice()),
-    };
-    match Stash::<C, Vec<u8>>::try_from_bytes(alloc, bytes) {
-        Ok(_) if judged.0 == 0 => Ok(judged),
-        Err(fault) if (fault.number(), fault.slice()) == judged => Ok(judged),
-        _ => Ok((99, 0)),
-    }
-}
 
 #[test]
 fn parts_of_two_lengths_are_refused(rt: HostRuntime) -> Result<(), Fail> {

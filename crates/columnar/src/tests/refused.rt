@@ -5,6 +5,8 @@ ghost use Rattle.columnar_core.specs.Format.{IsSound, representable};
 ghost use Rattle.columnar_bytes.specs.Stashes.{stash_content};
 ghost use Rattle.columnar_bytes.specs.Machine.{IsValid};
 
+pub(super) mod values;
+
 use super::{front, has, opened, variant, writes};
 use crate::bytes::indexed::encode;
 use crate::bytes::stash::{ByteStore, Command, Refusal, Reply, Stash, run};
@@ -200,6 +202,27 @@ fn turns_keep<C: ContainerBytes>(alloc: Global, stash: &Stash<C, Vec<u8>>, words
         Err(error) => error == EncodeError::Memory,
     };
     typed && aligned && variant(stash) == held && writes(stash, words)
+}
+
+// A clone and a duplicate are of the same variant and have the same words, and the stash is as it was; so it is after a
+// refusal
+fn clones_keep<C: ContainerBytes + Clone>(
+    alloc: Global,
+    stash: &Stash<C, Vec<u8>>,
+    words: &[u64],
+) -> bool
+    requires { IsTrue (representable C.format) }
+{
+    let held = variant(stash);
+    let cloned = match stash.clone() {
+        Ok(copy) => variant(&copy) == held && writes(&copy, words),
+        Err(_) => true,
+    };
+    let same = match stash.duplicate(alloc) {
+        Ok(copy) => variant(&copy) == held && writes(&copy, words),
+        Err(error) => error == GrowError::Memory,
+    };
+    cloned && same && variant(stash) == held && writes(stash, words)
 }
 
 // The bytes are aligned in place, or the stash is as it was
@@ -504,6 +527,21 @@ fn turns_of_numbers(rt: HostRuntime) -> Result<(), Fail> {
     assert!(rt; aligning_keeps(rt.alloc(), &mut stash, NUMBERS.as_slice()));
     assert!(rt; turns_keep(rt.alloc(), &stash, NUMBERS.as_slice()));
     assert!(rt; loading_keeps(&mut stash, NUMBERS.as_slice()));
+    Ok(())
+}
+
+#[test]
+fn clones_of_lists(rt: HostRuntime) -> Result<(), Fail> {
+    let Some(mut stash) = opened::<Lists>(rt.alloc(), LISTS.as_slice()) else {
+        return Ok(());
+    };
+    let Ok(typed) = stash.to_typed(rt.alloc()) else {
+        return Ok(());
+    };
+    assert!(rt; clones_keep(rt.alloc(), &stash, LISTS.as_slice()));
+    assert!(rt; clones_keep(rt.alloc(), &typed, LISTS.as_slice()));
+    assert!(rt; aligning_keeps(rt.alloc(), &mut stash, LISTS.as_slice()));
+    assert!(rt; clones_keep(rt.alloc(), &stash, LISTS.as_slice()));
     Ok(())
 }
 

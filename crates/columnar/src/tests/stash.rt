@@ -1,8 +1,10 @@
 // Stashes: a column, opened bytes and aligned bytes, what each call makes of them, and runs of commands.
-use super::{bytes_of, has, opened, refused, variant, writes};
+ghost use Rattle.columnar_core.specs.Format.{IsSound};
+
+use super::{bytes_of, has, opened, refused, row_at, variant, writes};
 use crate::bytes::stash::{ByteStore, Command, Refusal, Reply, Stash, run};
 use crate::common::View;
-use crate::{Check, Clear, Len, Push, PushRef, Stored, Vecs};
+use crate::{Borrow, Check, Clear, Len, Push, PushRef, Stored, Vecs};
 use std::rc::RcSlice;
 use std::test::Fail;
 
@@ -87,6 +89,79 @@ fn shared_bytes_are_opened(rt: HostRuntime) -> Result<(), Fail> {
     assert!(rt; writes(&stash, WORD_BEHIND.as_slice()));
     assert!(rt; stash.push(9u64).is_ok());
     assert!(rt; has(&stash, [7, 8, 9].as_slice()));
+    Ok(())
+}
+
+// Row `index` of a stash, through the trait, where there is one
+fn row_through<'a, S: Borrow<'a>>(stash: &'a S, index: usize) -> Option<S::Ref>
+    requires { IsSound S.format (S.content stash.now) }
+{
+    let view = stash.borrow();
+    row_at(&view, index)
+}
+
+#[test]
+fn stashes_are_borrowed_through_the_trait(rt: HostRuntime) -> Result<(), Fail> {
+    let stash = opened::<Vec<u64>>(rt.alloc(), WORD_BEHIND.as_slice()).expect(&rt, "opened");
+    assert_eq!(rt; row_through(&stash, 1), Some(8));
+    assert_eq!(rt; row_through(&stash, 2), None);
+    let aligned = stash.to_aligned(rt.alloc())?;
+    assert_eq!(rt; row_through(&aligned, 1), Some(8));
+    let bytes = bytes_of(rt.alloc(), WORD_BEHIND.as_slice())?;
+    match Stash::<Vec<u64>, &[u8]>::try_from_bytes(rt.alloc(), bytes.as_slice()) {
+        Ok(stash) => assert_eq!(rt; row_through(&stash, 1), Some(8)),
+        Err(_) => assert!(rt; false),
+    }
+    match Stash::<Vec<u64>, RcSlice<u8>>::try_from_bytes(rt.alloc(), RcSlice::from_vec(bytes)?) {
+        Ok(stash) => assert_eq!(rt; row_through(&stash, 1), Some(8)),
+        Err(_) => assert!(rt; false),
+    }
+    Ok(())
+}
+
+#[test]
+fn clones_write_what_their_sources_do(rt: HostRuntime) -> Result<(), Fail> {
+    let stash = opened::<Vec<u64>>(rt.alloc(), WORD_BEHIND.as_slice()).expect(&rt, "opened");
+    let copy = stash.clone()?;
+    assert_eq!(rt; variant(&copy), 1);
+    assert!(rt; writes(&copy, WORD_BEHIND.as_slice()));
+    let typed = stash.to_typed(rt.alloc())?.clone()?;
+    assert_eq!(rt; variant(&typed), 0);
+    assert!(rt; writes(&typed, SEVEN_EIGHT.as_slice()));
+    let aligned = stash.to_aligned(rt.alloc())?.clone()?;
+    assert_eq!(rt; variant(&aligned), 2);
+    assert!(rt; writes(&aligned, SEVEN_EIGHT.as_slice()));
+    assert!(rt; writes(&stash, WORD_BEHIND.as_slice()));
+    Ok(())
+}
+
+#[test]
+fn borrowed_and_shared_bytes_are_cloned(rt: HostRuntime) -> Result<(), Fail> {
+    let bytes = bytes_of(rt.alloc(), WORD_BEHIND.as_slice())?;
+    match Stash::<Vec<u64>, &[u8]>::try_from_bytes(rt.alloc(), bytes.as_slice()) {
+        Ok(stash) => assert!(rt; writes(&stash.clone()?, WORD_BEHIND.as_slice())),
+        Err(_) => assert!(rt; false),
+    }
+    match Stash::<Vec<u64>, RcSlice<u8>>::try_from_bytes(rt.alloc(), RcSlice::from_vec(bytes)?) {
+        Ok(stash) => assert!(rt; writes(&stash.clone()?, WORD_BEHIND.as_slice())),
+        Err(_) => assert!(rt; false),
+    }
+    Ok(())
+}
+
+#[test]
+fn duplicates_have_the_same_rows(rt: HostRuntime) -> Result<(), Fail> {
+    let mut stash = opened::<Vec<u64>>(rt.alloc(), WORD_BEHIND.as_slice()).expect(&rt, "opened");
+    let mut copy = stash.duplicate(rt.alloc())?;
+    assert_eq!(rt; variant(&copy), 1);
+    assert!(rt; copy.push(9u64).is_ok());
+    let again = copy.duplicate(rt.alloc())?;
+    assert_eq!(rt; variant(&again), 0);
+    assert!(rt; has(&again, [7, 8, 9].as_slice()));
+    assert!(rt; stash.make_aligned(rt.alloc()).is_ok());
+    let aligned = stash.duplicate(rt.alloc())?;
+    assert_eq!(rt; variant(&aligned), 2);
+    assert!(rt; has(&aligned, [7, 8].as_slice()));
     Ok(())
 }
 
@@ -214,6 +289,7 @@ fn the_stores_of_the_refusals_are_accepted(rt: HostRuntime) -> Result<(), Fail> 
     for store in [refused::LISTS.as_slice(), refused::LISTS_AND_ONE.as_slice()] {
         assert!(rt; opened::<Lists>(rt.alloc(), store).is_some());
     }
+    assert!(rt; refused::values::all_are_accepted(rt.alloc()));
     Ok(())
 }
 

@@ -120,3 +120,18 @@ impl<C: ContainerBytes, B: ByteStore> Stash<C, B> {
         }
     }
 }
+
+impl<'a, C: ContainerBytes + Borrow<'a, Borrowed: FromBytes<'a>>, B: ByteStore> Borrow<'a>
+    for Stash<C, B> {
+    type Ref = C::Ref;
+
+    type Borrowed = C::Borrowed;
+
+    type Parts = C::Parts;
+
+    ghost same_format = { C.same_format };
+
+    fn borrow(&'a self) -> C::Borrowed {
+        Stash::borrow(self)
+    }
+}

@@ -1,0 +1,76 @@
+//! How a stash is copied.
+ghost use Rattle.std.specs.Prelude.{◌≡◌, IfOk, IfErr};
+
+use super::{ByteStore, Checked, Stash};
+use columnar_core::bytes::Stored;
+use columnar_core::container::ContainerBytes;
+use columnar_core::fault::GrowError;
+use std::alloc::{AllocError, Global};
+use std::marker::PhantomData;
+
+impl<C: Stored, B: ByteStore> Clone for Checked<C, B> {
+    ghost use Rattle.columnar_bytes.specs.Stashes.{checked_bytes};
+
+    ghost is_clone = { λ k l. checked_bytes l ≡ checked_bytes k };
+
+    fn clone(&self) -> Result<Self, AllocError> {
+        match self.store.clone_store() {
+            Ok(store) => Ok(Checked {
+                alloc: self.alloc,
+                store,
+                of: PhantomData,
+            }),
+            Err(error) => Err(error),
+        }
+    }
+}
+
+impl<C: Stored + Clone, B: ByteStore> Clone for Stash<C, B> {
+    ghost use Rattle.columnar_bytes.specs.Stashes.{IsStashClone};
+
+    ghost is_clone = { λ s t. IsStashClone C.is_clone s t };
+
+    fn clone(&self) -> Result<Self, AllocError> {
+        match self {
+            Stash::Typed(column) => match column.clone() {
+                Ok(copy) => Ok(Stash::Typed(copy)),
+                Err(error) => Err(error),
+            },
+            Stash::Bytes(checked) => match checked.clone() {
+                Ok(copy) => Ok(Stash::Bytes(copy)),
+                Err(error) => Err(error),
+            },
+            Stash::Align(checked) => match checked.clone() {
+                Ok(copy) => Ok(Stash::Align(copy)),
+                Err(error) => Err(error),
+            },
+        }
+    }
+}
+
+impl<C: ContainerBytes, B: ByteStore> Stash<C, B> {
+    ghost use Rattle.columnar_bytes.specs.Stashes.{stash_content, variant_of};
+
+    /// A stash of the same variant, with the same rows and slices; want of memory alone refuses it. What a clone keeps
+    /// of a column is what the column's `clone` says.
+    pub fn duplicate(&self, alloc: Global) -> Result<Self, GrowError>
+        ensures variant { IfOk result (λ s. variant_of s ≡ variant_of self.now) }
+        ensures content { IfOk result (λ s. stash_content s ≡ stash_content self.now) }
+        ensures memory { IfErr result (λ e. e ≡ GrowError.Memory) }
+    {
+        match self {
+            Stash::Typed(column) => match column.duplicate(alloc) {
+                Ok(same) => Ok(Stash::Typed(same)),
+                Err(error) => Err(error),
+            },
+            Stash::Bytes(checked) => match checked.clone() {
+                Ok(same) => Ok(Stash::Bytes(same)),
+                Err(_) => Err(GrowError::Memory),
+            },
+            Stash::Align(checked) => match checked.clone() {
+                Ok(same) => Ok(Stash::Align(same)),
+                Err(_) => Err(GrowError::Memory),
+            },
+        }
+    }
+}

@@ -49,7 +49,10 @@ fn fault(alloc: Global, words: &[u64]) -> Result<Option<StoreFault>, Fail> {
 
 #[test]
 fn stores_that_are_refused(rt: HostRuntime) -> Result<(), Fail> {
-    assert_eq!(rt; fault(rt.alloc(), [40, 40, 40, 56, 64, 1, 2].as_slice())?, Some(StoreFault::PastEnd(3)));
+    assert_eq!(rt;
+        fault(rt.alloc(), [40, 40, 40, 56, 64, 1, 2].as_slice())?,
+        Some(StoreFault::PastEnd(3))
+    );
     assert_eq!(rt;
         fault(rt.alloc(), [40, 48, 48, 64, 72, 1, 1, 2, 7].as_slice())?,
         Some(StoreFault::Counts(0))
@@ -62,7 +65,10 @@ fn stores_that_are_refused(rt: HostRuntime) -> Result<(), Fail> {
         fault(rt.alloc(), [40, 40, 40, 56, 64, 3, 2, 7].as_slice())?,
         Some(StoreFault::Parts(0))
     );
-    assert_eq!(rt; fault(rt.alloc(), [40, 40, 40, 56, 64, 1, 2, 7].as_slice())?, None);
+    assert_eq!(rt;
+        fault(rt.alloc(), [40, 40, 40, 56, 64, 1, 2, 7].as_slice())?,
+        None
+    );
     Ok(())
 }
 

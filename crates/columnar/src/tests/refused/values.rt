@@ -11,7 +11,9 @@ use crate::fault::GrowError;
 use crate::primitive::offsets::{Fixeds, Strides};
 use crate::primitive::{Bools, Chars, Durations, Empties, I128s, Isizes, U128s, Usizes};
 use crate::sums::rank_select::RankSelect;
-use crate::{Borrow, Check, ContainerBytes, ExtendFrom, Index, Item, Push, PushRef, Storage};
+use crate::{
+    Borrow, Check, ContainerBytes, ExtendFrom, Index, Item, Options, Push, PushRef, Storage,
+};
 use std::alloc::Global;
 use std::test::Fail;
 use std::time::Duration;
@@ -37,6 +39,8 @@ type Threes = Fixeds<3, u64>;
 type Bits = Bools<Vec<u64>, [u64; 2]>;
 
 type Ranks = RankSelect<Vec<u64>, Vec<u64>, [u64; 2]>;
+
+type Perhaps = Options<Vec<u64>, Vec<u64>, Vec<u64>, [u64; 2]>;
 
 const ONES: u64 = u64::MAX;
 
@@ -89,6 +93,25 @@ static RANKS: [u64; 21] = [
 static RANKS_AND_ONE: [u64; 23] = [
     32, 40, 168, 184, 1024, ONES, ONES, ONES, ONES, ONES, ONES, ONES, ONES, ONES, ONES, ONES, ONES,
     ONES, ONES, ONES, ONES, 0, 0,
+];
+
+// 63 rows of which the first four are numbers, and one more
+static FEW: [u64; 11] = [40, 40, 40, 56, 88, 15, 63, 1, 2, 3, 4];
+
+static FEW_AND_ONE: [u64; 13] = [
+    40,
+    40,
+    48,
+    64,
+    104,
+    9223372036854775823,
+    0,
+    0,
+    1,
+    2,
+    3,
+    4,
+    5,
 ];
 
 // A push to bytes and to a column is done, or refused and then done
@@ -218,6 +241,7 @@ pub(in crate::tests) fn all_are_accepted(alloc: Global) -> bool {
         && are_accepted::<Threes>(alloc, [16, 24, 2].as_slice(), [16, 24, 3].as_slice())
         && are_accepted::<Bits>(alloc, BITS.as_slice(), BITS_AND_ONE.as_slice())
         && are_accepted::<Ranks>(alloc, RANKS.as_slice(), RANKS_AND_ONE.as_slice())
+        && are_accepted::<Perhaps>(alloc, FEW.as_slice(), FEW_AND_ONE.as_slice())
 }
 
 #[test]
@@ -503,9 +527,31 @@ fn columns_of_counted_bits(rt: HostRuntime) -> Result<(), Fail> {
         return Ok(());
     };
     assert!(rt; pushes_keep::<bool, Ranks>(alloc, true, before, after));
+    assert!(rt; pushes_keep::<&bool, Ranks>(alloc, &true, before, after));
+    assert!(rt; ref_pushes_keep::<bool, Ranks>(alloc, &true, before, after));
     assert!(rt; copies_keep::<_, Ranks>(alloc, source.borrow(), 1, before, after));
     assert!(rt; rooms_keep::<_, Ranks>(alloc, source.borrow(), before));
     assert!(rt; all_turns_keep::<Ranks>(alloc, 1023, before, after));
+    assert!(rt; encoding_keeps(alloc, &source.borrow(), one.as_slice()));
+    Ok(())
+}
+
+#[test]
+fn columns_of_options(rt: HostRuntime) -> Result<(), Fail> {
+    let alloc = rt.alloc();
+    let before = FEW.as_slice();
+    let after = FEW_AND_ONE.as_slice();
+    let one = [40, 40, 40, 56, 64, 1, 1, 5];
+    let Some(source) = opened::<Perhaps>(alloc, one.as_slice()) else {
+        return Ok(());
+    };
+    let five = Some(5u64);
+    assert!(rt; pushes_keep::<Option<u64>, Perhaps>(alloc, five, before, after));
+    assert!(rt; pushes_keep::<&Option<u64>, Perhaps>(alloc, &five, before, after));
+    assert!(rt; ref_pushes_keep::<Option<u64>, Perhaps>(alloc, &five, before, after));
+    assert!(rt; copies_keep::<_, Perhaps>(alloc, source.borrow(), 1, before, after));
+    assert!(rt; rooms_keep::<_, Perhaps>(alloc, source.borrow(), before));
+    assert!(rt; all_turns_keep::<Perhaps>(alloc, 63, before, after));
     assert!(rt; encoding_keeps(alloc, &source.borrow(), one.as_slice()));
     Ok(())
 }
@@ -522,5 +568,6 @@ fn sizes_of_elements(rt: HostRuntime) -> Result<(), Fail> {
     assert!(rt; sizes_keep::<Threes>(&mut sizes));
     assert!(rt; sizes_keep::<Bits>(&mut sizes));
     assert!(rt; sizes_keep::<Ranks>(&mut sizes));
+    assert!(rt; sizes_keep::<Perhaps>(&mut sizes));
     Ok(())
 }

@@ -20,8 +20,6 @@ pub mod Views
 pub mod ViewLaws
 pub mod Tuples
 pub mod TupleLaws
-pub mod Rules
-pub mod LongTuples
 pub mod WordViews
 pub mod WordViewLaws
 pub mod OptionRows

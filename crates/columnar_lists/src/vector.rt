@@ -24,7 +24,7 @@ use std::ops::Range;
 /// A column of lists. List i has the values from bound i - 1, or from 0 where there is none, up to bound i; it is
 /// well formed where the bounds never fall and the last one is the number of the values, 0 where there is none.
 #[derive(Clone, Copy, Drop)]
-pub struct Vecs<TC, BC> {
+pub struct Vecs<TC, BC = Vec<u64>> {
     /// Where each list ends.
     pub bounds: BC,
     /// The items of all lists.

@@ -25,7 +25,7 @@ pub use bytes::{judged, view_slice};
 
 /// Truth values, packed as bits, the lowest first.
 #[derive(Clone, Copy, PartialEq, Drop)]
-pub struct Bools<VC, TC> {
+pub struct Bools<VC = Vec<u64>, TC = [u64; 2]> {
     /// Whole words of 64 bits.
     pub values: VC,
     /// Two words: the last bits, and how many of them count. That is below 64, and no bit from there on is set.

@@ -6,7 +6,7 @@ use crate::codes::{Coded, Codes};
 use crate::rule::Rule;
 
 /// A column of characters, kept as their 32-bit codes.
-pub type Chars<CV> = Codes<CV, char>;
+pub type Chars<CV = Vec<u32>> = Codes<CV, char>;
 
 impl Rule for char {
     type Code = u32;

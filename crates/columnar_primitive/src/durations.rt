@@ -23,7 +23,7 @@ use std::time::Duration;
 
 /// A column of durations: their whole seconds, and the nanoseconds besides.
 #[derive(Clone, Copy, PartialEq)]
-pub struct Durations<SC, NC> {
+pub struct Durations<SC = Vec<u64>, NC = Vec<u32>> {
     /// The whole seconds.
     pub seconds: SC,
     /// The nanoseconds besides, below a second.

@@ -23,7 +23,7 @@ use std::slice::from_ref;
 
 /// A column of units. Its number of rows is all that it keeps.
 #[derive(Clone, Copy)]
-pub struct Empties<CC> {
+pub struct Empties<CC = u64> {
     /// The number of rows.
     pub count: CC,
     /// The unit that each row is.

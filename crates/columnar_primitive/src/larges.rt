@@ -6,10 +6,10 @@ use crate::codes::{Coded, Codes};
 use crate::rule::Rule;
 
 /// A column of `u128`s, kept as their sixteen bytes, the lowest first.
-pub type U128s<CV> = Codes<CV, u128>;
+pub type U128s<CV = Vec<[u8; 16]>> = Codes<CV, u128>;
 
 /// A column of `i128`s, kept as their sixteen bytes in two's complement, the lowest first.
-pub type I128s<CV> = Codes<CV, i128>;
+pub type I128s<CV = Vec<[u8; 16]>> = Codes<CV, i128>;
 
 impl Rule for u128 {
     type Code = [u8; 16];

@@ -6,7 +6,7 @@ use crate::codes::{Coded, Codes};
 use crate::rule::Rule;
 
 /// A column of `usize`s, kept as 64-bit numbers.
-pub type Usizes<CV> = Codes<CV, usize>;
+pub type Usizes<CV = Vec<u64>> = Codes<CV, usize>;
 
 impl Rule for usize {
     type Code = u64;
@@ -35,7 +35,7 @@ impl Coded for usize {
 }
 
 /// A column of `isize`s, kept as 64-bit numbers in two's complement.
-pub type Isizes<CV> = Codes<CV, isize>;
+pub type Isizes<CV = Vec<i64>> = Codes<CV, isize>;
 
 impl Rule for isize {
     type Code = i64;

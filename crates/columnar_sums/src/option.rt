@@ -14,7 +14,7 @@ use columnar_core::words::Words;
 
 /// Rows that may be absent: a bit for each row, and the values of the rows that have one.
 #[derive(Clone, Copy, PartialEq, Drop)]
-pub struct Options<TC, CC, VC, WC> {
+pub struct Options<TC, CC = Vec<u64>, VC = Vec<u64>, WC = [u64; 2]> {
     /// For each row, whether it has a value.
     pub indexes: RankSelect<CC, VC, WC>,
     /// The values of the rows that have one.

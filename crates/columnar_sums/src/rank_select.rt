@@ -24,7 +24,7 @@ use search::{rank_in, select_in};
 
 /// Truth values, and how many are set up to the end of each 1024 of them.
 #[derive(Clone, Copy, PartialEq, Drop)]
-pub struct RankSelect<CC, VC, WC> {
+pub struct RankSelect<CC = Vec<u64>, VC = Vec<u64>, WC = [u64; 2]> {
     /// One count for each complete 1024 bits: how many are set up to its end.
     pub counts: CC,
     /// The bits.

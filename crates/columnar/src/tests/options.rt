@@ -1,21 +1,16 @@
 // Rows that may be absent: worked stores, columns at depth, and a run of commands.
-use super::{bytes_of, copied, item_of, opened, pushed, reopened, row_at, row_of, variant, writes};
+use super::{bytes_of, item_of, pushed, reopened, row_of, variant, writes};
 use crate::bytes::stash::{Command, Refusal, Reply, Stash, run};
-use crate::common::View;
 use crate::fault::StoreFault;
-use crate::primitive::Bools;
-use crate::{
-    Borrow, Check, Clear, Len, Options, Push, PushRef, RankSelect, Reborrow, ReborrowRef, Stored,
-    Vecs,
-};
+use crate::{Borrow, Len, Options, Push, Storage, Vecs};
 use std::alloc::Global;
 use std::test::Fail;
 
-type Numbers = Options<Vec<u64>, Vec<u64>, Vec<u64>, [u64; 2]>;
+type Numbers = Options<Vec<u64>>;
 
-type Pairs = Options<(Vec<u64>, Vec<u64>), Vec<u64>, Vec<u64>, [u64; 2]>;
+type Pairs = Options<(Vec<u64>, Vec<u64>)>;
 
-type Nested = Options<Numbers, Vec<u64>, Vec<u64>, [u64; 2]>;
+type Nested = Options<Numbers>;
 
 const DONE: Reply = Reply::Done;
 
@@ -95,7 +90,7 @@ fn options_of_pairs_and_of_options(rt: HostRuntime) -> Result<(), Fail> {
 fn lists_of_options(rt: HostRuntime) -> Result<(), Fail> {
     let mut items = Numbers::empty(rt.alloc());
     assert!(rt; Push::extend(&mut items, [Some(1u64), None, Some(3)].iter().copied()).is_ok());
-    let mut lists = Vecs::<Numbers, Vec<u64>>::empty(rt.alloc());
+    let mut lists = Vecs::<Numbers>::empty(rt.alloc());
     assert!(rt; pushed(&mut lists, items.borrow(), 0, 2));
     assert!(rt; pushed(&mut lists, items.borrow(), 2, 3));
     let stash = reopened(rt.alloc(), &Stash::<_, Vec<u8>>::Typed(lists)).expect(&rt, "reopened");

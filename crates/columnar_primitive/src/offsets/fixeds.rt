@@ -28,7 +28,7 @@ use std::ops::Range;
 /// The offsets `K`, `2 * K`, .., of which only the count is kept: the bounds of lists of `K` items each. A count of its
 /// own is a `u64`, a view's is a `View` of one entry.
 #[derive(Clone, Copy, Drop, PartialEq)]
-pub struct Fixeds<const K: u64, CC> {
+pub struct Fixeds<const K: u64, CC = u64> {
     /// How many offsets there are.
     pub count: CC,
 }

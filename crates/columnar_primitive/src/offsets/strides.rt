@@ -26,7 +26,7 @@ use std::ops::Range;
 /// Offsets: as many of the multiples of a stride as the head says, and then those of the bounds as they stand. A column
 /// of its own has an array and a `Vec`, a view has a `View` for each.
 #[derive(Clone, Copy, Drop, PartialEq)]
-pub struct Strides<BC, HC> {
+pub struct Strides<BC = Vec<u64>, HC = [u64; 2]> {
     /// The stride, and how many offsets follow it.
     pub head: HC,
     /// The offsets behind these.

@@ -18,29 +18,29 @@ use std::alloc::Global;
 use std::test::Fail;
 use std::time::Duration;
 
-type Sizes = Usizes<Vec<u64>>;
+type Sizes = Usizes;
 
-type Differences = Isizes<Vec<i64>>;
+type Differences = Isizes;
 
-type Characters = Chars<Vec<u32>>;
+type Characters = Chars;
 
-type Large = U128s<Vec<[u8; 16]>>;
+type Large = U128s;
 
-type LargeSigned = I128s<Vec<[u8; 16]>>;
+type LargeSigned = I128s;
 
-type Times = Durations<Vec<u64>, Vec<u32>>;
+type Times = Durations;
 
-type Units = Empties<u64>;
+type Units = Empties;
 
-type Steps = Strides<Vec<u64>, [u64; 2]>;
+type Steps = Strides;
 
-type Threes = Fixeds<3, u64>;
+type Threes = Fixeds<3>;
 
-type Bits = Bools<Vec<u64>, [u64; 2]>;
+type Bits = Bools;
 
-type Ranks = RankSelect<Vec<u64>, Vec<u64>, [u64; 2]>;
+type Ranks = RankSelect;
 
-type Perhaps = Options<Vec<u64>, Vec<u64>, Vec<u64>, [u64; 2]>;
+type Perhaps = Options<Vec<u64>>;
 
 const ONES: u64 = u64::MAX;
 

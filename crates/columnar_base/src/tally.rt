@@ -111,25 +111,3 @@ impl<L> Tally<L> {
 }
 
 const _: () = prove!(size_of::<Tally>() == 0);
-
-#[cfg(test)]
-mod tests {
-    use super::*;
-
-    // What each call notes.
-    fn noted_once_each() -> Tally
-        ensures { result ≡ record { counts = 1; words = 7 ∷ 5 ∷ []; turns = 1 } }
-    {
-        let mut tally = Tally::new();
-        tally.word(7);
-        tally.tick();
-        tally.count();
-        tally.word(5);
-        tally
-    }
-
-    #[test]
-    fn a_tally_is_made_and_notes_each_kind() {
-        let _tally = noted_once_each();
-    }
-}

@@ -12,8 +12,6 @@ mod lengths;
 pub mod reopen;
 mod slices;
 mod structure;
-#[cfg(test)]
-mod tests;
 mod validation;
 mod writing;
 

@@ -13,8 +13,6 @@ use std::num::Wrapping;
 
 pub mod flat;
 pub mod sliced;
-#[cfg(test)]
-mod tests;
 
 /// A slice of a column: elements that stand for their bytes, each lowest first.
 #[derive(Clone, Copy)]

@@ -177,7 +177,9 @@ impl<'s, 'a, V: AsBytes<'a>> ByteSlices<'s, 'a, V> {
 
 impl<'s, 'a, V: AsBytes<'a>> Iterator for ByteSlices<'s, 'a, V> {
     ghost use Rattle.columnar_core.specs.Column.{byte_slices_left, GivesSlice};
-    ghost use Rattle.std.specs.Iterator.{item_count};
+    ghost use Rattle.std.specs.Prelude.{IfSome};
+    ghost use Rattle.std.specs.Iterator.{item_count, UpTo};
+    ghost use Rattle.std.specs.Iterator.SizeHint.{IsWithinCount};
 
     type Item = (u64, ByteSlice<'a>);
 
@@ -196,7 +198,11 @@ impl<'s, 'a, V: AsBytes<'a>> Iterator for ByteSlices<'s, 'a, V> {
     }
 
     /// How many are left, twice.
-    fn size_hint(&self) -> (usize, Option<usize>) {
+    fn size_hint(&self) -> (usize, Option<usize>)
+        ensures lower { IsWithinCount result.0 (item_count byte_slices_left self.now) }
+        ensures upper { IfSome result.1 (UpTo (item_count byte_slices_left self.now)) }
+        ensures left { result ≡ (length (byte_slices_left self.now), Some (length (byte_slices_left self.now))) }
+    {
         let count = V::slice_count();
         let left = if self.index < count {
             count - self.index

@@ -5,8 +5,6 @@ pub mod byte_column;
 pub mod byte_slice;
 pub mod bytes;
 pub mod container;
-#[cfg(test)]
-mod number_tests;
 pub mod offsets;
 pub mod owned;
 pub mod slice;

@@ -32,7 +32,9 @@ impl Coded for u128 {
         u128::from_le_bytes(code)
     }
 
-    fn always_fits() -> bool {
+    fn always_fits() -> bool
+        ensures { result ≡ true }
+    {
         true
     }
 }
@@ -58,7 +60,9 @@ impl Coded for i128 {
         i128::from_le_bytes(code)
     }
 
-    fn always_fits() -> bool {
+    fn always_fits() -> bool
+        ensures { result ≡ true }
+    {
         true
     }
 }

@@ -2,8 +2,6 @@
 #![tactic(auto)]
 
 pub mod bools;
-#[cfg(test)]
-mod bools_tests;
 pub mod chars;
 pub mod codes;
 pub mod count;
@@ -14,5 +12,3 @@ pub mod larges;
 pub mod numbers;
 pub mod offsets;
 pub mod rule;
-#[cfg(test)]
-mod tests;

@@ -29,7 +29,9 @@ impl Coded for usize {
         code as usize
     }
 
-    fn always_fits() -> bool {
+    fn always_fits() -> bool
+        ensures { result ≡ true }
+    {
         true
     }
 }
@@ -58,7 +60,9 @@ impl Coded for isize {
         code as isize
     }
 
-    fn always_fits() -> bool {
+    fn always_fits() -> bool
+        ensures { result ≡ true }
+    {
         true
     }
 }

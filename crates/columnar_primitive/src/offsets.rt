@@ -6,6 +6,3 @@ pub mod words;
 
 pub use fixeds::Fixeds;
 pub use strides::Strides;
-
-#[cfg(test)]
-mod tests;

@@ -20,6 +20,7 @@ use columnar_core::traits::{Column, Index, Len};
 use columnar_core::words::Words;
 use columnar_primitive::bools::{Bools, bit_at, count_bits};
 pub use cursor::{Cursor, Cursor as RankSelectCursor};
+pub use search::select_in_word;
 use search::{rank_in, select_in};
 
 /// Truth values, and how many are set up to the end of each 1024 of them.
@@ -95,6 +96,7 @@ impl<CC: Words, VC: Words, WC: Words> RankSelect<CC, VC, WC> {
     pub(crate) fn trues_tallied<L>(&self, tally: &mut Tally<L>) -> usize
         requires { IsRanked CC.bytes VC.bytes WC.bytes self.now }
         ensures value { result ≡ ones (bits_ranked VC.bytes WC.bytes self.now) (length (bits_ranked VC.bytes WC.bytes self.now)) }
+        ensures reads { Adds 1 16 tally.old tally.new }
         ensures turns { tally.new.turns ≤ tally.old.turns + 16 }
     {
         self.rank_tallied(self.len(), tally)

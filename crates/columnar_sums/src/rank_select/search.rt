@@ -82,6 +82,21 @@ fn place_in_word(word: u64, rank: u64) -> u64
     place
 }
 
+/// The place of the set bit of a word before which `rank` others are set, found by halving the word; 64 where at most
+/// `rank` bits are set.
+pub fn select_in_word(word: u64, rank: u64) -> u64
+    ensures set { rank < count_ones word → bit_of word result ≡ true }
+    ensures before { rank < count_ones word → ones_below (bit_of word) result ≡ rank }
+    ensures within { rank < count_ones word → result < 64 }
+    ensures none { count_ones word ≤ rank → result ≡ 64 }
+{
+    if rank < word.count_ones() as u64 {
+        place_in_word(word, rank)
+    } else {
+        64
+    }
+}
+
 #[tactic(auto, using(crate::specs::CountLaws::digits_from))]
 // The first chunk with more than `rank` trues up to its end, by binary search.
 fn find_chunk<L>(counts: &MeteredCounts<'_, L>, rank: u64, tally: &mut Tally<L>) -> usize

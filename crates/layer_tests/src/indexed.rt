@@ -1,0 +1,338 @@
+// Worked stores, and writers that fail.
+ghost use Rattle.std.specs.Prelude.{[], ◌∷◌, ◌≡◌, IsTrue, refl, false};
+ghost use Rattle.columnar_core.specs.Bytes.{le_bytes};
+ghost use Rattle.columnar_core.specs.Format.{representable, slice, both};
+
+use columnar_bytes::indexed::reopen::{encoded, is_legal_once_written, written};
+use columnar_bytes::indexed::{
+    DecodedStore, decode, decode_index, encode, length_in_bytes, length_in_words,
+    validate_structure, write,
+};
+use columnar_core::byte_slice::ByteSlice;
+use columnar_core::bytes::{AsBytes, ByteSlices, Stored};
+use columnar_core::fault::{GrowError, StoreFault, WriteFault};
+use columnar_core::tally::Tally;
+use columnar_core::traits::Column;
+use columnar_core::view::View;
+use std::alloc::{AllocError, Global};
+use std::io::{Error, ErrorKind, Write};
+use std::test::Fail;
+
+// A column of bytes beside one of words: two slices
+#[derive(Clone, Copy)]
+struct BytesAndWords<'a> {
+    bytes: &'a [u8],
+    words: &'a [u64],
+}
+
+impl<'v> Column for BytesAndWords<'v> {
+    ghost format = { record { count = 2; sizes = 1 ∷ 8 ∷ []; turns = 0; broken = λ c. []; rows = λ c. []; extent = λ c n. []; build = λ ss. slice []; alike = λ r s. false; kin = λ r s. false; refuses = λ e c n rs. false } };
+
+    ghost content = { λ s. both (slice s.bytes.now) (slice (le_bytes s.words.now)) };
+}
+
+impl<'v> Stored for BytesAndWords<'v> {
+    ghost use Rattle.std.specs.Prelude.{◌+◌, ◌*◌, ◌++◌, ◌≤◌, length, drop, None, OnOk, OnErr, IfErr};
+    ghost use Rattle.columnar_core.specs.Format.{bytes_held};
+    ghost use Rattle.columnar_core.specs.Faults.{verdict};
+    ghost use Rattle.columnar_core.specs.Store.{slices_in};
+    ghost use Rattle.std.proofs.Common.{arith};
+
+    ghost storable = { record { swift = Prim.omega arith; sized = refl } };
+
+    ghost counted = { λ s. refl };
+
+    fn slice_count() -> usize
+        ensures { result ≡ 2 }
+    {
+        2
+    }
+
+    fn element_sizes(sizes: &mut Vec<usize>) -> Result<(), GrowError>
+        ensures ok { OnOk result (sizes.new.items ≡ sizes.old.items ++ 1 ∷ 8 ∷ []) }
+        ensures err { OnErr result (sizes.new.items ≡ sizes.old.items) }
+        ensures memory { IfErr result (λ e. e ≡ GrowError.Memory) }
+    {
+        match sizes.extend_from_slice(&[1, 8]) {
+            Ok(()) => Ok(()),
+            Err(_) => Err(GrowError::Memory),
+        }
+    }
+
+    fn judge_tallied<L>(
+        _store: &DecodedStore<'_>,
+        _offset: usize,
+        tally: &mut Tally<L>,
+    ) -> Result<(), StoreFault>
+        ensures exact { verdict result ≡ None }
+        ensures turns { tally.new.turns ≤ tally.old.turns + 0 * bytes_held (slice []) }
+    {
+        Ok(())
+    }
+
+    fn rows_in(_store: &DecodedStore<'_>, _offset: usize) -> usize
+        ensures { result ≡ 0 }
+    {
+        0
+    }
+}
+
+impl<'v> AsBytes<'v> for BytesAndWords<'v> {
+    fn get_byte_slice(&self, index: usize) -> (u64, ByteSlice<'v>) {
+        let slice = match index {
+            0 => ByteSlice::of_bytes(self.bytes),
+            _ => ByteSlice::of_words(self.words),
+        };
+        (slice.align(), slice)
+    }
+}
+
+// The bytes of words, each lowest first
+fn bytes_of(alloc: Global, words: &[u64]) -> Result<Vec<u8>, Error> {
+    let mut bytes = Vec::new(alloc);
+    match ByteSlice::of_words(words).write(&mut bytes) {
+        Ok(()) => Ok(bytes),
+        Err(fault) => Err(fault),
+    }
+}
+
+// The first bytes
+fn front(bytes: &[u8], len: usize) -> &[u8] {
+    if len <= bytes.len() {
+        &bytes[..len]
+    } else {
+        bytes
+    }
+}
+
+// The test of words as a store of so many slices
+fn tested(alloc: Global, words: &[u64], expected: usize) -> Result<Result<(), StoreFault>, Error> {
+    let bytes = bytes_of(alloc, words)?;
+    Ok(validate_structure(&bytes, expected))
+}
+
+// Takes at most one byte a call, and fails once `limit` bytes are taken
+#[derive(Drop)]
+struct Slow {
+    taken: Vec<u8>,
+    limit: usize,
+    kind: Option<ErrorKind>,
+}
+
+impl Write for Slow {
+    fn write(&mut self, buf: &[u8]) -> std::io::Result<usize> {
+        if self.taken.len() >= self.limit {
+            return match self.kind {
+                Some(kind) => Err(Error::from(kind)),
+                None => Ok(0),
+            };
+        }
+        let count = buf.len().min(1);
+        self.taken.extend_from_slice(&buf[..count])?;
+        Ok(count)
+    }
+
+    fn flush(&mut self) -> std::io::Result<()> {
+        Ok(())
+    }
+}
+
+#[test]
+fn encodes_the_worked_stores(rt: HostRuntime) -> Result<(), Fail> {
+    let mut store = Vec::new(rt.alloc());
+    encode(&mut store, &View::<u64>::from_slice(&[7]))?;
+    assert_eq!(rt; store.as_slice(), [16, 24, 7].as_slice());
+    encode(
+        &mut store,
+        &BytesAndWords {
+            bytes: &[1, 2, 3],
+            words: &[7],
+        },
+    )?;
+    assert_eq!(rt;
+        store.as_slice(),
+        [16, 24, 7, 24, 27, 40, 197121, 7].as_slice()
+    );
+    assert_eq!(rt; length_in_words(&View::<u64>::from_slice(&[7])), Some(3));
+    assert_eq!(rt; length_in_bytes(&View::<u64>::from_slice(&[7])), Some(24));
+
+    let mut empty = Vec::new(rt.alloc());
+    encode(&mut empty, &View::<u64>::from_slice(&[]))?;
+    assert_eq!(rt; empty.as_slice(), [16, 16].as_slice());
+    Ok(())
+}
+
+#[test]
+fn the_last_bytes_are_those_of_the_word(rt: HostRuntime) -> Result<(), Fail> {
+    let item = View::<u64>::from_slice(&[7]);
+    let bytes = encoded(rt.alloc(), &item)?;
+    let want: [u8; 24] = [
+        16, 0, 0, 0, 0, 0, 0, 0, 24, 0, 0, 0, 0, 0, 0, 0, 7, 0, 0, 0, 0, 0, 0, 0,
+    ];
+    assert_eq!(rt; bytes.as_slice(), want.as_slice());
+    assert_eq!(rt; written(rt.alloc(), &item)?.as_slice(), want.as_slice());
+    assert!(rt; is_legal_once_written(rt.alloc(), &item)?);
+    Ok(())
+}
+
+#[test]
+fn names_the_first_broken_rule(rt: HostRuntime) -> Result<(), Fail> {
+    let alloc = rt.alloc();
+    assert_eq!(rt; tested(alloc, &[], 0)?, Err(StoreFault::Empty(0)));
+    assert_eq!(rt; tested(alloc, &[0], 0)?, Err(StoreFault::FirstOffset(0)));
+    assert_eq!(rt;
+        tested(alloc, &[0, 0, 0], 2)?,
+        Err(StoreFault::FirstOffset(0))
+    );
+    assert_eq!(rt; tested(alloc, &[4], 0)?, Err(StoreFault::FirstOffset(0)));
+    assert_eq!(rt; tested(alloc, &[16], 1)?, Err(StoreFault::Table(0)));
+    assert_eq!(rt; tested(alloc, &[8], 0)?, Ok(()));
+    assert_eq!(rt;
+        tested(alloc, &[8], usize::MAX)?,
+        Err(StoreFault::SliceCount(0))
+    );
+    assert_eq!(rt;
+        tested(alloc, &[16, 32, 7], 1)?,
+        Err(StoreFault::PastEnd(0))
+    );
+    assert_eq!(rt;
+        tested(alloc, &[16, 8, 7], 1)?,
+        Err(StoreFault::Backwards(0))
+    );
+    assert_eq!(rt; tested(alloc, &[16, 24, 7, 9], 1)?, Ok(()));
+    Ok(())
+}
+
+#[test]
+fn a_store_that_is_cut_is_refused(rt: HostRuntime) -> Result<(), Fail> {
+    let bytes = bytes_of(rt.alloc(), &[40, 40, 40, 56, 64, 1, 2, 7])?;
+    let bytes = bytes.as_slice();
+    assert_eq!(rt; validate_structure(bytes, 4), Ok(()));
+    assert_eq!(rt;
+        validate_structure(front(bytes, 56), 4),
+        Err(StoreFault::PastEnd(3))
+    );
+    assert_eq!(rt;
+        validate_structure(front(bytes, 63), 4),
+        Err(StoreFault::NotWords(0))
+    );
+    Ok(())
+}
+
+#[test]
+fn reads_the_slices(rt: HostRuntime) -> Result<(), Fail> {
+    let item = BytesAndWords {
+        bytes: &[1, 2, 3],
+        words: &[7],
+    };
+    let bytes = written(rt.alloc(), &item)?;
+    let bytes = bytes.as_slice();
+    assert_eq!(rt; bytes.len(), 40);
+    match validate_structure(bytes, 2) {
+        Ok(()) => {
+            let store = DecodedStore::new(bytes);
+            assert_eq!(rt; store.len(), 2);
+            assert_eq!(rt; store.get(0), [1, 2, 3].as_slice());
+            assert_eq!(rt; store.get(1), [7, 0, 0, 0, 0, 0, 0, 0].as_slice());
+            assert_eq!(rt; decode_index(bytes, 0), [1, 2, 3].as_slice());
+            assert_eq!(rt; decode(bytes).count(), 2);
+        }
+        Err(_) => assert!(rt; false),
+    }
+    Ok(())
+}
+
+#[test]
+fn gives_the_slices_with_their_alignment(rt: HostRuntime) -> Result<(), Fail> {
+    let item = BytesAndWords {
+        bytes: &[1, 2, 3],
+        words: &[7, 8],
+    };
+    let mut slices = ByteSlices::new(&item);
+    assert_eq!(rt; slices.size_hint(), (2, Some(2)));
+    for want in [(1, 3), (8, 16)] {
+        match slices.next() {
+            Some((align, slice)) => {
+                assert_eq!(rt; align, want.0);
+                assert_eq!(rt; slice.align(), want.0);
+                assert_eq!(rt; slice.len(), want.1);
+            }
+            None => assert!(rt; false),
+        }
+    }
+    assert!(rt; slices.next().is_none());
+    Ok(())
+}
+
+// How many bytes a column's slices have in all, as far as that fits
+fn byte_total<'a, S: AsBytes<'a>>(item: &S) -> usize
+    requires { IsTrue (representable S.format) }
+{
+    let mut total = 0usize;
+    for (_, slice) in ByteSlices::new(item) {
+        total = total.saturating_add(slice.len());
+    }
+    total
+}
+
+// How many slices a column has, by going over them
+fn counted<'a, S: AsBytes<'a>>(item: &S) -> usize
+    requires { IsTrue (representable S.format) }
+    ensures { result ≡ S.format.count }
+{
+    ByteSlices::new(item).count()
+}
+
+#[test]
+fn generic_code_goes_over_the_slices(rt: HostRuntime) -> Result<(), Fail> {
+    let item = BytesAndWords {
+        bytes: &[1, 2, 3],
+        words: &[7, 8],
+    };
+    assert_eq!(rt; byte_total(&item), 19);
+    assert_eq!(rt; counted(&item), 2);
+    Ok(())
+}
+
+#[test]
+fn writes_byte_by_byte(rt: HostRuntime) -> Result<(), Fail> {
+    let item = View::<u64>::from_slice(&[7]);
+    let mut slow = Slow {
+        taken: Vec::new(rt.alloc()),
+        limit: 100,
+        kind: None,
+    };
+    write(&mut slow, &item)?;
+    assert_eq!(rt; slow.taken.len(), 24);
+    assert_eq!(rt;
+        slow.taken.as_slice(),
+        encoded(rt.alloc(), &item)?.as_slice()
+    );
+    Ok(())
+}
+
+#[test]
+fn a_fault_ends_the_writing(rt: HostRuntime) -> Result<(), Fail> {
+    let item = View::<u64>::from_slice(&[7]);
+    for kind in [
+        Some(ErrorKind::BrokenPipe),
+        Some(ErrorKind::Interrupted),
+        None,
+    ] {
+        let mut slow = Slow {
+            taken: Vec::new(rt.alloc()),
+            limit: 10,
+            kind,
+        };
+        let want = kind.unwrap_or(ErrorKind::WriteZero);
+        match write(&mut slow, &item) {
+            Err(WriteFault::Writer(fault)) => assert_eq!(rt; fault.kind(), want),
+            _ => assert!(rt; false),
+        }
+        assert_eq!(rt;
+            slow.taken.as_slice(),
+            [16, 0, 0, 0, 0, 0, 0, 0, 24, 0].as_slice()
+        );
+    }
+    Ok(())
+}

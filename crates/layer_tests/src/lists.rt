@@ -1,0 +1,169 @@
+// Lists of rows.
+ghost use Rattle.std.specs.Prelude.{◌≡◌, length, IfSome};
+ghost use Rattle.columnar_base.specs.Format.{IsSound};
+
+use columnar_core::bytes::{AsBytes, Check, Stored};
+use columnar_core::container::{Borrow, Container, ContainerBytes, ExtendFrom, Reborrow, Storage};
+use columnar_core::fault::StoreFault;
+use columnar_core::slice::Slice;
+use columnar_core::traits::{Clear, Index, Len, Push};
+use columnar_core::view::View;
+use columnar_lists::vector::Vecs;
+use std::test::Fail;
+
+type Lists = Vecs<Vec<u64>, Vec<u64>>;
+
+type ListsView<'a> = Vecs<View<'a, u64>, View<'a, u64>>;
+
+type Nested = Vecs<Lists, Vec<u64>>;
+
+// The rows of a container, through the bound.
+fn count<'a, C: Container<'a>>(column: &'a C) -> usize
+    requires { IsSound C.format (C.content column.now) }
+    ensures { result ≡ length (C.format.rows (C.content column.now)) }
+{
+    column.len()
+}
+
+// Pushes rows of a view as one row; false where they are not there, or where the push is refused.
+fn pushed<V: Index + Copy, C: Push<Slice<V>>>(
+    column: &mut C,
+    view: V,
+    lower: usize,
+    upper: usize,
+) -> bool
+    requires sound { IsSound C.format (C.content column.old) }
+    requires view_sound { IsSound V.format (V.content view) }
+    ensures { IsSound C.format (C.content column.new) }
+{
+    if lower > upper || upper > view.len() {
+        return false;
+    }
+    let item = Slice {
+        lower,
+        upper,
+        slice: view,
+    };
+    column.push(item).is_ok()
+}
+
+// Copies rows of a view behind those of a container; false where they are not there, or where the copy is refused.
+fn copied<V: Index + Copy, C: ExtendFrom<V>>(
+    column: &mut C,
+    view: V,
+    start: usize,
+    end: usize,
+) -> bool
+    requires sound { IsSound C.format (C.content column.old) }
+    requires view_sound { IsSound V.format (V.content view) }
+    ensures { IsSound C.format (C.content column.new) }
+{
+    if start > end || end > view.len() {
+        return false;
+    }
+    column.extend_from_self(view, start..end).is_ok()
+}
+
+// Row `index`, where there is one.
+fn row_at<V: Index>(view: &V, index: usize) -> Option<V::Ref>
+    requires { IsSound V.format (V.content view.now) }
+    ensures { IfSome result V.Ref.valid }
+{
+    if index < view.len() {
+        Some(view.get(index))
+    } else {
+        None
+    }
+}
+
+#[test]
+fn lists_of_words(rt: HostRuntime) -> Result<(), Fail> {
+    let view = View::from_slice([1u64, 2, 3, 4, 5, 6].as_slice());
+    let mut lists = Lists::empty(rt.alloc());
+    assert!(rt; pushed(&mut lists, view, 0, 2));
+    assert!(rt; pushed(&mut lists, view, 2, 2));
+    assert!(rt; pushed(&mut lists, view, 1, 6));
+    assert_eq!(rt; count(&lists), 3);
+    assert_eq!(rt; lists.bounds.as_slice(), [2, 2, 7].as_slice());
+    assert_eq!(rt; lists.values.as_slice(), [1, 2, 2, 3, 4, 5, 6].as_slice());
+    let last = row_at(&lists.borrow(), 2).expect(&rt, "row 2");
+    assert_eq!(rt; last.len(), 5);
+    assert_eq!(rt; row_at(&last, 1), Some(3));
+    let copy = lists.clone()?;
+    assert_eq!(rt; copy.bounds.as_slice(), [2, 2, 7].as_slice());
+    lists.clear();
+    assert!(rt; lists.is_empty());
+    Ok(())
+}
+
+#[test]
+fn ranges_of_lists(rt: HostRuntime) -> Result<(), Fail> {
+    let view = View::from_slice([1u64, 2, 3, 4, 5, 6].as_slice());
+    let mut source = Lists::empty(rt.alloc());
+    assert!(rt; pushed(&mut source, view, 0, 2));
+    assert!(rt; pushed(&mut source, view, 2, 5));
+    assert!(rt; pushed(&mut source, view, 5, 6));
+    let views = [source.borrow(), source.borrow()];
+    let mut lists = Lists::with_capacity_for(rt.alloc(), views.iter().copied())?;
+    assert!(rt; pushed(&mut lists, view, 4, 6));
+    assert!(rt; lists.reserve_for(views.iter().copied()).is_ok());
+    assert!(rt; copied(&mut lists, source.borrow(), 1, 3));
+    assert_eq!(rt; lists.bounds.as_slice(), [2, 5, 6].as_slice());
+    assert_eq!(rt; lists.values.as_slice(), [5, 6, 3, 4, 5, 6].as_slice());
+    assert!(rt; copied(&mut lists, source.borrow().reborrow(), 2, 2));
+    let many = count(&lists);
+    assert_eq!(rt; many, 3);
+    lists.truncate(many - 1);
+    assert_eq!(rt; lists.bounds.as_slice(), [2, 5].as_slice());
+    assert_eq!(rt; lists.values.as_slice(), [5, 6, 3, 4, 5].as_slice());
+    Ok(())
+}
+
+#[test]
+fn slices_of_lists(rt: HostRuntime) -> Result<(), Fail> {
+    let values = View::from_slice([7u64, 8, 9].as_slice());
+    for (bounds, wanted) in [
+        ([1u64, 1, 3], Ok(())),
+        ([2, 1, 3], Err(StoreFault::Bounds(0))),
+        ([1, 1, 2], Err(StoreFault::Bounds(0))),
+    ] {
+        let lists = ListsView {
+            bounds: View::from_slice(bounds.as_slice()),
+            values,
+        };
+        assert_eq!(rt; lists.check(), wanted);
+        assert_eq!(rt; lists.get_byte_slice(1).1.len(), 24);
+    }
+    let mut sizes = Vec::new(rt.alloc());
+    assert!(rt; Lists::element_sizes(&mut sizes).is_ok());
+    assert!(rt; Nested::element_sizes(&mut sizes).is_ok());
+    assert_eq!(rt; sizes.as_slice(), [8, 8, 8, 8, 8].as_slice());
+    assert_eq!(rt; Nested::slice_count(), 3);
+    Ok(())
+}
+
+#[test]
+fn lists_of_lists(rt: HostRuntime) -> Result<(), Fail> {
+    let view = View::from_slice([1u64, 2, 3, 4, 5, 6].as_slice());
+    let mut inner = Lists::empty(rt.alloc());
+    assert!(rt; pushed(&mut inner, view, 0, 2));
+    assert!(rt; pushed(&mut inner, view, 2, 2));
+    assert!(rt; pushed(&mut inner, view, 2, 6));
+    let mut nested = Nested::empty(rt.alloc());
+    assert!(rt; pushed(&mut nested, inner.borrow(), 1, 3));
+    assert!(rt; pushed(&mut nested, inner.borrow(), 0, 1));
+    let mut copy = Nested::empty(rt.alloc());
+    assert!(rt; copied(&mut copy, nested.borrow(), 0, 2));
+    assert!(rt; copied(&mut copy, nested.borrow(), 0, 2));
+    assert_eq!(rt; count(&copy), 4);
+    assert_eq!(rt; copy.bounds.as_slice(), [2, 3, 5, 6].as_slice());
+    assert_eq!(rt;
+        copy.values.bounds.as_slice(),
+        [0, 4, 6, 6, 10, 12].as_slice()
+    );
+    let list = row_at(&copy.borrow(), 1).expect(&rt, "row 1");
+    let inner_list = row_at(&list, 0).expect(&rt, "row 0 of row 1");
+    assert_eq!(rt; row_at(&inner_list, 1), Some(2));
+    assert_eq!(rt; copy.byte_slice(2).len(), 96);
+    Ok(())
+}

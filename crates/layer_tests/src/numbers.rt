@@ -1,0 +1,156 @@
+// Columns of numbers, of bytes and of arrays.
+ghost use Rattle.std.specs.Prelude.{◌≡◌, length};
+ghost use Rattle.columnar_base.specs.Format.{IsSound};
+
+use columnar_base::fault::StoreFault;
+use columnar_base::traits::{Clear, Column, Index, Len, Push, PushRef, PushSlice};
+use columnar_base::view::View;
+use columnar_core::bytes::{AsBytes, Check, Stored};
+use columnar_core::container::{
+    Borrow, Container, ContainerBytes, ExtendFrom, Reborrow, ReborrowRef, Storage,
+};
+use std::num::Wrapping;
+use std::test::Fail;
+
+// How many rows has a container, through the bound?
+fn count<'a, C: Container<'a>>(column: &'a C) -> usize
+    requires { IsSound C.format (C.content column.now) }
+    ensures { result ≡ length (C.format.rows (C.content column.now)) }
+{
+    column.len()
+}
+
+#[test]
+fn bytes_are_pushed_as_slices(rt: HostRuntime) -> Result<(), Fail> {
+    let mut column = <Vec<u8> as Storage>::empty(rt.alloc());
+    assert!(rt; column.push_slice(&[1, 2]).is_ok());
+    assert!(rt; column.push_slice(&[3]).is_ok());
+    assert!(rt; column.push_slice(&[]).is_ok());
+    assert!(rt; column.push_slice(&[4, 5, 6]).is_ok());
+    assert_eq!(rt; column.as_slice(), [1, 2, 3, 4, 5, 6].as_slice());
+    assert_eq!(rt; count(&column), 6);
+    let view = column.borrow();
+    assert_eq!(rt; view, [1, 2, 3, 4, 5, 6].as_slice());
+    assert_eq!(rt; *Index::get(&view, 4), 5);
+    assert_eq!(rt; *Index::get(&view.reborrow(), 0), 1);
+    assert_eq!(rt; *Index::get(&view, 4).reborrow_ref(), 5);
+    assert!(rt; view.check().is_ok());
+    let (align, slice) = view.get_byte_slice(0);
+    assert_eq!(rt; align, 1);
+    assert_eq!(rt; slice.len(), 6);
+    assert_eq!(rt; slice.word(0), 6618611909121);
+    let mut copy = <Vec<u8> as Storage>::empty(rt.alloc());
+    assert!(rt; copy.extend_from_self(column.borrow(), 1..3).is_ok());
+    assert!(rt; copy.reserve_for([column.borrow()].iter().copied()).is_ok());
+    assert_eq!(rt; copy.as_slice(), [2, 3].as_slice());
+    let mut sizes = Vec::new(rt.alloc());
+    assert!(rt; <&[u8] as Stored>::element_sizes(&mut sizes).is_ok());
+    assert_eq!(rt; sizes.as_slice(), [1].as_slice());
+    let mut rest = column.borrow();
+    Clear::clear(&mut rest);
+    assert!(rt; Len::is_empty(&rest));
+    Ok(())
+}
+
+#[test]
+fn arrays_are_rows(rt: HostRuntime) -> Result<(), Fail> {
+    let mut column = <Vec<[u8; 3]> as Storage>::empty(rt.alloc());
+    assert!(rt; Push::push(&mut column, [1u8, 2, 3]).is_ok());
+    assert!(rt; PushRef::push_ref(&mut column, &[4u8, 5, 6]).is_ok());
+    assert_eq!(rt; count(&column), 2);
+    assert_eq!(rt; column.borrow().get(0), [1, 2, 3]);
+    assert_eq!(rt; column.borrow().get(1).reborrow_ref(), [4, 5, 6]);
+    let (align, slice) = column.borrow().get_byte_slice(0);
+    assert_eq!(rt; align, 1);
+    assert_eq!(rt; slice.len(), 6);
+    assert_eq!(rt; column.byte_slice(0).word(0), 6618611909121);
+    let bytes = [1u8, 2, 3, 4, 5, 6];
+    let view = View::<[u8; 3]>::from_le_bytes(&bytes);
+    assert!(rt; view.check().is_ok());
+    assert!(rt; view == column.borrow());
+    let broken = View::<[u8; 3]>::from_le_bytes(&bytes[..4]);
+    assert_eq!(rt; broken.check(), Err(StoreFault::ElementSize(0)));
+    Ok(())
+}
+
+#[test]
+fn views_have_the_alignment_of_the_type(rt: HostRuntime) -> Result<(), Fail> {
+    let bytes = [255u8, 255, 1, 0, 2, 0, 3, 0];
+    let view = View::<i16>::from_le_bytes(&bytes);
+    assert_eq!(rt; view.get_byte_slice(0).0, 2);
+    assert_eq!(rt; View::<u32>::from_le_bytes(&bytes).get_byte_slice(0).0, 4);
+    assert_eq!(rt;
+        View::<Wrapping<i64>>::from_le_bytes(&bytes)
+            .get_byte_slice(0)
+            .0,
+        8
+    );
+    let items = [-1i16, 1, 2, 3];
+    let typed = View::from_slice(items.as_slice());
+    assert_eq!(rt; typed.get_byte_slice(0).0, 2);
+    assert!(rt; view == typed);
+    let part = typed.part(1, 3);
+    assert_eq!(rt; part.len(), 2);
+    assert_eq!(rt; part.get(0), 1);
+    assert!(rt; part != view);
+    assert!(rt; part == View::from_le_bytes(&bytes[2..6]));
+    Ok(())
+}
+
+#[test]
+fn slices_arrays_and_references_are_columns(rt: HostRuntime) -> Result<(), Fail> {
+    let items = [7u32, 8, 9];
+    assert_eq!(rt; Len::len(&items), 3);
+    assert_eq!(rt; Index::get(&items, 2), 9);
+    let slice = items.as_slice();
+    assert_eq!(rt; Len::len(&slice), 3);
+    assert_eq!(rt; *Index::get(&slice, 1), 8);
+    let mut column = <Vec<u32> as Storage>::empty(rt.alloc());
+    assert!(rt; column.push_slice(&items).is_ok());
+    let shared = &column;
+    assert_eq!(rt; *Index::get(&shared, 0), 7);
+    assert_eq!(rt; Len::len(&shared), 3);
+    let lent = &mut column;
+    assert_eq!(rt; Len::len(&lent), 3);
+    Ok(())
+}
+
+#[test]
+fn numbers_of_each_width_are_rows(rt: HostRuntime) -> Result<(), Fail> {
+    let alloc = rt.alloc();
+    let mut shorts = <Vec<u16> as Storage>::empty(alloc);
+    assert!(rt; Push::push(&mut shorts, 258u16).is_ok());
+    assert_eq!(rt; count(&shorts), 1);
+    assert_eq!(rt; shorts.borrow().get(0).reborrow_ref(), 258);
+    let mut words = <Vec<u32> as Storage>::empty(alloc);
+    assert!(rt; Push::push(&mut words, &7u32).is_ok());
+    assert_eq!(rt; count(&words), 1);
+    assert_eq!(rt; words.borrow().get(0).reborrow_ref(), 7);
+    let mut tiny = <Vec<i8> as Storage>::empty(alloc);
+    assert!(rt; Push::push(&mut tiny, -1i8).is_ok());
+    assert_eq!(rt; count(&tiny), 1);
+    assert_eq!(rt; tiny.borrow().get(0).reborrow_ref(), -1);
+    let mut small = <Vec<i16> as Storage>::empty(alloc);
+    assert!(rt; Push::push(&mut small, -2i16).is_ok());
+    assert_eq!(rt; count(&small), 1);
+    assert_eq!(rt; small.borrow().get(0).reborrow_ref(), -2);
+    let mut middle = <Vec<i32> as Storage>::empty(alloc);
+    assert!(rt; Push::push(&mut middle, -3i32).is_ok());
+    assert_eq!(rt; count(&middle), 1);
+    assert_eq!(rt; middle.borrow().get(0).reborrow_ref(), -3);
+    let mut large = <Vec<i64> as Storage>::empty(alloc);
+    assert!(rt; Push::push(&mut large, i64::MIN).is_ok());
+    assert_eq!(rt; count(&large), 1);
+    assert_eq!(rt; large.borrow().get(0).reborrow_ref(), i64::MIN);
+    let mut wrapping = <Vec<Wrapping<u8>> as Storage>::empty(alloc);
+    assert!(rt; Push::push(&mut wrapping, Wrapping(200u8)).is_ok());
+    assert_eq!(rt; count(&wrapping), 1);
+    assert_eq!(rt; wrapping.borrow().get(0).reborrow_ref(), Wrapping(200));
+    let mut lapping = <Vec<Wrapping<i64>> as Storage>::empty(alloc);
+    assert!(rt; Push::push(&mut lapping, Wrapping(-5i64)).is_ok());
+    assert_eq!(rt; count(&lapping), 1);
+    assert_eq!(rt; lapping.borrow().get(0), Wrapping(-5));
+    assert_eq!(rt; 7u8.reborrow_ref(), 7);
+    assert_eq!(rt; 7u64.reborrow_ref(), 7);
+    Ok(())
+}

@@ -1,0 +1,72 @@
+// Pairs of columns.
+ghost use Rattle.std.specs.Prelude.{◌≡◌, length};
+ghost use Rattle.columnar_base.specs.Format.{IsSound};
+
+use columnar_core::bytes::{Check, Stored};
+use columnar_core::container::{Borrow, Container, ExtendFrom, Storage};
+use columnar_core::fault::{GrowError, StoreFault};
+use columnar_core::traits::{Clear, Index, Len, Push, PushRef};
+use columnar_core::view::View;
+use std::test::Fail;
+
+type Pairs = (Vec<u64>, Vec<u64>);
+
+type PairsView<'a> = (View<'a, u64>, View<'a, u64>);
+
+// How many rows has a container, through the bound?
+fn count<'a, C: Container<'a>>(column: &'a C) -> usize
+    requires { IsSound C.format (C.content column.now) }
+    ensures { result ≡ length (C.format.rows (C.content column.now)) }
+{
+    column.len()
+}
+
+// Copies the rows of a view behind those of a container, through the bounds.
+fn copy_all<V: Index + Copy, C: ExtendFrom<V>>(column: &mut C, view: V) -> Result<(), GrowError>
+    requires sound { IsSound C.format (C.content column.old) }
+    requires view_sound { IsSound V.format (V.content view) }
+    ensures { IsSound C.format (C.content column.new) }
+{
+    let n = view.len();
+    match column.extend_from_self(view, 0..n) {
+        Ok(()) => Ok(()),
+        Err(error) => Err(error),
+    }
+}
+
+#[test]
+fn pairs_of_words(rt: HostRuntime) -> Result<(), Fail> {
+    let mut column = Pairs::empty(rt.alloc());
+    assert!(rt; column.push((1u64, 10u64)).is_ok());
+    assert!(rt; column.push(&(2u64, 20u64)).is_ok());
+    assert!(rt; column.push_ref(&(3u64, 30u64)).is_ok());
+    assert!(rt; Push::extend(&mut column, [(4u64, 40u64), (5, 50)].iter().copied()).is_ok());
+    assert_eq!(rt; count(&column), 5);
+    assert_eq!(rt; column.0.as_slice(), [1, 2, 3, 4, 5].as_slice());
+    assert_eq!(rt; column.1.as_slice(), [10, 20, 30, 40, 50].as_slice());
+    assert_eq!(rt; column.borrow().get(3), (4, 40));
+    assert!(rt; column.borrow().check().is_ok());
+    let uneven: PairsView<'_> = (
+        View::from_slice([1, 2].as_slice()),
+        View::from_slice([1].as_slice()),
+    );
+    assert_eq!(rt; uneven.check(), Err(StoreFault::Parts(0)));
+    let mut copy = Pairs::with_capacity_for(
+        rt.alloc(),
+        [column.borrow(), column.borrow()].iter().copied(),
+    )?;
+    assert!(rt; copy_all(&mut copy, column.borrow()).is_ok());
+    assert!(rt; copy.extend_from_self(column.borrow(), 1..3).is_ok());
+    assert!(rt; copy.reserve_for([column.borrow()].iter().copied()).is_ok());
+    assert_eq!(rt; copy.0.as_slice(), [1, 2, 3, 4, 5, 2, 3].as_slice());
+    assert_eq!(rt; copy.1.as_slice(), [10, 20, 30, 40, 50, 20, 30].as_slice());
+    copy.truncate(2);
+    assert_eq!(rt; copy.0.as_slice(), [1, 2].as_slice());
+    assert_eq!(rt; copy.1.as_slice(), [10, 20].as_slice());
+    copy.clear();
+    assert!(rt; copy.is_empty());
+    let mut sizes = Vec::new(rt.alloc());
+    assert!(rt; Pairs::element_sizes(&mut sizes).is_ok());
+    assert_eq!(rt; sizes.as_slice(), [8, 8].as_slice());
+    Ok(())
+}

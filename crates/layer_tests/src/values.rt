@@ -1,0 +1,269 @@
+// Columns of values, read and grown as lists of rows.
+ghost use Rattle.std.specs.Prelude.{◌≡◌, ℕ, length, IsTrue};
+ghost use Rattle.columnar_base.specs.Format.{IsSound, representable};
+
+use columnar_core::bytes::{AsBytes, Check, Stored};
+use columnar_core::container::{Borrow, Container, ContainerBytes, ExtendFrom, Reborrow, Storage};
+use columnar_core::fault::{GrowError, StoreFault};
+use columnar_core::traits::{Clear, Column, Index, Len, Push, PushRef};
+use columnar_core::view::View;
+use columnar_primitive::chars::Chars;
+use columnar_primitive::count::Count;
+use columnar_primitive::durations::Durations;
+use columnar_primitive::empties::Empties;
+use columnar_primitive::larges::{I128s, U128s};
+use columnar_primitive::numbers::{Isizes, Usizes};
+use std::marker::PhantomData;
+use std::test::Fail;
+use std::time::Duration;
+
+type Sizes = Usizes<Vec<u64>>;
+
+type Differences = Isizes<Vec<i64>>;
+
+type Characters = Chars<Vec<u32>>;
+
+type Large = U128s<Vec<[u8; 16]>>;
+
+type LargeSigned = I128s<Vec<[u8; 16]>>;
+
+type Times = Durations<Vec<u64>, Vec<u32>>;
+
+type Units = Empties<u64>;
+
+// How many rows has a container, through the bound?
+fn count<'a, C: Container<'a>>(column: &'a C) -> usize
+    requires { IsSound C.format (C.content column.now) }
+    ensures { result ≡ length (C.format.rows (C.content column.now)) }
+{
+    column.len()
+}
+
+// Copies the rows of a view behind those of a container, through the bounds.
+fn copy_all<V: Index + Copy, C: ExtendFrom<V>>(column: &mut C, view: V) -> Result<(), GrowError>
+    requires sound { IsSound C.format (C.content column.old) }
+    requires view_sound { IsSound V.format (V.content view) }
+    ensures { IsSound C.format (C.content column.new) }
+{
+    let n = view.len();
+    match column.extend_from_self(view, 0..n) {
+        Ok(()) => Ok(()),
+        Err(error) => Err(error),
+    }
+}
+
+// Is a view well formed, through the bound?
+fn checked<V: Check>(view: &V) -> Result<(), StoreFault>
+    requires { IsTrue (representable V.format) }
+{
+    match view.check() {
+        Ok(()) => Ok(()),
+        Err(fault) => Err(fault),
+    }
+}
+
+// Row `index`, None past the end, through the bound
+fn row_of<V: Index>(view: &V, index: usize) -> Option<V::Ref>
+    requires { IsSound V.format (V.content view.now) }
+{
+    if index < view.len() {
+        Some(view.get(index))
+    } else {
+        None
+    }
+}
+
+#[test]
+fn sizes_are_rows(rt: HostRuntime) -> Result<(), Fail> {
+    let mut column = Sizes::empty(rt.alloc());
+    assert!(rt; column.push(1usize).is_ok());
+    assert!(rt; column.push(&2usize).is_ok());
+    assert!(rt; column.push_ref(&3usize).is_ok());
+    assert!(rt; Push::extend(&mut column, [4usize, 5].iter().copied()).is_ok());
+    assert_eq!(rt; count(&column), 5);
+    assert_eq!(rt; column.values.as_slice(), [1, 2, 3, 4, 5].as_slice());
+    assert_eq!(rt; row_of(&column, 3), Some(4));
+    assert_eq!(rt; row_of(&column.borrow(), 4), Some(5));
+    assert_eq!(rt; row_of(&&column, 2), Some(3));
+    assert!(rt; column.borrow().check().is_ok());
+    let mut copy = Sizes::with_capacity_for(rt.alloc(), [column.borrow()].iter().copied())?;
+    assert!(rt; copy_all(&mut copy, column.borrow()).is_ok());
+    assert!(rt;
+        copy.extend_from_self(column.borrow().reborrow(), 1..3)
+            .is_ok()
+    );
+    assert!(rt; copy.reserve_for([column.borrow()].iter().copied()).is_ok());
+    assert_eq!(rt; copy.values.as_slice(), [1, 2, 3, 4, 5, 2, 3].as_slice());
+    copy.truncate(2);
+    assert_eq!(rt; copy.values.as_slice(), [1, 2].as_slice());
+    let again = copy.duplicate(rt.alloc())?;
+    assert_eq!(rt; again.values.as_slice(), [1, 2].as_slice());
+    copy.clear();
+    assert!(rt; copy.is_empty());
+    let mut sizes = Vec::new(rt.alloc());
+    assert!(rt; Sizes::element_sizes(&mut sizes).is_ok());
+    assert_eq!(rt; sizes.as_slice(), [8].as_slice());
+    assert_eq!(rt; column.borrow().get_byte_slice(0).1.len(), 40);
+    assert_eq!(rt; column.byte_slice(0).len(), 40);
+    Ok(())
+}
+
+#[test]
+fn differences_are_rows(rt: HostRuntime) -> Result<(), Fail> {
+    let mut column = Differences::empty(rt.alloc());
+    assert!(rt; column.push(-1isize).is_ok());
+    assert!(rt; column.push(&isize::MIN).is_ok());
+    assert_eq!(rt; column.values.as_slice(), [-1, i64::MIN].as_slice());
+    assert_eq!(rt; row_of(&column.borrow(), 0), Some(-1));
+    assert_eq!(rt; row_of(&column.borrow(), 1), Some(isize::MIN));
+    Ok(())
+}
+
+#[test]
+fn large_numbers_are_rows(rt: HostRuntime) -> Result<(), Fail> {
+    let mut column = Large::empty(rt.alloc());
+    assert!(rt; column.push(1u128).is_ok());
+    assert!(rt; column.push(&u128::MAX).is_ok());
+    let one = [1, 0, 0, 0, 0, 0, 0, 0, 0, 0, 0, 0, 0, 0, 0, 0];
+    assert_eq!(rt; column.values.as_slice(), [one, [255; 16]].as_slice());
+    assert_eq!(rt; row_of(&column.borrow(), 0), Some(1));
+    assert_eq!(rt; row_of(&column.borrow(), 1), Some(u128::MAX));
+    let mut signed = LargeSigned::empty(rt.alloc());
+    assert!(rt; signed.push(-1i128).is_ok());
+    assert!(rt; signed.push(&i128::MIN).is_ok());
+    let least = [0, 0, 0, 0, 0, 0, 0, 0, 0, 0, 0, 0, 0, 0, 0, 128];
+    assert_eq!(rt; signed.values.as_slice(), [[255; 16], least].as_slice());
+    assert_eq!(rt; row_of(&signed.borrow(), 0), Some(-1));
+    assert_eq!(rt; row_of(&signed.borrow(), 1), Some(i128::MIN));
+    Ok(())
+}
+
+#[test]
+fn characters_are_rows(rt: HostRuntime) -> Result<(), Fail> {
+    let mut column = Characters::empty(rt.alloc());
+    assert!(rt; column.push('a').is_ok());
+    assert!(rt; column.push(&'\u{10FFFF}').is_ok());
+    assert_eq!(rt; column.values.as_slice(), [97, 0x10FFFF].as_slice());
+    assert_eq!(rt; row_of(&column.borrow(), 0), Some('a'));
+    assert_eq!(rt; row_of(&column.borrow(), 1), Some('\u{10FFFF}'));
+    assert_eq!(rt; checked(&column.borrow()), Ok(()));
+    for (codes, wanted) in [
+        ([0xD7FF, 0xE000], Ok(())),
+        ([97, 0xD800], Err(StoreFault::Value(0))),
+        ([0xDFFF, 97], Err(StoreFault::Value(0))),
+        ([97, 0x110000], Err(StoreFault::Value(0))),
+    ] {
+        let view: Chars<View<'_, u32>> = Chars {
+            values: View::from_slice(codes.as_slice()),
+            of: PhantomData,
+        };
+        assert_eq!(rt; checked(&view), wanted);
+    }
+    let short: Chars<View<'_, u32>> = Chars {
+        values: View::from_le_bytes([97, 0, 0].as_slice()),
+        of: PhantomData,
+    };
+    assert_eq!(rt; checked(&short), Err(StoreFault::ElementSize(0)));
+    Ok(())
+}
+
+#[test]
+fn durations_are_rows(rt: HostRuntime) -> Result<(), Fail> {
+    let mut column = Times::empty(rt.alloc());
+    assert!(rt; column.push(Duration::new(17, 42)).is_ok());
+    assert!(rt; column.push(&Duration::new(1, 999_999_999)).is_ok());
+    assert!(rt; column.push_ref(&Duration::ZERO).is_ok());
+    assert!(rt; column.push_parts(u64::MAX, 5).is_ok());
+    assert_eq!(rt; count(&column), 4);
+    assert_eq!(rt; column.seconds.as_slice(), [17, 1, 0, u64::MAX].as_slice());
+    assert_eq!(rt;
+        column.nanoseconds.as_slice(),
+        [42, 999_999_999, 0, 5].as_slice()
+    );
+    assert_eq!(rt;
+        row_of(&column.borrow(), 1),
+        Some(Duration::new(1, 999_999_999))
+    );
+    assert_eq!(rt; row_of(&&column, 0), Some(Duration::new(17, 42)));
+    assert!(rt; column.borrow().check().is_ok());
+    let mut copy = Times::with_capacity_for(rt.alloc(), [column.borrow()].iter().copied())?;
+    assert!(rt; copy_all(&mut copy, column.borrow()).is_ok());
+    assert!(rt; copy == column);
+    assert!(rt; copy.extend_from_self(column.borrow(), 1..3).is_ok());
+    assert_eq!(rt;
+        copy.seconds.as_slice(),
+        [17, 1, 0, u64::MAX, 1, 0].as_slice()
+    );
+    copy.truncate(1);
+    assert_eq!(rt; copy.nanoseconds.as_slice(), [42].as_slice());
+    copy.clear();
+    assert!(rt; copy.is_empty());
+    for (seconds, nanoseconds, wanted) in [
+        (
+            [1, 2],
+            [0, 1_000_000_000].as_slice(),
+            Err(StoreFault::Value(0)),
+        ),
+        (
+            [1, 2],
+            [1_000_000_000].as_slice(),
+            Err(StoreFault::Parts(0)),
+        ),
+        ([1, 2], [0, 999_999_999].as_slice(), Ok(())),
+    ] {
+        let view = Durations {
+            seconds: View::from_slice(seconds.as_slice()),
+            nanoseconds: View::from_slice(nanoseconds),
+        };
+        assert_eq!(rt; view.check(), wanted);
+    }
+    let mut sizes = Vec::new(rt.alloc());
+    assert!(rt; Times::element_sizes(&mut sizes).is_ok());
+    assert_eq!(rt; sizes.as_slice(), [8, 4].as_slice());
+    Ok(())
+}
+
+#[test]
+fn units_are_counted(rt: HostRuntime) -> Result<(), Fail> {
+    let mut column = Units::empty(rt.alloc());
+    assert!(rt; column.push(()).is_ok());
+    assert!(rt; column.push(&()).is_ok());
+    assert!(rt; column.push_ref(&()).is_ok());
+    assert_eq!(rt; count(&column), 3);
+    assert_eq!(rt; column.count.count(), 3);
+    assert_eq!(rt; row_of(&column, 2), Some(()));
+    assert_eq!(rt; row_of(&&column, 2), Some(&()));
+    assert!(rt; column.borrow().check().is_ok());
+    assert_eq!(rt; column.borrow().len(), 3);
+    let mut copy = Units::empty(rt.alloc());
+    assert!(rt; copy_all(&mut copy, column.borrow()).is_ok());
+    assert!(rt; copy.extend_from_self(column.borrow(), 1..3).is_ok());
+    assert_eq!(rt; copy.count, 5);
+    copy.truncate(4);
+    assert_eq!(rt; copy.count, 4);
+    copy.clear();
+    assert!(rt; copy.is_empty());
+    let mut full = Empties {
+        count: u64::MAX - 1,
+        empty: (),
+    };
+    assert_eq!(rt; full.push(()), Ok(()));
+    assert_eq!(rt; full.push(()), Err(GrowError::Length));
+    assert_eq!(rt;
+        full.extend_from_self(column.borrow(), 0..1),
+        Err(GrowError::Length)
+    );
+    assert_eq!(rt; full.extend_from_self(column.borrow(), 1..1), Ok(()));
+    assert_eq!(rt; full.count, u64::MAX);
+    let two: Empties<View<'_, u64>> = Empties {
+        count: View::from_slice([1, 2].as_slice()),
+        empty: (),
+    };
+    assert_eq!(rt; two.check(), Err(StoreFault::HeadSize(0)));
+    let none: Empties<View<'_, u64>> = Empties {
+        count: View::from_le_bytes([].as_slice()),
+        empty: (),
+    };
+    assert_eq!(rt; none.check(), Err(StoreFault::HeadSize(0)));
+    Ok(())
+}

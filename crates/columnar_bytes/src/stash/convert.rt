@@ -191,13 +191,15 @@ impl<C: ContainerBytes, B: ByteStore> Stash<C, B> {
         }
     }
 
-    /// The bytes of the encoding: unless the stash holds these already, they are made first, and stay in the stash, with
-    /// the same rows. Refused with `Length` only where these bytes would pass 2^64 - 1; a refusal leaves the stash as it
-    /// was.
+    /// Leaves the bytes of the encoding in the stash, with zeros between the slices and nothing behind them, of the same
+    /// rows; where they are in the variant `Align` already, it leaves them as they are. Refused with `Length` only where
+    /// these bytes would pass 2^64 - 1; a refusal leaves the stash as it was.
     pub fn make_aligned(&mut self, alloc: Global) -> Result<(), EncodeError>
         requires representable { IsTrue (representable C.format) }
         requires sound { IsSound C.format (stash_content self.old) }
         ensures variant { OnOk result (variant_of self.new ≡ aligned) }
+        ensures bytes { OnOk result (variant_of self.old ≢ aligned → HoldsBytes self.new (store_bytes (slices_of (stash_content self.old)))) }
+        ensures kept { variant_of self.old ≡ aligned → self.new ≡ self.old }
         ensures content { stash_content self.new ≡ stash_content self.old }
         ensures stays { OnErr result (self.new ≡ self.old) }
         ensures length { result ≡ Err EncodeError.Length → 2 ^ 64 ≤ 8 * length (words (slices_of (stash_content self.old))) }

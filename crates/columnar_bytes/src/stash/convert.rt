@@ -200,6 +200,7 @@ impl<C: ContainerBytes, B: ByteStore> Stash<C, B> {
         ensures variant { OnOk result (variant_of self.new ≡ aligned) }
         ensures bytes { OnOk result (variant_of self.old ≢ aligned → HoldsBytes self.new (store_bytes (slices_of (stash_content self.old)))) }
         ensures kept { variant_of self.old ≡ aligned → self.new ≡ self.old }
+        ensures done { OnErr result (variant_of self.old ≢ aligned) }
         ensures content { stash_content self.new ≡ stash_content self.old }
         ensures stays { OnErr result (self.new ≡ self.old) }
         ensures length { result ≡ Err EncodeError.Length → 2 ^ 64 ≤ 8 * length (words (slices_of (stash_content self.old))) }

@@ -1,6 +1,7 @@
 -- What a stash ends as, once the column that it lent has come back.
-use Rattle.std.specs.Borrow.{Fml, RattleType, MutBor, LendsIfOk}
-use Rattle.std.specs.Prelude.{Result}
+use Rattle.std.specs.Borrow.{Fml, RattleType, MutBor, LendsIfOk, follows_so}
+use Rattle.std.specs.Prelude.{Result, ⊤}
+use mathlib.Core.Option.{none}
 use Rattle.columnar_core.specs.declared.traits.Column.{Ghosts as ColumnOf}
 use Rattle.columnar_bytes.specs.declared.stash.ByteStore.{Ghosts as BytesOf}
 use Rattle.columnar_bytes.specs.declared.stash.Stash.{Stash}
@@ -11,3 +12,7 @@ module _ (C B : RattleType) (column : ColumnOf C.Denot) (store : BytesOf B.Denot
   -- the stash holds the column as the caller left it; where none was lent, it is as it was
   abbrev pub lends_typed : {E : Type 0} → Result (MutBor C.Denot) E → Fml
   lends_typed r = LendsIfOk (the_row C B column store) C s r Typed s.now
+
+  -- the stash is so, once what it lent for reading has come back
+  abbrev pub ends_as : (Stash C.Denot B.Denot column store → Type 0) → Fml
+  ends_as P = follows_so (the_row C B column store) (the_row C B column store) s.ghost_name none (λ _ _. ⊤) P

@@ -5,11 +5,11 @@ ghost use Rattle.columnar_core.specs.Format.{IsSound, representable};
 ghost use Rattle.columnar_bytes.specs.Stashes.{stash_content};
 ghost use Rattle.columnar_bytes.specs.Machine.{IsValid};
 
-pub(super) mod values;
+mod values;
 
-use super::{front, has, opened, variant, writes};
-use crate::bytes::indexed::encode;
-use crate::bytes::stash::{ByteStore, Command, Refusal, Reply, Stash, run};
+use super::{bytes_of, front, has, opened, variant, writes};
+use crate::bytes::indexed::{encode, validate};
+use crate::bytes::stash::{Command, Refusal, Reply, Stash, run};
 use crate::common::View;
 use crate::fault::{EncodeError, GrowError};
 use crate::{
@@ -29,19 +29,19 @@ type Lists = Vecs<Pairs, Vec<u64>>;
 type Beside = (Vec<u64>, Lists);
 
 // Four numbers, and one more
-pub(super) static NUMBERS: [u64; 6] = [16, 48, 1, 2, 3, 4];
+static NUMBERS: [u64; 6] = [16, 48, 1, 2, 3, 4];
 
-pub(super) static NUMBERS_AND_ONE: [u64; 7] = [16, 56, 1, 2, 3, 4, 5];
+static NUMBERS_AND_ONE: [u64; 7] = [16, 56, 1, 2, 3, 4, 5];
 
 // Four pairs, and one more
-pub(super) static PAIRS: [u64; 11] = [24, 56, 88, 1, 2, 3, 4, 10, 20, 30, 40];
+static PAIRS: [u64; 11] = [24, 56, 88, 1, 2, 3, 4, 10, 20, 30, 40];
 
-pub(super) static PAIRS_AND_ONE: [u64; 13] = [24, 64, 104, 1, 2, 3, 4, 5, 10, 20, 30, 40, 50];
+static PAIRS_AND_ONE: [u64; 13] = [24, 64, 104, 1, 2, 3, 4, 5, 10, 20, 30, 40, 50];
 
 // Four lists of one pair, and one more, of two pairs
-pub(super) static LISTS: [u64; 16] = [32, 64, 96, 128, 1, 2, 3, 4, 1, 2, 3, 4, 10, 20, 30, 40];
+static LISTS: [u64; 16] = [32, 64, 96, 128, 1, 2, 3, 4, 1, 2, 3, 4, 10, 20, 30, 40];
 
-pub(super) static LISTS_AND_ONE: [u64; 21] = [
+static LISTS_AND_ONE: [u64; 21] = [
     32, 72, 120, 168, 1, 2, 3, 4, 6, 1, 2, 3, 4, 5, 6, 10, 20, 30, 40, 50, 60,
 ];
 
@@ -236,7 +236,11 @@ fn aligning_keeps<C: ContainerBytes>(
     ensures { IsSound C.format (stash_content stash.new) }
 {
     let held = variant(stash);
-    let kept = match stash.make_aligned(alloc) {
+    let made = match stash.make_aligned(alloc) {
+        Ok(_) => Ok(()),
+        Err(error) => Err(error),
+    };
+    let kept = match made {
         Ok(()) => variant(stash) == 2,
         Err(error) => error == EncodeError::Memory && variant(stash) == held,
     };
@@ -290,6 +294,156 @@ fn sizes_keep<C: Stored>(sizes: &mut Vec<usize>) -> bool
     }
 }
 
+// The words of a column and of what it becomes in the calls of a test
+#[derive(Drop)]
+struct Trial<'a> {
+    // The words of the column, and how many rows it has
+    before: &'a [u64],
+    rows: usize,
+    // The words with one item more
+    after: &'a [u64],
+    // The words of the source, how many of its rows are copied, into which words, and what these become
+    source: &'a [u64],
+    taken: usize,
+    into: &'a [u64],
+    with_taken: &'a [u64],
+}
+
+// Pushes to bytes and to a column
+fn both_pushes_keep<T: Item + Copy, C: ContainerBytes + Push<T>>(
+    alloc: Global,
+    item: T,
+    trial: &Trial<'_>,
+) -> bool
+    requires representable { IsTrue (representable C.format) }
+    requires valid { T.valid item }
+{
+    let Some(mut stash) = opened::<C>(alloc, trial.before) else {
+        return true;
+    };
+    let Ok(mut typed) = stash.to_typed(alloc) else {
+        return true;
+    };
+    push_keeps(&mut stash, item, trial.before, trial.after)
+        && push_keeps(&mut typed, item, trial.before, trial.after)
+}
+
+// Pushes of an item by value and by reference, to bytes and to a column
+fn pushes_keep<'a, T: Item + Copy, C: ContainerBytes + Push<T> + Push<&'a T> + PushRef<T>>(
+    alloc: Global,
+    item: &'a T,
+    trial: &Trial<'_>,
+) -> bool
+    requires representable { IsTrue (representable C.format) }
+    requires valid { T.valid item.now }
+{
+    let Some(mut stash) = opened::<C>(alloc, trial.before) else {
+        return true;
+    };
+    let Ok(mut typed) = stash.to_typed(alloc) else {
+        return true;
+    };
+    both_pushes_keep::<T, C>(alloc, *item, trial)
+        && both_pushes_keep::<&'a T, C>(alloc, item, trial)
+        && push_ref_keeps(&mut stash, item, trial.before, trial.after)
+        && push_ref_keeps(&mut typed, item, trial.before, trial.after)
+}
+
+// Copies of rows, and room for them: in bytes, in a column and in an empty one
+fn copies_keep<V: Index + Copy, C: ContainerBytes + ExtendFrom<V>>(
+    alloc: Global,
+    source: V,
+    trial: &Trial<'_>,
+) -> bool
+    requires representable { IsTrue (representable C.format) }
+    requires source_sound { IsSound V.format (V.content source) }
+{
+    let Some(mut stash) = opened::<C>(alloc, trial.into) else {
+        return true;
+    };
+    let Ok(mut typed) = stash.to_typed(alloc) else {
+        return true;
+    };
+    let Some(mut roomy) = opened::<C>(alloc, trial.into) else {
+        return true;
+    };
+    room_is_made_or_refused::<V, C>(alloc, source)
+        && room_keeps(&mut roomy, source, trial.into)
+        && room_keeps(&mut typed, source, trial.into)
+        && copy_keeps(
+            &mut stash,
+            source,
+            trial.taken,
+            trial.into,
+            trial.with_taken,
+        )
+        && copy_keeps(
+            &mut typed,
+            source,
+            trial.taken,
+            trial.into,
+            trial.with_taken,
+        )
+}
+
+// Bytes and a column are loaded, copied, aligned, cloned and cut
+fn turns_and_clones_keep<C: ContainerBytes + Clone>(alloc: Global, trial: &Trial<'_>) -> bool
+    requires { IsTrue (representable C.format) }
+{
+    let words = trial.after;
+    let Some(mut stash) = opened::<C>(alloc, words) else {
+        return true;
+    };
+    let Ok(mut typed) = stash.to_typed(alloc) else {
+        return true;
+    };
+    turns_keep(alloc, &stash, words)
+        && turns_keep(alloc, &typed, words)
+        && clones_keep(alloc, &stash, words)
+        && clones_keep(alloc, &typed, words)
+        && aligning_keeps(alloc, &mut stash, words)
+        && turns_keep(alloc, &stash, words)
+        && clones_keep(alloc, &stash, words)
+        && aligning_keeps(alloc, &mut typed, words)
+        && loading_keeps(&mut typed, words)
+        && cut_keeps(&mut stash, trial.rows, words, trial.before)
+}
+
+// Do the words break a rule, where there is memory to test it?
+fn is_refused<C: ContainerBytes>(alloc: Global, words: &[u64]) -> bool
+    requires { IsTrue (representable C.format) }
+{
+    match bytes_of(alloc, words) {
+        Ok(bytes) => validate::<C>(bytes.as_slice()).is_err(),
+        Err(_) => false,
+    }
+}
+
+// Is no store of the test refused? Else it would end before the calls that it tests.
+fn is_lawful<C: ContainerBytes>(alloc: Global, trial: &Trial<'_>) -> bool
+    requires { IsTrue (representable C.format) }
+{
+    !is_refused::<C>(alloc, trial.before)
+        && !is_refused::<C>(alloc, trial.after)
+        && !is_refused::<C>(alloc, trial.source)
+        && !is_refused::<C>(alloc, trial.into)
+}
+
+// Each call that takes memory, but the pushes
+fn calls_keep<'v, V: AsBytes<'v> + Index + Copy, C: ContainerBytes + ExtendFrom<V> + Clone>(
+    alloc: Global,
+    source: V,
+    trial: &Trial<'_>,
+) -> bool
+    requires representable { IsTrue (representable C.format) }
+    requires source_representable { IsTrue (representable V.format) }
+    requires source_sound { IsSound V.format (V.content source) }
+{
+    copies_keep::<V, C>(alloc, source, trial)
+        && turns_and_clones_keep::<C>(alloc, trial)
+        && encoding_keeps(alloc, &source, trial.source)
+}
+
 // A run of one command does it, or tells that memory was refused; the stash is as it was then
 fn run_keeps<T: Item, V: Index + Copy, C: ContainerBytes + PushRef<T> + ExtendFrom<V>>(
     alloc: Global,
@@ -319,67 +473,71 @@ fn run_keeps<T: Item, V: Index + Copy, C: ContainerBytes + PushRef<T> + ExtendFr
 }
 
 #[test]
-fn pushes_of_numbers(rt: HostRuntime) -> Result<(), Fail> {
-    let Some(mut stash) = opened::<Numbers>(rt.alloc(), NUMBERS.as_slice()) else {
+fn columns_of_numbers(rt: HostRuntime) -> Result<(), Fail> {
+    let alloc = rt.alloc();
+    let trial = Trial {
+        before: NUMBERS.as_slice(),
+        rows: 4,
+        after: NUMBERS_AND_ONE.as_slice(),
+        source: [16, 24, 5].as_slice(),
+        taken: 1,
+        into: NUMBERS.as_slice(),
+        with_taken: NUMBERS_AND_ONE.as_slice(),
+    };
+    assert!(rt; is_lawful::<Numbers>(alloc, &trial));
+    let Some(source) = opened::<Numbers>(alloc, trial.source) else {
         return Ok(());
     };
-    let Ok(mut typed) = stash.to_typed(rt.alloc()) else {
-        return Ok(());
-    };
-    let before = NUMBERS.as_slice();
-    let after = NUMBERS_AND_ONE.as_slice();
-    assert!(rt; push_keeps(&mut stash, 5u64, before, after));
-    assert!(rt; push_keeps(&mut typed, &5u64, before, after));
+    assert!(rt; pushes_keep::<u64, Numbers>(alloc, &5, &trial));
+    assert!(rt; calls_keep::<_, Numbers>(alloc, source.borrow(), &trial));
     Ok(())
 }
 
 #[test]
-fn pushes_of_numbers_by_reference(rt: HostRuntime) -> Result<(), Fail> {
-    let Some(mut stash) = opened::<Numbers>(rt.alloc(), NUMBERS.as_slice()) else {
+fn columns_of_pairs(rt: HostRuntime) -> Result<(), Fail> {
+    let alloc = rt.alloc();
+    let trial = Trial {
+        before: PAIRS.as_slice(),
+        rows: 4,
+        after: PAIRS_AND_ONE.as_slice(),
+        source: [24, 32, 40, 5, 50].as_slice(),
+        taken: 1,
+        into: PAIRS.as_slice(),
+        with_taken: PAIRS_AND_ONE.as_slice(),
+    };
+    assert!(rt; is_lawful::<Pairs>(alloc, &trial));
+    let Some(source) = opened::<Pairs>(alloc, trial.source) else {
         return Ok(());
     };
-    let Ok(mut typed) = stash.to_typed(rt.alloc()) else {
-        return Ok(());
-    };
-    let before = NUMBERS.as_slice();
-    let after = NUMBERS_AND_ONE.as_slice();
-    assert!(rt; push_ref_keeps(&mut stash, &5u64, before, after));
-    assert!(rt; push_ref_keeps(&mut typed, &5u64, before, after));
+    assert!(rt; pushes_keep::<(u64, u64), Pairs>(alloc, &(5, 50), &trial));
+    assert!(rt; calls_keep::<_, Pairs>(alloc, source.borrow(), &trial));
     Ok(())
 }
 
+// A list is pushed as a range of pairs
 #[test]
-fn pushes_of_pairs(rt: HostRuntime) -> Result<(), Fail> {
-    let Some(mut stash) = opened::<Pairs>(rt.alloc(), PAIRS.as_slice()) else {
-        return Ok(());
+fn columns_of_lists(rt: HostRuntime) -> Result<(), Fail> {
+    let alloc = rt.alloc();
+    let trial = Trial {
+        before: LISTS.as_slice(),
+        rows: 4,
+        after: LISTS_AND_ONE.as_slice(),
+        source: [32, 40, 56, 72, 2, 5, 6, 50, 60].as_slice(),
+        taken: 1,
+        into: LISTS.as_slice(),
+        with_taken: LISTS_AND_ONE.as_slice(),
     };
-    let Ok(mut typed) = stash.to_typed(rt.alloc()) else {
-        return Ok(());
-    };
-    let before = PAIRS.as_slice();
-    let after = PAIRS_AND_ONE.as_slice();
-    assert!(rt; push_keeps(&mut stash, (5u64, 50u64), before, after));
-    assert!(rt; push_ref_keeps(&mut typed, &(5u64, 50u64), before, after));
-    Ok(())
-}
-
-#[test]
-fn pushes_of_lists(rt: HostRuntime) -> Result<(), Fail> {
+    assert!(rt; is_lawful::<Lists>(alloc, &trial));
     let pairs = (
         View::from_slice(FIRSTS.as_slice()),
         View::from_slice(SECONDS.as_slice()),
     );
     assert!(rt; pairs.check().is_ok());
-    let Some(mut stash) = opened::<Lists>(rt.alloc(), LISTS.as_slice()) else {
+    let Some(source) = opened::<Lists>(alloc, trial.source) else {
         return Ok(());
     };
-    let Ok(mut typed) = stash.to_typed(rt.alloc()) else {
-        return Ok(());
-    };
-    let before = LISTS.as_slice();
-    let after = LISTS_AND_ONE.as_slice();
-    assert!(rt; push_keeps(&mut stash, Slice::new(0, 2, pairs), before, after));
-    assert!(rt; push_keeps(&mut typed, Slice::new(0, 2, pairs), before, after));
+    assert!(rt; both_pushes_keep::<_, Lists>(alloc, Slice::new(0, 2, pairs), &trial));
+    assert!(rt; calls_keep::<_, Lists>(alloc, source.borrow(), &trial));
     Ok(())
 }
 
@@ -408,168 +566,6 @@ fn a_second_part_that_is_refused(rt: HostRuntime) -> Result<(), Fail> {
             assert_eq!(rt; pairs.1.as_slice(), [10, 20, 30, 40].as_slice());
         }
     }
-    Ok(())
-}
-
-#[test]
-fn copies_of_numbers(rt: HostRuntime) -> Result<(), Fail> {
-    let view = View::from_slice(FIRSTS.as_slice());
-    let Some(mut stash) = opened::<Numbers>(rt.alloc(), NUMBERS.as_slice()) else {
-        return Ok(());
-    };
-    let Ok(mut typed) = stash.to_typed(rt.alloc()) else {
-        return Ok(());
-    };
-    let before = NUMBERS.as_slice();
-    let after = NUMBERS_AND_ONE.as_slice();
-    assert!(rt; copy_keeps(&mut stash, view, 1, before, after));
-    assert!(rt; copy_keeps(&mut typed, view, 1, before, after));
-    Ok(())
-}
-
-#[test]
-fn copies_of_pairs(rt: HostRuntime) -> Result<(), Fail> {
-    let pairs = (
-        View::from_slice(FIRSTS.as_slice()),
-        View::from_slice(SECONDS.as_slice()),
-    );
-    assert!(rt; pairs.check().is_ok());
-    let Some(mut stash) = opened::<Pairs>(rt.alloc(), PAIRS.as_slice()) else {
-        return Ok(());
-    };
-    let Ok(mut typed) = stash.to_typed(rt.alloc()) else {
-        return Ok(());
-    };
-    let before = PAIRS.as_slice();
-    let after = PAIRS_AND_ONE.as_slice();
-    assert!(rt; copy_keeps(&mut stash, pairs, 1, before, after));
-    assert!(rt; copy_keeps(&mut typed, pairs, 1, before, after));
-    Ok(())
-}
-
-#[test]
-fn copies_of_lists(rt: HostRuntime) -> Result<(), Fail> {
-    let more = [32, 40, 56, 72, 2, 5, 6, 50, 60];
-    let Some(source) = opened::<Lists>(rt.alloc(), more.as_slice()) else {
-        return Ok(());
-    };
-    let Some(mut stash) = opened::<Lists>(rt.alloc(), LISTS.as_slice()) else {
-        return Ok(());
-    };
-    let Ok(mut typed) = stash.to_typed(rt.alloc()) else {
-        return Ok(());
-    };
-    let before = LISTS.as_slice();
-    let after = LISTS_AND_ONE.as_slice();
-    assert!(rt; copy_keeps(&mut stash, source.borrow(), 1, before, after));
-    assert!(rt; copy_keeps(&mut typed, source.borrow(), 1, before, after));
-    Ok(())
-}
-
-#[test]
-fn room_for_numbers(rt: HostRuntime) -> Result<(), Fail> {
-    let view = View::from_slice(FIRSTS.as_slice());
-    let Some(mut stash) = opened::<Numbers>(rt.alloc(), NUMBERS.as_slice()) else {
-        return Ok(());
-    };
-    let Ok(mut typed) = stash.to_typed(rt.alloc()) else {
-        return Ok(());
-    };
-    assert!(rt; room_keeps(&mut stash, view, NUMBERS.as_slice()));
-    assert!(rt; room_keeps(&mut typed, view, NUMBERS.as_slice()));
-    assert!(rt; room_is_made_or_refused::<View<'_, u64>, Numbers>(rt.alloc(), view));
-    Ok(())
-}
-
-#[test]
-fn room_for_lists(rt: HostRuntime) -> Result<(), Fail> {
-    let Some(source) = opened::<Lists>(rt.alloc(), LISTS.as_slice()) else {
-        return Ok(());
-    };
-    let Some(mut stash) = opened::<Lists>(rt.alloc(), LISTS.as_slice()) else {
-        return Ok(());
-    };
-    let Ok(mut typed) = stash.to_typed(rt.alloc()) else {
-        return Ok(());
-    };
-    assert!(rt; room_keeps(&mut stash, source.borrow(), LISTS.as_slice()));
-    assert!(rt; room_keeps(&mut typed, source.borrow(), LISTS.as_slice()));
-    assert!(rt; room_is_made_or_refused::<_, Lists>(rt.alloc(), source.borrow()));
-    Ok(())
-}
-
-#[test]
-fn cuts_of_bytes(rt: HostRuntime) -> Result<(), Fail> {
-    let Some(mut numbers) = opened::<Numbers>(rt.alloc(), NUMBERS_AND_ONE.as_slice()) else {
-        return Ok(());
-    };
-    let Some(mut lists) = opened::<Lists>(rt.alloc(), LISTS_AND_ONE.as_slice()) else {
-        return Ok(());
-    };
-    assert!(rt;
-        cut_keeps(
-            &mut numbers,
-            4,
-            NUMBERS_AND_ONE.as_slice(),
-            NUMBERS.as_slice()
-        )
-    );
-    assert!(rt; cut_keeps(&mut lists, 4, LISTS_AND_ONE.as_slice(), LISTS.as_slice()));
-    Ok(())
-}
-
-#[test]
-fn turns_of_numbers(rt: HostRuntime) -> Result<(), Fail> {
-    let Some(mut stash) = opened::<Numbers>(rt.alloc(), NUMBERS.as_slice()) else {
-        return Ok(());
-    };
-    assert!(rt; turns_keep(rt.alloc(), &stash, NUMBERS.as_slice()));
-    assert!(rt; aligning_keeps(rt.alloc(), &mut stash, NUMBERS.as_slice()));
-    assert!(rt; turns_keep(rt.alloc(), &stash, NUMBERS.as_slice()));
-    assert!(rt; loading_keeps(&mut stash, NUMBERS.as_slice()));
-    Ok(())
-}
-
-#[test]
-fn clones_of_lists(rt: HostRuntime) -> Result<(), Fail> {
-    let Some(mut stash) = opened::<Lists>(rt.alloc(), LISTS.as_slice()) else {
-        return Ok(());
-    };
-    let Ok(typed) = stash.to_typed(rt.alloc()) else {
-        return Ok(());
-    };
-    assert!(rt; clones_keep(rt.alloc(), &stash, LISTS.as_slice()));
-    assert!(rt; clones_keep(rt.alloc(), &typed, LISTS.as_slice()));
-    assert!(rt; aligning_keeps(rt.alloc(), &mut stash, LISTS.as_slice()));
-    assert!(rt; clones_keep(rt.alloc(), &stash, LISTS.as_slice()));
-    Ok(())
-}
-
-#[test]
-fn turns_of_lists(rt: HostRuntime) -> Result<(), Fail> {
-    let Some(mut stash) = opened::<Lists>(rt.alloc(), LISTS.as_slice()) else {
-        return Ok(());
-    };
-    let Ok(mut typed) = stash.to_typed(rt.alloc()) else {
-        return Ok(());
-    };
-    assert!(rt; turns_keep(rt.alloc(), &typed, LISTS.as_slice()));
-    assert!(rt; aligning_keeps(rt.alloc(), &mut typed, LISTS.as_slice()));
-    assert!(rt; loading_keeps(&mut typed, LISTS.as_slice()));
-    assert!(rt; loading_keeps(&mut stash, LISTS.as_slice()));
-    Ok(())
-}
-
-#[test]
-fn encodings(rt: HostRuntime) -> Result<(), Fail> {
-    let Some(numbers) = opened::<Numbers>(rt.alloc(), NUMBERS.as_slice()) else {
-        return Ok(());
-    };
-    let Some(lists) = opened::<Lists>(rt.alloc(), LISTS.as_slice()) else {
-        return Ok(());
-    };
-    assert!(rt; encoding_keeps(rt.alloc(), &numbers.borrow(), NUMBERS.as_slice()));
-    assert!(rt; encoding_keeps(rt.alloc(), &lists.borrow(), LISTS.as_slice()));
     Ok(())
 }
 

@@ -274,25 +274,6 @@ fn make_aligned_keeps_the_rows(rt: HostRuntime) -> Result<(), Fail> {
     Ok(())
 }
 
-// Else the tests of refused memory would end before the call that they test.
-#[test]
-fn the_stores_of_the_refusals_are_accepted(rt: HostRuntime) -> Result<(), Fail> {
-    for store in [
-        refused::NUMBERS.as_slice(),
-        refused::NUMBERS_AND_ONE.as_slice(),
-    ] {
-        assert!(rt; opened::<Vec<u64>>(rt.alloc(), store).is_some());
-    }
-    for store in [refused::PAIRS.as_slice(), refused::PAIRS_AND_ONE.as_slice()] {
-        assert!(rt; opened::<Pairs>(rt.alloc(), store).is_some());
-    }
-    for store in [refused::LISTS.as_slice(), refused::LISTS_AND_ONE.as_slice()] {
-        assert!(rt; opened::<Lists>(rt.alloc(), store).is_some());
-    }
-    assert!(rt; refused::values::all_are_accepted(rt.alloc()));
-    Ok(())
-}
-
 static DONE: Reply = Reply::Done;
 
 static RANGE: Reply = Reply::Refused(Refusal::Range);

@@ -1,6 +1,6 @@
 // Whole stores of columns of values: written as the words that were worked by hand, opened and read, and refused where
 // they break a rule.
-use super::{opened, refusal, row_of, variant, writes};
+use super::{bytes_of, opened, refusal, row_of, variant, writes};
 use crate::bytes::indexed::encode;
 use crate::bytes::stash::Stash;
 use crate::common::PushSlice;
@@ -46,7 +46,7 @@ fn bytes_are_padded_with_zeros(rt: HostRuntime) -> Result<(), Fail> {
 #[test]
 fn foreign_padding_is_kept_until_it_is_aligned(rt: HostRuntime) -> Result<(), Fail> {
     let padded = [16, 19, 4278387201];
-    let stash = opened::<Bytes>(rt.alloc(), padded.as_slice()).expect(&rt, "bytes");
+    let mut stash = opened::<Bytes>(rt.alloc(), padded.as_slice()).expect(&rt, "bytes");
     assert_eq!(rt; stash.len(), 3);
     assert_eq!(rt; row_of(&stash, 0), Some(&1));
     assert_eq!(rt; row_of(&stash, 1), Some(&2));
@@ -56,6 +56,10 @@ fn foreign_padding_is_kept_until_it_is_aligned(rt: HostRuntime) -> Result<(), Fa
     assert_eq!(rt; variant(&aligned), 2);
     assert!(rt; writes(&aligned, [16, 19, 197121].as_slice()));
     assert_eq!(rt; row_of(&aligned, 2), Some(&3));
+    let wanted = bytes_of(rt.alloc(), [16, 19, 197121].as_slice())?;
+    assert_eq!(rt; stash.make_aligned(rt.alloc())?.bytes(), wanted.as_slice());
+    assert_eq!(rt; stash.make_aligned(rt.alloc())?.bytes(), wanted.as_slice());
+    assert_eq!(rt; variant(&stash), 2);
     Ok(())
 }
 

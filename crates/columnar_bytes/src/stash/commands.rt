@@ -131,7 +131,7 @@ impl<C: ContainerBytes> Stash<C, Vec<u8>> {
                 Ok(()) => Reply::Done,
                 Err(error) => Reply::Refused(Refusal::Grow(error)),
             },
-            Command::MakeAligned => match self.make_aligned(alloc) {
+            Command::MakeAligned => match self.align_in_place(alloc) {
                 Ok(()) => Reply::Done,
                 Err(error) => Reply::Refused(Refusal::Encode(error)),
             },

@@ -1,5 +1,5 @@
 //! How a stash changes its variant, and keeps its rows.
-ghost use Rattle.std.specs.Prelude.{◌≡◌, ◌≢◌, ◌↔◌, ◌*◌, ◌^◌, ◌<◌, ◌≤◌, length, Err, IsTrue, IfOk, IfErr, OnOk, OnErr};
+ghost use Rattle.std.specs.Prelude.{◌≡◌, ◌≢◌, ◌↔◌, ◌*◌, ◌^◌, ◌<◌, ◌≤◌, length, Err, IsTrue, IfOk, IfErr, OnOk, OnErr, MatchResult};
 ghost use Rattle.columnar_core.specs.Format.{IsSound, representable, slices_of};
 ghost use Rattle.columnar_core.specs.Frame.{framed_slices};
 ghost use Rattle.columnar_core.specs.Words.{words, store_bytes};
@@ -68,7 +68,8 @@ fn encoding<'a, S: AsBytes<'a>>(alloc: Global, item: &S) -> Result<Vec<u8>, Enco
 impl<C: ContainerBytes, B: ByteStore> Stash<C, B> {
     ghost use Rattle.std.specs.Borrow.{sem};
     ghost use Rattle.columnar_bytes.specs.Stashes.{stash_content, variant_of, typed, bytes, aligned, HoldsBytes, checked_bytes};
-    ghost use Rattle.columnar_bytes.specs.StashLends.{lends_typed};
+    ghost use Rattle.columnar_bytes.specs.StashLends.{lends_typed, ends_as};
+    ghost use Rattle.columnar_bytes.specs.declared.stash.Stash.TheVariants.{Align};
 
     /// A stash of a column with the same rows and slices; want of memory alone refuses it.
     pub fn to_typed(&self, alloc: Global) -> Result<Self, GrowError>
@@ -191,19 +192,41 @@ impl<C: ContainerBytes, B: ByteStore> Stash<C, B> {
         }
     }
 
-    /// Leaves the bytes of the encoding in the stash, with zeros between the slices and nothing behind them, of the same
-    /// rows; where they are in the variant `Align` already, it leaves them as they are. Refused with `Length` only where
-    /// these bytes would pass 2^64 - 1; a refusal leaves the stash as it was.
-    pub fn make_aligned(&mut self, alloc: Global) -> Result<(), EncodeError>
+    /// The bytes of the encoding, with zeros between the slices and nothing behind them, which the stash then holds: bytes
+    /// of the same rows. Where it is of the variant `Align` already, they are its bytes as they are. Refused with `Length`
+    /// exactly where these bytes would be made and would pass 2^64 - 1; a refusal leaves the stash as it was.
+    pub fn make_aligned(&mut self, alloc: Global) -> Result<&Checked<C, RcSlice<u8>>, EncodeError>
+        requires representable { IsTrue (representable C.format) }
+        requires sound { IsSound C.format (stash_content self.old) }
+        ensures* held { sem 𝓛 (ends_as C.row B.row C.Column B.ByteStore self.entry (λ n. MatchResult result (λ r. n ≡ Align r.now) (λ _. n ≡ self.old))) }
+        ensures bytes { IfOk result (λ r. variant_of self.old ≢ aligned → checked_bytes r.now ≡ store_bytes (slices_of (stash_content self.old))) }
+        ensures kept { IfOk result (λ r. variant_of self.old ≡ aligned → self.old ≡ Align r.now) }
+        ensures content { IfOk result (λ r. C.format.build (framed_slices (checked_bytes r.now)) ≡ stash_content self.old) }
+        ensures done { OnErr result (variant_of self.old ≢ aligned) }
+        ensures length { (result ≡ Err EncodeError.Length) ↔ ((variant_of self.old ≢ aligned) × (2 ^ 64 ≤ 8 * length (words (slices_of (stash_content self.old))))) }
+    {
+        match self.align_in_place(alloc) {
+            Ok(()) => {}
+            Err(error) => return Err(error),
+        }
+        match self {
+            Stash::Align(checked) => Ok(checked),
+            Stash::Typed(_) => unreachable!(),
+            Stash::Bytes(_) => unreachable!(),
+        }
+    }
+
+    // Leaves the bytes of the encoding in the stash, or aligned bytes as they are.
+    pub(super) fn align_in_place(&mut self, alloc: Global) -> Result<(), EncodeError>
         requires representable { IsTrue (representable C.format) }
         requires sound { IsSound C.format (stash_content self.old) }
         ensures variant { OnOk result (variant_of self.new ≡ aligned) }
         ensures bytes { OnOk result (variant_of self.old ≢ aligned → HoldsBytes self.new (store_bytes (slices_of (stash_content self.old)))) }
         ensures kept { variant_of self.old ≡ aligned → self.new ≡ self.old }
-        ensures done { OnErr result (variant_of self.old ≢ aligned) }
         ensures content { stash_content self.new ≡ stash_content self.old }
         ensures stays { OnErr result (self.new ≡ self.old) }
-        ensures length { result ≡ Err EncodeError.Length → 2 ^ 64 ≤ 8 * length (words (slices_of (stash_content self.old))) }
+        ensures done { OnErr result (variant_of self.old ≢ aligned) }
+        ensures length { (result ≡ Err EncodeError.Length) ↔ ((variant_of self.old ≢ aligned) × (2 ^ 64 ≤ 8 * length (words (slices_of (stash_content self.old))))) }
     {
         let made = match self {
             Stash::Align(_) => return Ok(()),

@@ -30,8 +30,8 @@ returns-in-Ok-truncate-clause-answer g c = rw c.in-Truncate.is (record { within 
 pub returns-in-Ok-load_in_place-clause-answer : goal.returns-in-Ok-load_in_place-clause-answer
 returns-in-Ok-load_in_place-clause-answer g c = rw c.in-MakeTyped.is (record { within = refl; alike = same_alike (g.C.Column.format.rows (stash_content c.load_in_place.new.self)) (g.C.Column.format.rows (stash_content c.args.self.now)) g.met.C.Storage.lawful (ap g.C.Column.format.rows c.in-Ok-load_in_place.ensures.content); variant = c.in-Ok-load_in_place.ensures.variant })
 
-pub returns-in-Ok-make_aligned-clause-answer : goal.returns-in-Ok-make_aligned-clause-answer
-returns-in-Ok-make_aligned-clause-answer g c = rw c.in-MakeAligned.is (record { within = refl; alike = same_alike (g.C.Column.format.rows (stash_content c.make_aligned.new.self)) (g.C.Column.format.rows (stash_content c.args.self.now)) g.met.C.Storage.lawful (ap g.C.Column.format.rows c.in-Ok-make_aligned.ensures.content); variant = c.in-Ok-make_aligned.ensures.variant })
+pub returns-in-Ok-align_in_place-clause-answer : goal.returns-in-Ok-align_in_place-clause-answer
+returns-in-Ok-align_in_place-clause-answer g c = rw c.in-MakeAligned.is (record { within = refl; alike = same_alike (g.C.Column.format.rows (stash_content c.align_in_place.new.self)) (g.C.Column.format.rows (stash_content c.args.self.now)) g.met.C.Storage.lawful (ap g.C.Column.format.rows c.in-Ok-align_in_place.ensures.content); variant = c.in-Ok-align_in_place.ensures.variant })
 
 pub returns-in-Ok-reopen-clause-answer : goal.returns-in-Ok-reopen-clause-answer
 returns-in-Ok-reopen-clause-answer g c = rw c.in-Reopen.is (record { within = refl; alike = same_alike (g.C.Column.format.rows (stash_content c.reopen.new.self)) (g.C.Column.format.rows (stash_content c.args.self.now)) g.met.C.Storage.lawful (ap g.C.Column.format.rows c.in-Ok-reopen.ensures.content); variant = c.in-Ok-reopen.ensures.variant })

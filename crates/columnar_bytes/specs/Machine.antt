@@ -85,11 +85,13 @@ can_refuse aligned make_typed = true
 can_refuse v make_aligned = false
 can_refuse v reopen = false
 
--- the order makes an encoding
-abbrev pub encodes : Order → Bool
-encodes make_aligned = true
-encodes reopen = true
-encodes _ = false
+-- the order makes an encoding; aligned bytes are one already
+abbrev pub encodes : Variant → Order → Bool
+encodes typed make_aligned = true
+encodes bytes make_aligned = true
+encodes aligned make_aligned = false
+encodes v reopen = true
+encodes v _ = false
 
 -- what a stash holds, and as which variant
 pub record State : Type 0 where
@@ -121,7 +123,7 @@ IsTooLong TooLong c = 2 ^ 64 ≤ 8 * length (words (slices_of c))
 
 pub record IsRefusedEncoding (f : Format) (old new : State) (order : Order) (error : EncodeError) : Type 0 where
   pub unchanged : IsUnchanged f old new
-  pub can : encodes order ≡ true
+  pub can : encodes old.variant order ≡ true
   pub cause : IsTooLong error old.content
 
 pub record IsOutOfRange (f : Format) (source : List Row) (old new : State) (order : Order) : Type 0 where

@@ -97,8 +97,8 @@ pub fn select_in_word(word: u64, rank: u64) -> u64
     }
 }
 
-#[tactic(auto, using(crate::specs::CountLaws::digits_from))]
 // The first chunk with more than `rank` trues up to its end, by binary search.
+#[tactic(auto, using(crate::specs::CountLaws::digits_from))]
 fn find_chunk<L>(counts: &MeteredCounts<'_, L>, rank: u64, tally: &mut Tally<L>) -> usize
     ensures within { result ≤ length counts.now }
     ensures below { count_before counts.now result ≤ rank }

@@ -1,2 +1,4 @@
 pub use Rattle.columnar_core.specs.Format
 pub use Rattle.columnar_core.specs.Row
+pub use Rattle.columnar_bytes.specs.Accepted
+pub use Rattle.columnar_bytes.specs.Stashes

@@ -1,7 +1,10 @@
 //! What the program's words ask for.
+ghost use Rattle.std.specs.Prelude.{IfOk};
+ghost use Rattle.columnar.specs.Accepted.{Accepts};
+
 use columnar::bytes::indexed::encode;
 use columnar::bytes::stash::Stash;
-use columnar::{Len, Push};
+use columnar::{Column, Len, Push};
 use std::alloc::Global;
 use std::io::{self, Write};
 use std::rt::Files;
@@ -51,17 +54,19 @@ fn first<O: Write>(alloc: Global, out: &mut O) -> Result<(), Failure> {
     if print_words(out, words.as_slice()).is_err() {
         return Err(Failure::Output);
     }
-    let Ok(opened) = Stash::<Vec<u64>, Vec<u8>>::try_from_bytes(alloc, bytes) else {
-        return Err(Failure::Memory);
-    };
-    if writeln!(out, "rows: {}", opened.len()).is_err() {
-        return Err(Failure::Output);
+    match Stash::<Vec<u64>, Vec<u8>>::try_from_bytes(alloc, bytes) {
+        Ok(opened) => match writeln!(out, "rows: {}", opened.len()) {
+            Ok(()) => Ok(()),
+            Err(_) => Err(Failure::Output),
+        },
+        Err(_) => unreachable!(),
     }
-    Ok(())
 }
 
-// The words and the bytes of a column that 7 was pushed to.
-fn written_seven(alloc: Global) -> Result<(Vec<u64>, Vec<u8>), Failure> {
+// The words and the bytes of a column that 7 was pushed to; the bytes are accepted.
+fn written_seven(alloc: Global) -> Result<(Vec<u64>, Vec<u8>), Failure>
+    ensures accepted { IfOk result (λ r. Accepts ⟦<Vec<u64> as Column>⟧.format r.1.items) }
+{
     let mut stash = Stash::<Vec<u64>, Vec<u8>>::empty(alloc);
     if stash.push(7u64).is_err() {
         return Err(Failure::Memory);

@@ -1,5 +1,5 @@
 -- Words of 64 bits, kept in their little-endian bytes.
-use Rattle.std.specs.Prelude.{ℕ, List, [], ◌∷◌, ◌++◌, ◌/◌, length, map, slice_index}
+use Rattle.std.specs.Prelude.{ℕ, List, [], ◌∷◌, ◌++◌, ◌*◌, ◌/◌, length, map, drop, slice_index}
 use Rattle.std.specs.List.{flat_map}
 use Rattle.std.specs.Int.{to_le_bytes, from_le_bytes, w64}
 use Rattle.columnar_base.specs.declared.view.View.{View}
@@ -7,13 +7,17 @@ use Rattle.columnar_base.specs.Format.{Content, slice, both, part, plain}
 use Rattle.columnar_base.specs.Elements.{pieces}
 use Rattle.columnar_base.specs.Views.{items_content}
 
+-- word i of a store: the number of the eight bytes from 8 * i on, lowest first; past the end there are zeros
+unfoldable pub word : List ℕ → ℕ → ℕ
+word bytes i = from_le_bytes w64 (drop (8 * i) bytes)
+
 -- the words that bytes are, eight bytes each
 unfoldable pub words_in : List ℕ → List ℕ
 words_in bs = map (from_le_bytes w64) (pieces 8 (length bs / 8) bs)
 
--- the bytes of words, one word after the other
-unfoldable pub bytes_of_words : List ℕ → List ℕ
-bytes_of_words xs = flat_map (to_le_bytes w64) xs
+-- the bytes of words, each lowest first
+abbrev pub le_bytes : List ℕ → List ℕ
+le_bytes xs = flat_map (to_le_bytes w64) xs
 
 -- the bytes of a slice
 abbrev pub bytes_of : Content → List ℕ

@@ -1,10 +1,10 @@
-//! Words of 64 bits, read by their number: from a `Vec`, an array or a view of them.
-ghost use Rattle.std.specs.Prelude.{◌≡◌, ℕ, ◌^◌, ◌<◌, List, length, slice_index};
-ghost use Rattle.columnar_base.specs.WordViews.{words_in, bytes_of_words, view_bytes, view_words};
+//! Words of 64 bits, read by their number: one alone, those of an array or a `Vec`, or of a view of any of these.
+ghost use Rattle.std.specs.Prelude.{◌≡◌, ℕ, ◌+◌, ◌*◌, ◌^◌, ◌<◌, ◌≤◌, List, [], ◌∷◌, length, slice_index};
+ghost use Rattle.columnar_base.specs.WordViews.{word, words_in, le_bytes, view_bytes, view_words};
 
 use crate::view::{Items, View, element_at, element_in};
 
-/// A list of words that can be viewed.
+/// Words that can be viewed.
 pub trait Words {
     // the bytes of the words, each lowest first
     ghost bytes: { Self → List ℕ };
@@ -12,10 +12,33 @@ pub trait Words {
     /// The view of the words. Needs no memory.
     fn words(&self) -> View<'_, u64>
         ensures { view_bytes result ≡ bytes self.now };
+
+    /// How many bytes the words have, those of a last broken word included.
+    final fn size(&self) -> usize
+        ensures { result ≡ length (bytes self.now) }
+    {
+        byte_count(self.words())
+    }
+
+    /// Word `index`. Asks that it is there.
+    final fn word(&self, index: usize) -> u64
+        requires { 8 * index + 8 ≤ length (bytes self.now) }
+        ensures { result ≡ word (bytes self.now) index }
+    {
+        word_at(self.words(), index)
+    }
+}
+
+impl Words for u64 {
+    ghost bytes = { λ n. le_bytes (n ∷ []) };
+
+    fn words(&self) -> View<'_, u64> {
+        View::from_slice(std::slice::from_ref(self))
+    }
 }
 
 impl Words for Vec<u64> {
-    ghost bytes = { λ v. bytes_of_words v.items };
+    ghost bytes = { λ v. le_bytes v.items };
 
     fn words(&self) -> View<'_, u64> {
         View::from_slice(self.as_slice())
@@ -23,7 +46,7 @@ impl Words for Vec<u64> {
 }
 
 impl Words for [u64; 2] {
-    ghost bytes = { λ words. bytes_of_words words };
+    ghost bytes = { λ words. le_bytes words };
 
     fn words(&self) -> View<'_, u64> {
         View::from_slice(self)

@@ -5,6 +5,7 @@ use Rattle.std.specs.Int.{to_le_bytes, from_le_bytes, w64}
 use Rattle.std.proofs.lemmas.List.{drop_more, drop-drop, drop_at, take_at, length-replicate, get_or-append_right, get_or_append_left, get_or_past}
 use Rattle.std.proofs.lemmas.List.FromFn.{length-map-range_with_len}
 use Rattle.std.proofs.lemmas.Nat.{from_le_bytes-to_le_bytes_8}
+use Rattle.columnar_base.specs.WordViewLaws.{length-le_bytes}
 use Rattle.columnar_core.specs.Bytes.{word, rounded, word_bytes, le_bytes}
 use Rattle.columnar_core.specs.Words.{ends, table_words, slice_words, words, padded, store_bytes}
 use Rattle.columnar_core.specs.Frame.{end_of, start_of, Frame, IsLegal}
@@ -34,11 +35,6 @@ word-le_bytes (x ∷ xs) rest zero l b = ap (λ t. word t 0) (append_assoc (word
 word-le_bytes (x ∷ xs) rest (suc i) l b =
     ap (λ t. word t (suc i)) (append_assoc (word_bytes x) (le_bytes xs) rest)
     ∙ word-behind (word_bytes x) (le_bytes xs ++ rest) i (length-word_bytes x) ∙ word-le_bytes xs rest i (omega arith) b
-
-pub length-le_bytes : (xs : List ℕ) → length (le_bytes xs) ≡ 8 * length xs
-unfolding word_bytes
-length-le_bytes [] = refl
-length-le_bytes (x ∷ xs) = length-append (word_bytes x) (le_bytes xs) ∙ omega (arith, length-word_bytes x, length-le_bytes xs)
 
 pub length-ends : (start : ℕ) (slices : List (List ℕ)) → length (ends start slices) ≡ length slices
 length-ends start [] = refl

@@ -9,7 +9,7 @@ use Rattle.std.proofs.lemmas.List.{take-append-drop, take_all, append-nil, lengt
 use Rattle.columnar_core.specs.Format.{slice, both, first, moved, fault}
 use Rattle.columnar_core.specs.StoreLaws.{drop_at}
 use Rattle.columnar_core.specs.Elements.{first_slice}
-use Rattle.columnar_core.specs.WordViews.{words_in, bytes_of_words}
+use Rattle.columnar_core.specs.WordViews.{words_in, le_bytes}
 use Rattle.columnar_primitive.specs.BoolColumns.{bit_count, is_tail, last_word, last_count, bools_broken, bools_format}
 
 not_below : (m n : ℕ) → n ≤ m → nat_lt m n ≡ false
@@ -77,14 +77,13 @@ built_at ss o a b l p q =
     rw (d, f, e) refl
 
 -- the bytes of two words read from 16 bytes
-pub two_read : (bs : List ℕ) (w c : ℕ) → length bs ≡ 16 → to_le_bytes w64 w ≡ take 8 (drop (8 * 0) bs) → to_le_bytes w64 c ≡ take 8 (drop (8 * 1) bs) → bytes_of_words (w ∷ c ∷ []) ≡ bs
-unfolding bytes_of_words
+pub two_read : (bs : List ℕ) (w c : ℕ) → length bs ≡ 16 → to_le_bytes w64 w ≡ take 8 (drop (8 * 0) bs) → to_le_bytes w64 c ≡ take 8 (drop (8 * 1) bs) → le_bytes (w ∷ c ∷ []) ≡ bs
 two_read bs w c l p q =
     let d : take 8 (drop 8 bs) ≡ drop 8 bs = take_all 8 (drop 8 bs) (omega (arith, length-drop 8 bs)) in
     ap₂ (λ (x y : List ℕ). x ++ (y ++ [])) p (q ∙ d) ∙ (rw append-nil (take-append-drop 8 bs))
 
 -- what a column of these two slices holds
-pub loaded_at : (ss : List (List ℕ)) (o : ℕ) (xs tail b : List ℕ) → o + 2 ≤ length ss → slice (bytes_of_words xs) ≡ first_slice (drop o ss) → bytes_of_words tail ≡ b → b ≡ slice_index_or ss (o + 1) [] → both (slice (bytes_of_words xs)) (slice (bytes_of_words tail)) ≡ bools_format.build (drop o ss)
+pub loaded_at : (ss : List (List ℕ)) (o : ℕ) (xs tail b : List ℕ) → o + 2 ≤ length ss → slice (le_bytes xs) ≡ first_slice (drop o ss) → le_bytes tail ≡ b → b ≡ slice_index_or ss (o + 1) [] → both (slice (le_bytes xs)) (slice (le_bytes tail)) ≡ bools_format.build (drop o ss)
 loaded_at ss o xs tail b l p q r =
     let e = drop_at ss (o + 1) b (omega arith) r in
     let d : drop 1 (drop o ss) ≡ drop (o + 1) ss = drop-drop 1 o ss in

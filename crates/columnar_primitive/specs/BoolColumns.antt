@@ -4,7 +4,7 @@ use Rattle.std.specs.Global.{Global}
 use Rattle.columnar_core.specs.Row.{truth, row_eq}
 use Rattle.columnar_core.specs.Format.{Format, Content, slice, both, part, plain, Fault, fault, moved, unless, misfit}
 use Rattle.columnar_core.specs.Elements.{elements_broken, first_slice, past_count}
-use Rattle.columnar_core.specs.WordViews.{words_in, bytes_of, bytes_of_words}
+use Rattle.columnar_core.specs.WordViews.{words_in, bytes_of, le_bytes}
 use Rattle.columnar_primitive.specs.Bits.{bits_of}
 use Rattle.columnar_core.specs.declared.fault.GrowError.{GrowError}
 use Rattle.columnar_core.specs.declared.fault.GrowError.TheVariants.{Memory, Length, Offset, Format as FormatError}
@@ -78,10 +78,10 @@ abbrev pub Owned : Type 0
 Owned = Bools (Vec ℕ Global) (List ℕ)
 
 abbrev pub owned_content : Owned → Content
-owned_content b = bools_content (λ (v : Vec ℕ Global). bytes_of_words v.items) bytes_of_words b
+owned_content b = bools_content (λ (v : Vec ℕ Global). le_bytes v.items) le_bytes b
 
 abbrev pub owned_bits : Owned → List Bool
-owned_bits b = bits_held (λ (v : Vec ℕ Global). bytes_of_words v.items) bytes_of_words b
+owned_bits b = bits_held (λ (v : Vec ℕ Global). le_bytes v.items) le_bytes b
 
 -- the two errors of growth
 abbrev pub IsOfGrowth : GrowError → Type 0

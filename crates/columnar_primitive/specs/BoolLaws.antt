@@ -13,8 +13,8 @@ use Rattle.columnar_core.specs.Appended.{map_drop}
 use Rattle.columnar_core.specs.declared.fault.GrowError.{GrowError}
 use Rattle.columnar_core.specs.declared.fault.GrowError.TheVariants.{Memory, Length, Offset, Format as FormatError}
 use Rattle.columnar_core.specs.Elements.{elements_broken, past_count}
-use Rattle.columnar_core.specs.WordViews.{words_in, bit_words, bytes_of_words}
-use Rattle.columnar_core.specs.WordViewLaws.{length-words_in, length-bytes_of_words, word_of_words, words_pushed, words_cut}
+use Rattle.columnar_core.specs.WordViews.{words_in, bit_words, le_bytes}
+use Rattle.columnar_core.specs.WordViewLaws.{length-words_in, length-le_bytes, word_of_words, words_pushed, words_cut}
 use Rattle.columnar_primitive.specs.Bits.{bit, truths}
 use Rattle.columnar_primitive.specs.BitLaws.{length-bits_of, get_or-bits_of, bit_in_word, bit_shown, bit_shr, bits_of_more, bits_of_spill, bits_of_cut}
 use Rattle.columnar_primitive.specs.BoolColumns.{IsOfGrowth, last_word, last_count, bit_count, bits_in, is_tail, tail_broken, bools_format}
@@ -266,9 +266,9 @@ window_high a b i j w l h k e =
     ap (λ (x : ℕ). bit x (j - (64 - i % 64))) e ∙ sym (bit_of_word a b (i + j) (i / 64 + 1) (j - (64 - i % 64)) l (omega arith) (omega arith))
 
 -- the bytes of two words
-pub tail_made : (w c : ℕ) → w < 2 ^ 64 → c < 2 ^ 64 → Tail (bytes_of_words (w ∷ c ∷ [])) w c
+pub tail_made : (w c : ℕ) → w < 2 ^ 64 → c < 2 ^ 64 → Tail (le_bytes (w ∷ c ∷ [])) w c
 tail_made w c h k = record {
-  two = length-bytes_of_words (w ∷ c ∷ []);
+  two = length-le_bytes (w ∷ c ∷ []);
   word = word_of_words (w ∷ c ∷ []) 0 w (omega arith) refl h;
   count = word_of_words (w ∷ c ∷ []) 1 c (omega arith) refl k;
 }
@@ -278,21 +278,21 @@ tail_read {v} {b} e l p q = record { two = l; word = sym (rw e at p); count = sy
 
 -- what an owned column of bits is known by
 pub record OwnedBits (xs tail : List ℕ) (w c : ℕ) : Type 0 where
-  pub sound : SoundBools (bytes_of_words xs) (bytes_of_words tail)
-  pub tail_is : Tail (bytes_of_words tail) w c
+  pub sound : SoundBools (le_bytes xs) (le_bytes tail)
+  pub tail_is : Tail (le_bytes tail) w c
   pub few : c < 64
   pub clear : w < 2 ^ c
-  pub words : length (words_in (bytes_of_words xs)) ≡ length xs
-  pub length_is : length (bits_in (bytes_of_words xs) (bytes_of_words tail)) ≡ 64 * length xs + c
+  pub words : length (words_in (le_bytes xs)) ≡ length xs
+  pub length_is : length (bits_in (le_bytes xs) (le_bytes tail)) ≡ 64 * length xs + c
   pub short : 64 * length xs + c < 2 ^ 64
 
-pub length_words_back : (xs : List ℕ) → length (words_in (bytes_of_words xs)) ≡ length xs
-length_words_back xs = omega (arith, length-words_in (bytes_of_words xs), length-bytes_of_words xs)
+pub length_words_back : (xs : List ℕ) → length (words_in (le_bytes xs)) ≡ length xs
+length_words_back xs = omega (arith, length-words_in (le_bytes xs), length-le_bytes xs)
 
-pub owned_bits_of : {xs tail v : List ℕ} {w c : ℕ} → IsSound bools_format (both (slice (bytes_of_words xs)) (slice (bytes_of_words tail))) → v ≡ bytes_of_words tail → w ≡ last_word v → c ≡ last_count v → OwnedBits xs tail w c
+pub owned_bits_of : {xs tail v : List ℕ} {w c : ℕ} → IsSound bools_format (both (slice (le_bytes xs)) (slice (le_bytes tail))) → v ≡ le_bytes tail → w ≡ last_word v → c ≡ last_count v → OwnedBits xs tail w c
 owned_bits_of {xs} {tail} {v} {w} {c} h e p q =
     let s = bools_parts h in
-    let t : Tail (bytes_of_words tail) w c = tail_read e s.two p q in
+    let t : Tail (le_bytes tail) w c = tail_read e s.two p q in
     let n = length_words_back xs in
     let few = s.few in let short = s.short in
     record {
@@ -301,13 +301,13 @@ owned_bits_of {xs} {tail} {v} {w} {c} h e p q =
       few = omega (arith, t.count);
       clear = rw (t.word, t.count) at s.clear;
       words = n;
-      length_is = bits_length (bytes_of_words xs) (bytes_of_words tail) ∙ omega (arith, t.count);
+      length_is = bits_length (le_bytes xs) (le_bytes tail) ∙ omega (arith, t.count);
       short = omega (arith, t.count);
     }
 
 -- one word more
-pub words_grown : (xs ys : List ℕ) (u : ℕ) → ys ≡ xs ++ u ∷ [] → u < 2 ^ 64 → (words_in (bytes_of_words ys) ≡ words_in (bytes_of_words xs) ++ u ∷ []) × (length (bytes_of_words ys) ≡ 8 + length (bytes_of_words xs))
-words_grown xs ys u e h = (rw e (words_pushed xs u h), omega (arith, length-bytes_of_words ys, length-bytes_of_words xs, ap length e, length_push xs u))
+pub words_grown : (xs ys : List ℕ) (u : ℕ) → ys ≡ xs ++ u ∷ [] → u < 2 ^ 64 → (words_in (le_bytes ys) ≡ words_in (le_bytes xs) ++ u ∷ []) × (length (le_bytes ys) ≡ 8 + length (le_bytes xs))
+words_grown xs ys u e h = (rw e (words_pushed xs u h), omega (arith, length-le_bytes ys, length-le_bytes xs, ap length e, length_push xs u))
 
 -- one bit, as a number
 pub bit_one : truths (bit 1) 1 ≡ true ∷ []
@@ -319,26 +319,26 @@ unfolding bit truths
 bit_zero = refl
 
 -- no words, and an empty tail
-pub bools_none : (xs tail : List ℕ) → xs ≡ [] → Tail (bytes_of_words tail) 0 0 → SoundBools (bytes_of_words xs) (bytes_of_words tail) × (bits_in (bytes_of_words xs) (bytes_of_words tail) ≡ [])
+pub bools_none : (xs tail : List ℕ) → xs ≡ [] → Tail (le_bytes tail) 0 0 → SoundBools (le_bytes xs) (le_bytes tail) × (bits_in (le_bytes xs) (le_bytes tail) ≡ [])
 bools_none xs tail e t =
     let n = length_words_back xs in
     let l : length xs ≡ 0 = ap length e in
-    let m = length-bytes_of_words xs in
+    let m = length-le_bytes xs in
     let w = t.word in let c = t.count in (
       record { whole = omega arith; two = t.two; few = omega arith; clear = rw (w, c) (omega arith); short = omega arith },
-      nil_from_length _ (bits_length (bytes_of_words xs) (bytes_of_words tail) ∙ omega arith),
+      nil_from_length _ (bits_length (le_bytes xs) (le_bytes tail) ∙ omega arith),
     )
 
 -- an owned column was cut
-pub owned_cut : (xs ys tail tail' : List ℕ) {u n : ℕ} → IsSound bools_format (both (slice (bytes_of_words xs)) (slice (bytes_of_words tail))) → ys ≡ take (n / 64) xs → Tail (bytes_of_words tail') u (n % 64) → n ≤ length (map truth (bits_in (bytes_of_words xs) (bytes_of_words tail))) → u < 2 ^ (n % 64) → ((j : ℕ) → j < n % 64 → bit u j ≡ bit (slice_index (bit_words (bytes_of_words xs) (bytes_of_words tail)) (n / 64)) j) → WasCut bools_format (both (slice (bytes_of_words xs)) (slice (bytes_of_words tail))) (both (slice (bytes_of_words ys)) (slice (bytes_of_words tail'))) n
+pub owned_cut : (xs ys tail tail' : List ℕ) {u n : ℕ} → IsSound bools_format (both (slice (le_bytes xs)) (slice (le_bytes tail))) → ys ≡ take (n / 64) xs → Tail (le_bytes tail') u (n % 64) → n ≤ length (map truth (bits_in (le_bytes xs) (le_bytes tail))) → u < 2 ^ (n % 64) → ((j : ℕ) → j < n % 64 → bit u j ≡ bit (slice_index (bit_words (le_bytes xs) (le_bytes tail)) (n / 64)) j) → WasCut bools_format (both (slice (le_bytes xs)) (slice (le_bytes tail))) (both (slice (le_bytes ys)) (slice (le_bytes tail'))) n
 owned_cut xs ys tail tail' {u} {n} h e t l clear same =
     let s = bools_parts h in
-    let k : n ≤ length (bits_in (bytes_of_words xs) (bytes_of_words tail)) = omega (arith, length-map (bits_in (bytes_of_words xs) (bytes_of_words tail)) truth) in
+    let k : n ≤ length (bits_in (le_bytes xs) (le_bytes tail)) = omega (arith, length-map (bits_in (le_bytes xs) (le_bytes tail)) truth) in
     let few = s.few in
-    let m = bits_length (bytes_of_words xs) (bytes_of_words tail) in
+    let m = bits_length (le_bytes xs) (le_bytes tail) in
     let w = length_words_back xs in
     let y : length ys ≡ n / 64 = rw e (length-take-le (n / 64) xs (omega arith)) in
-    let c = tail_cut s t (rw e (words_cut xs (n / 64))) (length-bytes_of_words ys ∙ (rw y refl)) k clear same in
+    let c = tail_cut s t (rw e (words_cut xs (n / 64))) (length-le_bytes ys ∙ (rw y refl)) k clear same in
     bools_cut c.0 c.1 k
 
 -- a refusal, by its two causes

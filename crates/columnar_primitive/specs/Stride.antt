@@ -4,7 +4,7 @@ use Rattle.columnar_core.specs.Row.{Row, row_eq}
 use Rattle.columnar_core.specs.Format.{Format, Content, slice, both, part, plain, Fault, fault, moved, unless, misfit}
 use Rattle.columnar_core.specs.Elements.{elements_broken, elements_rows, first_slice, past_count, word_row_of}
 use Rattle.columnar_core.specs.Bytes.{word, le_bytes}
-use Rattle.columnar_primitive.specs.Held.{sliced}
+use Rattle.columnar_core.specs.WordViews.{bytes_of}
 use Rattle.columnar_primitive.specs.Multiples.{multiples}
 
 -- a head is two words, the stride and how many offsets follow it
@@ -15,10 +15,10 @@ head_broken (part l u x) = misfit
 head_broken (plain rs) = misfit
 
 abbrev pub stride_of : Content → ℕ
-stride_of x = word (sliced x) 0
+stride_of x = word (bytes_of x) 0
 
 abbrev pub length_of : Content → ℕ
-length_of x = word (sliced x) 1
+length_of x = word (bytes_of x) 1
 
 -- the offsets that stand as they are
 abbrev pub bounds_rows : Content → List Row

@@ -17,10 +17,11 @@ use Rattle.columnar_core.specs.Bounds.{IsBounds, rises, numbers}
 use Rattle.columnar_core.specs.Bytes.{word, word_bytes, le_bytes, AreBytes}
 use Rattle.columnar_core.specs.ByteLaws.{bytes-word}
 use Rattle.columnar_core.specs.StoreLaws.{drop_at, first_at}
-use Rattle.columnar_core.specs.WordLaws.{length-le_bytes, word-le_bytes}
+use Rattle.columnar_core.specs.WordLaws.{word-le_bytes}
+use Rattle.columnar_core.specs.WordViewLaws.{length-le_bytes, front_number}
 use Rattle.columnar_core.specs.declared.fault.GrowError.{GrowError}
 use Rattle.columnar_core.specs.declared.fault.GrowError.TheVariants.{Length}
-use Rattle.columnar_primitive.specs.HeldLaws.{word_number, front_number}
+use Rattle.columnar_primitive.specs.HeldLaws.{word_number}
 use Rattle.columnar_primitive.specs.Multiples.{multiples, multiples-none, multiples-more, length-multiples, multiples-append, multiples-take, multiples_get, multiples-rise}
 use Rattle.columnar_primitive.specs.Stride.{head_broken, bounds_rows, stride_fits, length_fits, strides_broken, strides_rows, strides_extent, strides_format, head_and_bounds, follows, joins, grown, bounds_pushed}
 

@@ -1,14 +1,19 @@
-use Rattle.std.proofs.Common.{◌≡◌, ℕ, ◌/◌, ◌%◌, true, false, List, [], ◌∷◌, length, refl, sym, arith, append-nil, ⊎_elim}
-use Rattle.std.specs.Prelude.{Some, None, nat_eq}
+use Rattle.std.proofs.Common.{◌≡◌, ℕ, ◌/◌, ◌%◌, true, false, List, [], ◌∷◌, length, take, drop, refl, sym, ◌∙◌, ap, arith, append-nil, ⊎_elim}
+use Rattle.std.specs.Prelude.{Some, None, nat_eq, slice_get}
 use Rattle.std.proofs.lemmas.Bool.{eq-eqb, ne_eqb, cases_eq}
+use Rattle.std.proofs.lemmas.List.{length-take, length-drop}
 use Rattle.std.proofs.Math.Nat.{div-add-mod}
-use Rattle.columnar_core.specs.Format.{slice, both, IsSound}
+use Rattle.columnar_core.specs.Row.{Row, number}
+use Rattle.columnar_core.specs.Format.{slice, both, fault, IsSound}
+use Rattle.columnar_core.specs.FaultLaws.{true_unless}
+use Rattle.columnar_core.specs.Elements.{word_row_of, words_format}
+use Rattle.columnar_core.specs.ElementLaws.{whole_slice}
 use Rattle.columnar_core.specs.Bytes.{word}
 use Rattle.columnar_primitive.specs.Multiples.{multiples}
 use Rattle.columnar_primitive.specs.Fixed.{fixed_format, fixed_rows}
 use Rattle.columnar_primitive.specs.FixedLaws.{fixed_sound}
 use Rattle.columnar_primitive.specs.Stride.{strides_format, strides_rows, strided, bounds_rows}
-use Rattle.columnar_primitive.specs.StrideLaws.{strides_parts, length-bounds}
+use Rattle.columnar_primitive.specs.StrideLaws.{strides_parts, length-bounds, bound_is}
 
 pub no_bounds : (bs : List ℕ) → length bs ≡ 0 → bounds_rows (slice bs) ≡ []
 no_bounds [] e = refl
@@ -41,3 +46,25 @@ tried_err k hs bs h sound e =
     let f : None ≡ Some k = rw t at e in
     cc)
     (cases_eq (length (bounds_rows (slice bs))) 0)
+
+-- a head is two words
+
+pub head_sound : (hs : List ℕ) → length hs ≡ 16 → IsSound words_format (slice hs)
+head_sound hs l = record { accepted = true_unless (nat_eq (length hs % 8) 0) (fault 8 0) (eq-eqb (length hs % 8) 0 (omega arith)) }
+
+pub head_rows : (hs : List ℕ) → length hs ≡ 16 → length (bounds_rows (slice hs)) ≡ 2
+head_rows hs l = omega (arith, length-bounds hs)
+
+second_row : (rs : List Row) → slice_get (take 1 (drop 1 rs)) 0 ≡ slice_get rs 1
+second_row [] = refl
+second_row (r ∷ []) = refl
+second_row (r ∷ s ∷ rs) = refl
+
+-- the part of a head that is its second word
+pub second-word : (hs cs : List ℕ) → length hs ≡ 16 → IsSound words_format (slice cs) → bounds_rows (slice cs) ≡ take 1 (drop 1 (bounds_rows (slice hs))) → (length cs ≡ 8) × (word cs 0 ≡ word hs 1)
+second-word hs cs l s e =
+    let rows = bounds_rows (slice hs) in
+    let n : length cs / 8 ≡ 1 = omega (arith, length-bounds cs, ap length e, length-take 1 (drop 1 rows), length-drop 1 rows, head_rows hs l) in
+    let m : length cs ≡ 8 = omega (arith, n, whole_slice 8 word_row_of cs s, div-add-mod (length cs) 8) in
+    let f : Some (number (word cs 0)) ≡ Some (number (word hs 1)) = sym (bound_is cs 0 (omega arith)) ∙ ap (λ (rs : List Row). slice_get rs 0) e ∙ second_row rows ∙ bound_is hs 1 (omega arith) in
+    (m, cc)

@@ -4,7 +4,7 @@ ghost use Rattle.columnar_core.specs.Row.{truth};
 ghost use Rattle.columnar_core.specs.Format.{slice, both, IsSound, first, moved};
 ghost use Rattle.columnar_core.specs.Faults.{verdict};
 ghost use Rattle.columnar_core.specs.Change.{Stayed, WasCut, Copied, Refused};
-ghost use Rattle.columnar_core.specs.WordViews.{words_in, bytes_of_words, view_bytes, view_words, bit_words};
+ghost use Rattle.columnar_core.specs.WordViews.{words_in, le_bytes, view_bytes, view_words, bit_words};
 ghost use Rattle.columnar_primitive.specs.Bits.{bit as bit_of, bit_in, truths, number_of_bits};
 ghost use Rattle.columnar_primitive.specs.BoolColumns.{bools_format, bools_content, bools_broken, IsOfGrowth, bits_held, bits_in, owned_content, owned_bits, last_word, last_count};
 ghost use Rattle.columnar_primitive.specs.BoolLaws.{SoundBools, Tail, bools_lawful, bools_storable};
@@ -167,7 +167,7 @@ pub(crate) fn tail_parts(tail: View<'_, u64>) -> (u64, u64)
 
 // The tail of these two words.
 pub(crate) fn tail_of(word: u64, count: u64) -> [u64; 2]
-    ensures { Tail (bytes_of_words result) word count }
+    ensures { Tail (le_bytes result) word count }
 {
     [word, count]
 }

@@ -2,7 +2,6 @@
 
 pub mod fixeds;
 pub mod strides;
-pub mod words;
 
 pub use fixeds::Fixeds;
 pub use strides::Strides;

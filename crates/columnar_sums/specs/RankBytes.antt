@@ -9,7 +9,7 @@ use Rattle.columnar_core.specs.FaultLaws.{nothing_left, nothing_moved}
 use Rattle.columnar_core.specs.TwoParts.{two_left, two_right, two_own, two_fine}
 use Rattle.columnar_core.specs.StoreLaws.{drop_at}
 use Rattle.columnar_core.specs.Elements.{elements_broken, first_slice}
-use Rattle.columnar_core.specs.WordViews.{words_in, bit_words, bytes_of_words}
+use Rattle.columnar_core.specs.WordViews.{words_in, bit_words, le_bytes}
 use Rattle.columnar_primitive.specs.Bits.{bit_in}
 use Rattle.columnar_primitive.specs.BoolColumns.{bits_in, bools_broken, bools_format}
 use Rattle.columnar_primitive.specs.BoolLaws.{SoundBools, bits_length}
@@ -83,7 +83,7 @@ ranks_at ss o c a b l p q r =
     let h : suc (o + 1) ≡ o + 2 = omega arith in
     rw (d, g, e, h, f) refl
 
-pub ranks_held_at : (ss : List (List ℕ)) (o : ℕ) (xs : List ℕ) (y : Content) → slice (bytes_of_words xs) ≡ first_slice (drop o ss) → y ≡ bools_format.build (drop (o + 1) ss) → both (slice (bytes_of_words xs)) y ≡ ranks_format.build (drop o ss)
+pub ranks_held_at : (ss : List (List ℕ)) (o : ℕ) (xs : List ℕ) (y : Content) → slice (le_bytes xs) ≡ first_slice (drop o ss) → y ≡ bools_format.build (drop (o + 1) ss) → both (slice (le_bytes xs)) y ≡ ranks_format.build (drop o ss)
 ranks_held_at ss o xs y p q =
     let d : drop 1 (drop o ss) ≡ drop (o + 1) ss = drop-drop 1 o ss in
     rw (p, q, d) refl

@@ -8,8 +8,8 @@ use Rattle.columnar_core.specs.Format.{Content, slice, both, IsSound, lengths, f
 use Rattle.columnar_core.specs.AlikeLaws.{alike_all, row_eq_same}
 use Rattle.columnar_core.specs.Change.{Keeps, Grew, Stayed, WasCut, Took, Copied, Refused}
 use Rattle.columnar_core.specs.ChangeLaws.{unchanged, undone}
-use Rattle.columnar_core.specs.WordViews.{words_in, bit_words, bytes_of_words}
-use Rattle.columnar_core.specs.WordViewLaws.{length-words_in, length-bytes_of_words, words_cut}
+use Rattle.columnar_core.specs.WordViews.{words_in, bit_words, le_bytes}
+use Rattle.columnar_core.specs.WordViewLaws.{length-words_in, length-le_bytes, words_cut}
 use Rattle.columnar_core.specs.declared.fault.GrowError.{GrowError}
 use Rattle.columnar_core.specs.declared.fault.GrowError.TheVariants.{Memory, Length, Offset, Format as FormatError}
 use Rattle.columnar_primitive.specs.Bits.{bit_in}
@@ -154,9 +154,9 @@ counts_differ a b cs h = not_true (numbers_eq cs (counts_of (bits_in a b))) (λ 
 pub items_back : (xs ys zs : List ℕ) (n k : ℕ) → ys ≡ xs ++ n ∷ [] → zs ≡ take k ys → k ≡ length xs → zs ≡ xs
 items_back xs ys zs n k e f l = f ∙ ap (take k) e ∙ take_at xs (n ∷ []) k (sym l)
 
-pub counts_many : (xs : List ℕ) {a b : List ℕ} → SoundRanks (bytes_of_words xs) a b → length xs ≡ length (bits_in a b) / 1024
+pub counts_many : (xs : List ℕ) {a b : List ℕ} → SoundRanks (le_bytes xs) a b → length xs ≡ length (bits_in a b) / 1024
 unfolding AreCounts
-counts_many xs s = let n = s.are_counts.0 in omega (arith, length-words_in (bytes_of_words xs), length-bytes_of_words xs)
+counts_many xs s = let n = s.are_counts.0 in omega (arith, length-words_in (le_bytes xs), length-le_bytes xs)
 
 pub length-truths_rows : (a b : List ℕ) → length (map truth (bits_in a b)) ≡ length (bits_in a b)
 length-truths_rows a b = length-map (bits_in a b) truth
@@ -164,21 +164,21 @@ length-truths_rows a b = length-map (bits_in a b) truth
 no_truths : (bs : List Bool) → map truth bs ≡ [] → bs ≡ []
 no_truths bs h = bits_from_rows bs [] h
 
-pub none_ranked : {a b : List ℕ} (xs : List ℕ) → xs ≡ [] → IsSound bools_format (both (slice a) (slice b)) → map truth (bits_in a b) ≡ [] → IsSound ranks_format (three (bytes_of_words xs) a b)
+pub none_ranked : {a b : List ℕ} (xs : List ℕ) → xs ≡ [] → IsSound bools_format (both (slice a) (slice b)) → map truth (bits_in a b) ≡ [] → IsSound ranks_format (three (le_bytes xs) a b)
 none_ranked {a} {b} xs e s h =
     let l : length xs ≡ 0 = ap length e in
-    let n = length-bytes_of_words xs in
-    let w = length-words_in (bytes_of_words xs) in
-    ranks_sound (ranks_none (nil_from_length (words_in (bytes_of_words xs)) (omega arith)) (omega arith) (bools_parts s) (no_truths (bits_in a b) h))
+    let n = length-le_bytes xs in
+    let w = length-words_in (le_bytes xs) in
+    ranks_sound (ranks_none (nil_from_length (words_in (le_bytes xs)) (omega arith)) (omega arith) (bools_parts s) (no_truths (bits_in a b) h))
 
-pub held_cut : {a b a' b' : List ℕ} {n : ℕ} (xs ys : List ℕ) → IsSound ranks_format (three (bytes_of_words xs) a b) → ys ≡ take (n / 1024) xs → WasCut bools_format (both (slice a) (slice b)) (both (slice a') (slice b')) n → n ≤ length (map truth (bits_in a b)) → WasCut ranks_format (three (bytes_of_words xs) a b) (three (bytes_of_words ys) a' b') n
+pub held_cut : {a b a' b' : List ℕ} {n : ℕ} (xs ys : List ℕ) → IsSound ranks_format (three (le_bytes xs) a b) → ys ≡ take (n / 1024) xs → WasCut bools_format (both (slice a) (slice b)) (both (slice a') (slice b')) n → n ≤ length (map truth (bits_in a b)) → WasCut ranks_format (three (le_bytes xs) a b) (three (le_bytes ys) a' b') n
 held_cut {a} {b} {a'} {b'} {n} xs ys s e w l =
-    let m = length-bytes_of_words ys in
+    let m = length-le_bytes ys in
     ranks_cut (ranks_parts s) w (omega (arith, l, length-map (bits_in a b) truth)) (rw e (words_cut xs (n / 1024))) (omega arith)
 
 -- what the loop that counts words on keeps
 pub record CountedTo (ws before ys : List ℕ) (n at : ℕ) : Type 0 where
-  pub exact : CountWords ws (words_in (bytes_of_words ys))
+  pub exact : CountWords ws (words_in (le_bytes ys))
   pub many : length ys ≡ at / 16
   pub front : take n ys ≡ before
 
@@ -187,7 +187,7 @@ counted_end {ws} {before} {xs} {ys} {n} {at} sum k l m e h d =
     let w = words_grown xs ys sum d h in
     let o = k.many in
     record {
-      exact = rw w.0 (count_more ws (words_in (bytes_of_words xs)) at sum k.exact (length_words_back xs ∙ k.many) m e);
+      exact = rw w.0 (count_more ws (words_in (le_bytes xs)) at sum k.exact (length_words_back xs ∙ k.many) m e);
       many = omega (arith, ap length d, length_push xs sum);
       front = ap (take n) d ∙ take-append-le n xs (sum ∷ []) l ∙ k.front;
     }
@@ -212,15 +212,15 @@ ranks_stayed {c} {a} {b} {a'} {b'} s g =
     }
 
 -- the counts of all complete chunks
-pub ranked_on : {c a b a' b' : List ℕ} {cs : List Bool} (ys : List ℕ) → SoundBools a' b' → bits_in a' b' ≡ bits_in a b ++ cs → CountWords (bit_words a' b') (words_in (bytes_of_words ys)) × (length ys ≡ length (words_in a') / 16) → Ranked c a b (bytes_of_words ys) a' b' cs
+pub ranked_on : {c a b a' b' : List ℕ} {cs : List Bool} (ys : List ℕ) → SoundBools a' b' → bits_in a' b' ≡ bits_in a b ++ cs → CountWords (bit_words a' b') (words_in (le_bytes ys)) × (length ys ≡ length (words_in a') / 16) → Ranked c a b (le_bytes ys) a' b' cs
 ranked_on {c} {a} {b} {a'} {b'} {cs} ys t e h =
-    let m = length-bytes_of_words ys in
+    let m = length-le_bytes ys in
     let few = t.few in
-    let l : length (words_in (bytes_of_words ys)) ≡ length (bits_in a' b') / 1024 = omega (arith, length_words_back ys, h.1, bits_length a' b') in
-    record { sound = record { whole = omega arith; bools = t; are_counts = counts_complete a' b' (words_in (bytes_of_words ys)) h.0 l }; bits = e }
+    let l : length (words_in (le_bytes ys)) ≡ length (bits_in a' b') / 1024 = omega (arith, length_words_back ys, h.1, bits_length a' b') in
+    record { sound = record { whole = omega arith; bools = t; are_counts = counts_complete a' b' (words_in (le_bytes ys)) h.0 l }; bits = e }
 
 -- the counts before lie within the words behind
-pub counts_within : {a b a' b' : List ℕ} (xs : List ℕ) → SoundRanks (bytes_of_words xs) a b → SoundBools a' b' → length (bits_in a b) ≤ length (bits_in a' b') → length xs ≤ length (words_in a') / 16
+pub counts_within : {a b a' b' : List ℕ} (xs : List ℕ) → SoundRanks (le_bytes xs) a b → SoundBools a' b' → length (bits_in a b) ≤ length (bits_in a' b') → length xs ≤ length (words_in a') / 16
 counts_within {a} {b} {a'} {b'} xs s t l = omega (arith, counts_many xs s, bits_length a' b', t.few)
 
 pub words_short : {a b : List ℕ} → SoundBools a b → length (words_in a) < 2 ^ 58

@@ -4,7 +4,7 @@ use Rattle.std.specs.Global.{Global}
 use Rattle.columnar_core.specs.Row.{Row, truth, row_eq, numbers_eq}
 use Rattle.columnar_core.specs.Format.{Format, Content, slice, both, part, plain, Fault, fault, moved, unless, misfit, IsSound}
 use Rattle.columnar_core.specs.Elements.{elements_broken, first_slice, past_count}
-use Rattle.columnar_core.specs.WordViews.{words_in, bytes_of, bytes_of_words}
+use Rattle.columnar_core.specs.WordViews.{words_in, bytes_of, le_bytes}
 use Rattle.columnar_primitive.specs.Bits.{bit, bit_in}
 use Rattle.columnar_primitive.specs.BoolColumns.{bools_broken, bools_bits, bools_format, bools_content, bits_held}
 use Rattle.columnar_sums.specs.Counting.{counts_of}
@@ -56,10 +56,10 @@ abbrev pub OwnedRanks : Type 0
 OwnedRanks = RankSelect (Vec ℕ Global) (Vec ℕ Global) (List ℕ)
 
 abbrev pub owned_ranks : OwnedRanks → Content
-owned_ranks r = ranks_content (λ (v : Vec ℕ Global). bytes_of_words v.items) (λ (v : Vec ℕ Global). bytes_of_words v.items) bytes_of_words r
+owned_ranks r = ranks_content (λ (v : Vec ℕ Global). le_bytes v.items) (λ (v : Vec ℕ Global). le_bytes v.items) le_bytes r
 
 abbrev pub ranked_bits : OwnedRanks → List Bool
-ranked_bits r = bits_ranked (λ (v : Vec ℕ Global). bytes_of_words v.items) bytes_of_words r
+ranked_bits r = bits_ranked (λ (v : Vec ℕ Global). le_bytes v.items) le_bytes r
 
 -- ---- cursors
 

@@ -13,8 +13,8 @@ use Rattle.columnar_core.specs.Change.{Keeps, Grew, Stayed, WasCut, Took, Copied
 use Rattle.columnar_core.specs.ChangeLaws.{unchanged}
 use Rattle.columnar_core.specs.Elements.{elements_broken, elements_format, first_slice, past_count, word_row_of}
 use Rattle.columnar_core.specs.TwoParts.{TwoParts}
-use Rattle.columnar_core.specs.WordViews.{words_in, bytes_of, bit_words, bytes_of_words}
-use Rattle.columnar_core.specs.WordViewLaws.{length-words_in, length-bytes_of_words}
+use Rattle.columnar_core.specs.WordViews.{words_in, bytes_of, bit_words}
+use Rattle.columnar_core.specs.WordViewLaws.{length-words_in, length-le_bytes}
 use Rattle.columnar_core.specs.declared.fault.GrowError.{GrowError}
 use Rattle.columnar_core.specs.declared.fault.GrowError.TheVariants.{Memory, Length, Offset, Format as FormatError}
 use Rattle.columnar_primitive.specs.Bits.{bit, bit_in, truths, bits_of}

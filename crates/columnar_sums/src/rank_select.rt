@@ -1,7 +1,7 @@
 //! Truth values with counts of the trues before a place.
 ghost use Rattle.std.specs.Prelude.{◌≡◌, ℕ, ◌+◌, ◌-◌, ◌*◌, ◌/◌, ◌%◌, ◌^◌, ◌<◌, ◌≤◌, [], ◌∷◌, ◌++◌, length, slice_index, slice_index_or, slice_range, false, true, take, drop, OnOk, OnErr, IfErr, IsOk, IfSome, IfNone, IsNone, Some, None, refl};
 ghost use Rattle.columnar_core.specs.Change.{Stayed};
-ghost use Rattle.columnar_core.specs.WordViews.{words_in, bit_words, bytes_of_words};
+ghost use Rattle.columnar_core.specs.WordViews.{words_in, bit_words, le_bytes};
 ghost use Rattle.columnar_primitive.specs.BoolColumns.{IsOfGrowth};
 ghost use Rattle.columnar_sums.specs.Counting.{ones, place, Adds, digits};
 ghost use Rattle.columnar_sums.specs.RankColumns.{ranks_format, ranks_content, bits_ranked, IsRanked, owned_ranks, ranked_bits};

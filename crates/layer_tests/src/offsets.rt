@@ -9,7 +9,7 @@ use columnar_core::fault::{GrowError, StoreFault};
 use columnar_core::offsets::Offsets;
 use columnar_core::traits::{Clear, Len, Push};
 use columnar_core::view::View;
-use columnar_primitive::offsets::words::Words;
+use columnar_core::words::Words;
 use columnar_primitive::offsets::{Fixeds, Strides};
 use std::test::Fail;
 

@@ -3,7 +3,7 @@ ghost use Rattle.std.specs.Prelude.{◌≡◌, ℕ, ◌+◌, ◌^◌, ◌<◌, �
 ghost use Rattle.columnar_core.specs.Format.{slice, both, first, moved};
 ghost use Rattle.columnar_core.specs.Faults.{verdict};
 ghost use Rattle.columnar_core.specs.Slices.{bytes_in, alignment};
-ghost use Rattle.columnar_core.specs.WordViews.{bytes_of_words, view_bytes};
+ghost use Rattle.columnar_core.specs.WordViews.{le_bytes, view_bytes};
 ghost use Rattle.columnar_primitive.specs.BoolColumns.{bools_broken, is_tail};
 ghost use Rattle.columnar_primitive.specs.BoolLaws.{bools_storable};
 
@@ -133,7 +133,7 @@ impl<'s> AsBytes<'s> for Bools<View<'s, u64>, View<'s, u64>> {
 // The two words of 16 bytes.
 fn two_words(bytes: &[u8]) -> [u64; 2]
     requires { length bytes.now ≡ 16 }
-    ensures { bytes_of_words result ≡ bytes.now }
+    ensures { le_bytes result ≡ bytes.now }
 {
     let word = element_in(bytes, 0);
     let count = element_in(bytes, 1);

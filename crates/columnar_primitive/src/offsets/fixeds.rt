@@ -12,7 +12,7 @@ ghost use Rattle.columnar_primitive.specs.Tried.{Tried};
 ghost use Rattle.columnar_primitive.specs.FixedLaws.{fixed_lawful, fixed_storable, fixed_bounds};
 
 use super::strides::Strides;
-use super::words::{Words, second_of};
+use crate::bools::view_slice;
 use columnar_core::byte_slice::ByteSlice;
 use columnar_core::bytes::{AsBytes, Check, FromBytes, Stored};
 use columnar_core::container::{Borrow, Container, ContainerBytes, ExtendFrom, Reborrow, Storage};
@@ -22,6 +22,7 @@ use columnar_core::store::{DecodedStore, word_at};
 use columnar_core::tally::Tally;
 use columnar_core::traits::{Clear, Column, Index, Len, Push, PushRef};
 use columnar_core::view::View;
+use columnar_core::words::Words;
 use std::alloc::Global;
 use std::ops::Range;
 
@@ -36,7 +37,7 @@ pub struct Fixeds<const K: u64, CC = u64> {
 impl<const K: u64, CC: Words> Column for Fixeds<K, CC> {
     ghost format = { fixed_format K };
 
-    ghost content = { λ c. slice (CC.held c.count) };
+    ghost content = { λ c. slice (CC.bytes c.count) };
 }
 
 impl<const K: u64, CC: Words> Len for Fixeds<K, CC> {
@@ -218,7 +219,7 @@ impl<'a, const K: u64> Borrow<'a> for Fixeds<K, u64> {
 
     fn borrow(&'a self) -> Fixeds<K, View<'a, u64>> {
         Fixeds {
-            count: View::from_slice(std::slice::from_ref(&self.count)),
+            count: self.count.words(),
         }
     }
 }
@@ -240,7 +241,7 @@ where
 
 // Which rule does a count break?
 fn fault_in<CC: Words>(stride: u64, count: &CC, from: usize) -> Result<(), StoreFault>
-    ensures { verdict result ≡ first (moved from (fixed_broken stride (slice (CC.held count.now)))) }
+    ensures { verdict result ≡ first (moved from (fixed_broken stride (slice (CC.bytes count.now)))) }
 {
     if count.size() != 8 {
         return Err(StoreFault::HeadSize(from));
@@ -304,7 +305,7 @@ impl<'s, const K: u64> AsBytes<'s> for Fixeds<K, View<'s, u64>> {
 
 impl<const K: u64> ContainerBytes for Fixeds<K, u64> {
     fn byte_slice(&self, index: usize) -> ByteSlice<'_> {
-        self.count.slice()
+        view_slice(self.count.words())
     }
 
     fn load(_alloc: Global, store: &DecodedStore<'_>, offset: usize) -> Result<Self, GrowError> {
@@ -343,8 +344,8 @@ impl<const K: u64, CC: Words> StoredOffsets for Fixeds<K, CC> {
 
 // Do all offsets of a head and bounds follow the stride?
 fn all_follow<HC: Words, BC: Words>(head: &HC, bounds: &BC, stride: u64) -> bool
-    ensures yes { result ≡ true → (length (HC.held head.now) ≡ 16) × ((length (BC.held bounds.now) ≡ 0) × (word (HC.held head.now) 0 ≡ stride)) }
-    ensures no { result ≡ false → length (HC.held head.now) ≡ 16 → length (BC.held bounds.now) ≡ 0 → word (HC.held head.now) 0 ≡ stride → ⊥ }
+    ensures yes { result ≡ true → (length (HC.bytes head.now) ≡ 16) × ((length (BC.bytes bounds.now) ≡ 0) × (word (HC.bytes head.now) 0 ≡ stride)) }
+    ensures no { result ≡ false → length (HC.bytes head.now) ≡ 16 → length (BC.bytes bounds.now) ≡ 0 → word (HC.bytes head.now) 0 ≡ stride → ⊥ }
 {
     if head.size() != 16 || bounds.size() != 0 {
         return false;
@@ -381,7 +382,7 @@ impl<'v, const K: u64> TryFrom<Strides<View<'v, u64>, View<'v, u64>>> for Fixeds
     ) -> Result<Self, Strides<View<'v, u64>, View<'v, u64>>> {
         if all_follow(&item.head, &item.bounds, K) {
             Ok(Fixeds {
-                count: second_of(item.head),
+                count: item.head.part(1, 2),
             })
         } else {
             Err(item)

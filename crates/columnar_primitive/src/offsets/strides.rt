@@ -3,14 +3,13 @@ ghost use Rattle.std.specs.Prelude.{◌≡◌, ℕ, ◌+◌, ◌-◌, ◌*◌, �
 ghost use Rattle.columnar_core.specs.Row.{number};
 ghost use Rattle.columnar_core.specs.Format.{both, slice, first, moved, IsSound};
 ghost use Rattle.columnar_core.specs.Elements.{word_row};
-ghost use Rattle.columnar_core.specs.Bytes.{le_bytes};
 ghost use Rattle.columnar_core.specs.Faults.{verdict};
 ghost use Rattle.columnar_core.specs.Bounds.{rises, numbers};
 ghost use Rattle.columnar_core.specs.Change.{Refused, Took, WasCut};
 ghost use Rattle.columnar_primitive.specs.Stride.{strides_format, strides_broken, strides_rows, bounds_rows, strided, head_and_bounds, follows, grown, head_pushed, bounds_pushed, head_cut, bounds_cut};
 ghost use Rattle.columnar_primitive.specs.StrideLaws.{strides_lawful, strides_storable, strides_bounds};
 
-use super::words::Words;
+use crate::bools::view_slice;
 use columnar_core::byte_slice::ByteSlice;
 use columnar_core::bytes::{AsBytes, Check, FromBytes, Stored};
 use columnar_core::container::{Borrow, Container, ContainerBytes, ExtendFrom, Reborrow, Storage};
@@ -20,6 +19,7 @@ use columnar_core::store::{DecodedStore, word_at};
 use columnar_core::tally::Tally;
 use columnar_core::traits::{Clear, Column, Index, Len, Push, PushRef};
 use columnar_core::view::View;
+use columnar_core::words::Words;
 use std::alloc::{AllocError, Global};
 use std::ops::Range;
 
@@ -36,7 +36,7 @@ pub struct Strides<BC = Vec<u64>, HC = [u64; 2]> {
 impl<BC: Words, HC: Words> Column for Strides<BC, HC> {
     ghost format = { strides_format };
 
-    ghost content = { λ c. both (slice (HC.held c.head)) (slice (BC.held c.bounds)) };
+    ghost content = { λ c. both (slice (HC.bytes c.head)) (slice (BC.bytes c.bounds)) };
 }
 
 impl<BC: Words, HC: Words> Len for Strides<BC, HC> {
@@ -299,8 +299,8 @@ impl<'a> Borrow<'a> for Strides<Vec<u64>, [u64; 2]> {
 
     fn borrow(&'a self) -> Strides<View<'a, u64>, View<'a, u64>> {
         Strides {
-            head: View::from_slice(&self.head),
-            bounds: View::from_slice(self.bounds.as_slice()),
+            head: self.head.words(),
+            bounds: self.bounds.words(),
         }
     }
 }
@@ -323,7 +323,7 @@ where
 // Which rule do a head and bounds break first? What the head claims is reckoned, and not walked.
 fn fault_in<HC: Words, BC: Words>(head: &HC, bounds: &BC, from: usize) -> Result<(), StoreFault>
     requires { from + 2 < 2 ^ 64 }
-    ensures { verdict result ≡ first (moved from (strides_broken (both (slice (HC.held head.now)) (slice (BC.held bounds.now))))) }
+    ensures { verdict result ≡ first (moved from (strides_broken (both (slice (HC.bytes head.now)) (slice (BC.bytes bounds.now))))) }
 {
     if head.size() != 16 {
         return Err(StoreFault::HeadSize(from));
@@ -407,9 +407,9 @@ impl<'s> AsBytes<'s> for Strides<View<'s, u64>, View<'s, u64>> {
 impl ContainerBytes for Strides<Vec<u64>, [u64; 2]> {
     fn byte_slice(&self, index: usize) -> ByteSlice<'_> {
         if index == 0 {
-            self.head.slice()
+            view_slice(self.head.words())
         } else {
-            self.bounds.slice()
+            view_slice(self.bounds.words())
         }
     }
 
@@ -426,9 +426,9 @@ impl ContainerBytes for Strides<Vec<u64>, [u64; 2]> {
 
 // Do the words, from `first` on, never fall, and is the last one `end`? A turn for each.
 fn rise<BC: Words, L>(bounds: &BC, first: u64, end: u64, tally: &mut Tally<L>) -> bool
-    requires { length (BC.held bounds.now) % 8 ≡ 0 }
-    ensures value { result ≡ rises first (numbers (bounds_rows (slice (BC.held bounds.now)))) end }
-    ensures turns { tally.new.turns ≤ tally.old.turns + length (BC.held bounds.now) / 8 }
+    requires { length (BC.bytes bounds.now) % 8 ≡ 0 }
+    ensures value { result ≡ rises first (numbers (bounds_rows (slice (BC.bytes bounds.now)))) end }
+    ensures turns { tally.new.turns ≤ tally.old.turns + length (BC.bytes bounds.now) / 8 }
 {
     let mut last = first;
     for i in 0..bounds.size() / 8 {

@@ -2,7 +2,7 @@
 ghost use Rattle.std.specs.Prelude.{◌≡◌, ℕ, ◌+◌, ◌-◌, ◌*◌, ◌/◌, ◌%◌, ◌^◌, ◌<◌, ◌≤◌, [], ◌∷◌, ◌++◌, length, slice_range, take, drop, OnOk, OnErr, IfErr, IfOk, IsOk, refl};
 ghost use Rattle.columnar_core.specs.Format.{IsSound};
 ghost use Rattle.columnar_core.specs.Change.{Stayed};
-ghost use Rattle.columnar_core.specs.WordViews.{words_in, bit_words, bytes_of_words, view_bytes, view_words};
+ghost use Rattle.columnar_core.specs.WordViews.{words_in, bit_words, le_bytes, view_bytes, view_words};
 ghost use Rattle.columnar_primitive.specs.BoolColumns.{IsOfGrowth};
 ghost use Rattle.columnar_sums.specs.Counting.{CountWords, count_before};
 ghost use Rattle.columnar_sums.specs.RankColumns.{ranks_format, bits_ranked, IsRanked, owned_ranks, ranked_bits};
@@ -45,11 +45,11 @@ fn count_on<L>(
     tail: View<'_, u64>,
     tally: &mut Tally<L>,
 ) -> Result<(), GrowError>
-    requires exact { CountWords (bit_words (view_bytes values) (view_bytes tail)) (words_in (bytes_of_words counts.old.items)) }
+    requires exact { CountWords (bit_words (view_bytes values) (view_bytes tail)) (words_in (le_bytes counts.old.items)) }
     requires within { length counts.old.items ≤ length (view_words values) / 16 }
     requires tail { 0 < length (view_words tail) }
     requires short { length (view_words values) < 2 ^ 58 }
-    ensures ok { OnOk result (CountWords (bit_words (view_bytes values.entry) (view_bytes tail.entry)) (words_in (bytes_of_words counts.new.items)) × (length counts.new.items ≡ length (view_words values.entry) / 16)) }
+    ensures ok { OnOk result (CountWords (bit_words (view_bytes values.entry) (view_bytes tail.entry)) (words_in (le_bytes counts.new.items)) × (length counts.new.items ≡ length (view_words values.entry) / 16)) }
     ensures err { OnErr result (counts.new.items ≡ counts.old.items) }
     ensures memory { IfErr result (λ e. e ≡ GrowError.Memory) }
     ensures turns { tally.new.turns + 16 * length counts.old.items ≤ tally.old.turns + 16 * (length (view_words values.entry) / 16) }

@@ -1,7 +1,7 @@
 use Rattle.std.proofs.Common.{◌∙◌, ◌≤◌, ap, arith, length, ℕ}
 use Rattle.std.proofs.lemmas.List.{length-map}
 use Rattle.columnar_core.specs.Row.{truth}
-use Rattle.columnar_core.specs.WordViews.{bytes_of_words}
+use Rattle.columnar_core.specs.WordViews.{le_bytes}
 use Rattle.columnar_primitive.specs.Bits.{bit}
 use Rattle.columnar_primitive.specs.BoolColumns.{bits_in}
 use Rattle.columnar_primitive.specs.BoolLaws.{bools_parts, two_words, word_there, owned_cut}
@@ -12,7 +12,7 @@ word_or_tail-requires-clause-tail c = rw c.words-2.ensures (omega (arith, two_wo
 
 pub word_or_tail-requires-clause-in_range : goal.word_or_tail-requires-clause-in_range
 word_or_tail-requires-clause-in_range c =
-    let l : c.args.n ≤ length (bits_in (bytes_of_words c.args.self.now.values.items) (bytes_of_words c.args.self.now.tail)) = omega (arith, c.requires.in_range, length-map (bits_in (bytes_of_words c.args.self.now.values.items) (bytes_of_words c.args.self.now.tail)) truth) in
+    let l : c.args.n ≤ length (bits_in (le_bytes c.args.self.now.values.items) (le_bytes c.args.self.now.tail)) = omega (arith, c.requires.in_range, length-map (bits_in (le_bytes c.args.self.now.values.items) (le_bytes c.args.self.now.tail)) truth) in
     rw (c.words.ensures, c.words-2.ensures) (word_there c.args.n (bools_parts c.requires.sound) l)
 
 pub returns : goal.returns

@@ -1,7 +1,7 @@
 use Rattle.std.proofs.Common.{◌≡◌, ◌+◌, ◌*◌, ◌<◌, ◌^◌, ◌∙◌, ℕ, List, length, arith, ap, sym, refl}
 use Rattle.std.specs.Prelude.{count_ones}
 use Rattle.std.proofs.lemmas.List.{take_all}
-use Rattle.columnar_core.specs.WordViews.{bit_words, view_bytes, bytes_of_words, words_in}
+use Rattle.columnar_core.specs.WordViews.{bit_words, view_bytes, le_bytes, words_in}
 use Rattle.columnar_primitive.specs.Bits.{bit_in}
 use Rattle.columnar_primitive.specs.BoolLaws.{length_words_back}
 use Rattle.columnar_sums.specs.Counting.{ones_below}
@@ -19,7 +19,7 @@ pub loop-at-init : goal.loop-at-init
 loop-at-init g c =
     let ws : List ℕ = bit_words (view_bytes c.args.values) (view_bytes c.args.tail) in
     record {
-      sum = c.count_behind-sum.ensures ∙ (rw c.words.ensures (sum_start ws (words_in (bytes_of_words c.args.counts.now.items)) c.len-before.result c.requires.exact (omega (arith, c.len-before.ensures, length_words_back c.args.counts.now.items))));
+      sum = c.count_behind-sum.ensures ∙ (rw c.words.ensures (sum_start ws (words_in (le_bytes c.args.counts.now.items)) c.len-before.result c.requires.exact (omega (arith, c.len-before.ensures, length_words_back c.args.counts.now.items))));
       counted = record { exact = c.requires.exact; many = omega (arith, c.len-before.ensures); front = take_all _ _ (omega (arith, c.len-before.ensures)) };
       from = omega arith;
       turns = refl;

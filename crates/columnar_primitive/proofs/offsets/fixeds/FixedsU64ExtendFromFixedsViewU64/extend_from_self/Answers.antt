@@ -3,18 +3,18 @@ use Rattle.columnar_core.specs.Views.{items_content}
 use Rattle.std.specs.Int.{to_le_bytes, w64}
 use Rattle.columnar_core.specs.Bytes.{word}
 use Rattle.columnar_primitive.specs.FixedLaws.{fixed_copy, fixed_copy_refused, fixed_copy_past, length-fixed}
-use Rattle.columnar_primitive.specs.Held.{sliced}
+use Rattle.columnar_core.specs.WordViews.{bytes_of}
 use Rattle.columnar_primitive.proofs.offsets.fixeds.FixedsU64ExtendFromFixedsViewU64.extend_from_self.Goals as goal
 
 pub returns-in-Err-clause-err : goal.returns-in-Err-clause-err
 returns-in-Err-clause-err g c =
-    let from = sliced (items_content (to_le_bytes w64) c.args.view.count.items) in
+    let from = bytes_of (items_content (to_le_bytes w64) c.args.view.count.items) in
     let e = length-fixed g.row.K from in
     fixed_copy_refused g.row.K c.args.self.now.count c.args.range.start (c.args.range.«end» - c.args.range.start) (word from 0) c.get.result c.in-Err.error (omega arith) (omega arith) (omega (arith, c.requires.in_range, c.requires.ordered)) (omega arith) c.requires.sound c.get.ensures.row c.in-Err.ensures.err
 
 pub returns-in-Some-clause-ok : goal.returns-in-Some-clause-ok
 returns-in-Some-clause-ok g c =
-    let from = sliced (items_content (to_le_bytes w64) c.args.view.count.items) in
+    let from = bytes_of (items_content (to_le_bytes w64) c.args.view.count.items) in
     let e = length-fixed g.row.K from in
     let added = c.args.range.«end» - c.args.range.start in
     let f : c.args.self.now.count + added ≡ c.in-Some.count = sym c.in-Some.ensures.1 in
@@ -22,6 +22,6 @@ returns-in-Some-clause-ok g c =
 
 pub returns-in-None-clause-err : goal.returns-in-None-clause-err
 returns-in-None-clause-err g c =
-    let from = sliced (items_content (to_le_bytes w64) c.args.view.count.items) in
+    let from = bytes_of (items_content (to_le_bytes w64) c.args.view.count.items) in
     let e = length-fixed g.row.K from in
     fixed_copy_past g.row.K c.args.self.now.count c.args.range.start (c.args.range.«end» - c.args.range.start) (word from 0) (omega arith) (omega (arith, c.requires.in_range, c.requires.ordered)) (omega (arith, c.in-None.ensures)) c.requires.sound

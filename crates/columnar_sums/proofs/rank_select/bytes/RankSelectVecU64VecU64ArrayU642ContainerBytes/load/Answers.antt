@@ -1,5 +1,4 @@
 use Rattle.columnar_core.specs.Store.{slices_in}
-use Rattle.columnar_core.specs.WordViews.{bytes_of_words}
 use Rattle.columnar_sums.specs.RankBytes.{ranks_fit, ranks_held_at}
 use Rattle.columnar_sums.proofs.rank_select.bytes.RankSelectVecU64VecU64ArrayU642ContainerBytes.load.Goals as goal
 
@@ -7,5 +6,4 @@ pub load-requires-2-clause-fits : goal.load-requires-2-clause-fits
 load-requires-2-clause-fits c = ranks_fit (slices_in c.args.store.now) c.args.offset c.requires.fits
 
 pub returns-in-Ok-load-clause-content : goal.returns-in-Ok-load-clause-content
-unfolding bytes_of_words
 returns-in-Ok-load-clause-content c = ranks_held_at (slices_in c.args.store.now) c.args.offset c.in-Ok.counts.items _ c.in-Ok.ensures.content c.in-Ok-load.ensures.content

@@ -1,7 +1,7 @@
 use Rattle.std.proofs.Common.{◌≡◌, ◌≤◌, ◌-◌, ◌/◌, ◌∙◌, ℕ, List, Bool, length, arith, ap}
 use Rattle.std.specs.Prelude.{slice_range}
 use Rattle.columnar_core.specs.ChangeLaws.{undone}
-use Rattle.columnar_core.specs.WordViews.{bytes_of_words, words_in}
+use Rattle.columnar_core.specs.WordViews.{le_bytes, words_in}
 use Rattle.columnar_primitive.specs.BoolColumns.{bits_in, bits_held}
 use Rattle.columnar_primitive.specs.BoolLaws.{bools_lawful, bools_parts, bools_sound, bools_grew, bits_length, two_words, length_added}
 use Rattle.columnar_sums.specs.RankLaws.{ranks_parts, ranks_sound}
@@ -30,18 +30,18 @@ count_on-requires-clause-short g c = rw c.words.ensures (words_short (bools_part
 
 pub returns-in-Ok-count_on-clause-sound : goal.returns-in-Ok-count_on-clause-sound
 returns-in-Ok-count_on-clause-sound g c =
-    ranks_sound (ranked_on {c = bytes_of_words c.args.self.now.counts.items} c.count_on.new.counts.items (bools_parts c.extend_bits_from_tallied.ensures.sound) c.in-Ok.ensures.ok (rw (c.words.ensures, c.words-2.ensures) at c.in-Ok-count_on.ensures.ok)).sound
+    ranks_sound (ranked_on {c = le_bytes c.args.self.now.counts.items} c.count_on.new.counts.items (bools_parts c.extend_bits_from_tallied.ensures.sound) c.in-Ok.ensures.ok (rw (c.words.ensures, c.words-2.ensures) at c.in-Ok-count_on.ensures.ok)).sound
 
 pub returns-in-Ok-count_on-clause-turns : goal.returns-in-Ok-count_on-clause-turns
 returns-in-Ok-count_on-clause-turns g c =
     let n = length_added _ _ _ c.args.range.start c.args.range.«end» c.in-Ok.ensures.ok c.requires.ordered c.requires.in_range in
     let t = bools_parts c.extend_bits_from_tallied.ensures.sound in
-    turns_fit c.args.tally.now.turns c.extend_bits_from_tallied.new.tally.turns c.count_on.new.tally.turns (length (bits_in (bytes_of_words c.args.self.now.values.values.items) (bytes_of_words c.args.self.now.values.tail))) (c.args.range.«end» - c.args.range.start) (length (words_in (bytes_of_words c.extend_bits_from_tallied.new.self.values.items)) / 16) (length c.args.self.now.counts.items) c.extend_bits_from_tallied.ensures.turns (rw c.words.ensures at c.count_on.ensures.turns) (counts_many c.args.self.now.counts.items (ranks_parts c.requires.sound)) (omega (arith, n, bits_length (bytes_of_words c.extend_bits_from_tallied.new.self.values.items) (bytes_of_words c.extend_bits_from_tallied.new.self.tail), t.few))
+    turns_fit c.args.tally.now.turns c.extend_bits_from_tallied.new.tally.turns c.count_on.new.tally.turns (length (bits_in (le_bytes c.args.self.now.values.values.items) (le_bytes c.args.self.now.values.tail))) (c.args.range.«end» - c.args.range.start) (length (words_in (le_bytes c.extend_bits_from_tallied.new.self.values.items)) / 16) (length c.args.self.now.counts.items) c.extend_bits_from_tallied.ensures.turns (rw c.words.ensures at c.count_on.ensures.turns) (counts_many c.args.self.now.counts.items (ranks_parts c.requires.sound)) (omega (arith, n, bits_length (le_bytes c.extend_bits_from_tallied.new.self.values.items) (le_bytes c.extend_bits_from_tallied.new.self.tail), t.few))
 
 pub returns-in-Err-count_on-clause-err : goal.returns-in-Err-count_on-clause-err
 returns-in-Err-count_on-clause-err g c =
-    let a : List ℕ = bytes_of_words c.args.self.now.values.values.items in
-    let b : List ℕ = bytes_of_words c.args.self.now.values.tail in
+    let a : List ℕ = le_bytes c.args.self.now.values.values.items in
+    let b : List ℕ = le_bytes c.args.self.now.values.tail in
     let s = (ranks_parts c.requires.sound).bools in
     let h = bools_grew (record { sound = bools_parts c.extend_bits_from_tallied.ensures.sound; bits = c.in-Ok.ensures.ok }) in
     rw c.in-Err-count_on.ensures.err (ranks_stayed c.requires.sound (undone bools_lawful (bools_sound s) h (rw c.len-start.ensures at c.truncate.ensures)))
@@ -56,4 +56,4 @@ pub returns-in-Err-count_on-clause-turns : goal.returns-in-Err-count_on-clause-t
 returns-in-Err-count_on-clause-turns g c =
     let n = length_added _ _ _ c.args.range.start c.args.range.«end» c.in-Ok.ensures.ok c.requires.ordered c.requires.in_range in
     let t = bools_parts c.extend_bits_from_tallied.ensures.sound in
-    turns_fit c.args.tally.now.turns c.extend_bits_from_tallied.new.tally.turns c.count_on.new.tally.turns (length (bits_in (bytes_of_words c.args.self.now.values.values.items) (bytes_of_words c.args.self.now.values.tail))) (c.args.range.«end» - c.args.range.start) (length (words_in (bytes_of_words c.extend_bits_from_tallied.new.self.values.items)) / 16) (length c.args.self.now.counts.items) c.extend_bits_from_tallied.ensures.turns (rw c.words.ensures at c.count_on.ensures.turns) (counts_many c.args.self.now.counts.items (ranks_parts c.requires.sound)) (omega (arith, n, bits_length (bytes_of_words c.extend_bits_from_tallied.new.self.values.items) (bytes_of_words c.extend_bits_from_tallied.new.self.tail), t.few))
+    turns_fit c.args.tally.now.turns c.extend_bits_from_tallied.new.tally.turns c.count_on.new.tally.turns (length (bits_in (le_bytes c.args.self.now.values.values.items) (le_bytes c.args.self.now.values.tail))) (c.args.range.«end» - c.args.range.start) (length (words_in (le_bytes c.extend_bits_from_tallied.new.self.values.items)) / 16) (length c.args.self.now.counts.items) c.extend_bits_from_tallied.ensures.turns (rw c.words.ensures at c.count_on.ensures.turns) (counts_many c.args.self.now.counts.items (ranks_parts c.requires.sound)) (omega (arith, n, bits_length (le_bytes c.extend_bits_from_tallied.new.self.values.items) (le_bytes c.extend_bits_from_tallied.new.self.tail), t.few))

@@ -1,7 +1,7 @@
 use Rattle.std.proofs.Common.{◌≡◌, ◌+◌, ◌%◌, ◌<◌, ◌^◌, ℕ, List, length, arith, ap, refl}
 use Rattle.std.proofs.Math.Path.{ap₂}
 use Rattle.columnar_core.specs.Format.{Content, slice, both}
-use Rattle.columnar_core.specs.WordViews.{bytes_of_words}
+use Rattle.columnar_core.specs.WordViews.{le_bytes}
 use Rattle.columnar_primitive.specs.BoolColumns.{bits_in}
 use Rattle.columnar_primitive.specs.BoolLaws.{bools_parts, words_grown}
 use Rattle.columnar_sums.specs.CountLaws.{ones_le}
@@ -11,21 +11,21 @@ use Rattle.columnar_sums.proofs.rank_select.grow.Held.push_bit.Goals as goal
 
 pub returns-in-Ok-clause-sound : goal.returns-in-Ok-clause-sound
 returns-in-Ok-clause-sound c =
-    let a : List ℕ = bytes_of_words c.args.self.now.values.values.items in
-    let b : List ℕ = bytes_of_words c.args.self.now.values.tail in
+    let a : List ℕ = le_bytes c.args.self.now.values.values.items in
+    let b : List ℕ = le_bytes c.args.self.now.values.tail in
     let l : length (bits_in a b) % 1024 < 1023 = omega (arith, c.if-len-lt1023.true, c.len-len.ensures, length-truths_rows a b) in
     ranks_sound (ranked_plain (ranks_parts c.requires) (bools_parts c.push_bit.ensures.sound) c.in-Ok.ensures.ok l).sound
 
 pub overflow_add-total : goal.overflow_add-total
 overflow_add-total c =
-    let a : List ℕ = bytes_of_words c.args.self.now.values.values.items in
-    let b : List ℕ = bytes_of_words c.args.self.now.values.tail in
+    let a : List ℕ = le_bytes c.args.self.now.values.values.items in
+    let b : List ℕ = le_bytes c.args.self.now.values.tail in
     omega (arith, c.rank.ensures.value, ones_le (bits_in a b) c.len-len.result, c.if-len.false, c.len-len.type_inv, c.one_of.ensures.small)
 
 pub returns-in-Ok-push_bit-clause-sound : goal.returns-in-Ok-push_bit-clause-sound
 returns-in-Ok-push_bit-clause-sound c =
-    let a : List ℕ = bytes_of_words c.args.self.now.values.values.items in
-    let b : List ℕ = bytes_of_words c.args.self.now.values.tail in
+    let a : List ℕ = le_bytes c.args.self.now.values.values.items in
+    let b : List ℕ = le_bytes c.args.self.now.values.tail in
     let n : ℕ = c.rank.result + c.one_of.result in
     let e : c.len-len.result ≡ length (bits_in a b) = omega (arith, c.len-len.ensures, length-truths_rows a b) in
     let f : n < 2 ^ 64 = omega (arith, c.rank.ensures.value, ones_le (bits_in a b) c.len-len.result, c.if-len.false, c.len-len.type_inv, c.one_of.ensures.small) in
@@ -34,14 +34,14 @@ returns-in-Ok-push_bit-clause-sound c =
 
 pub returns-in-Err-push_bit-clause-err : goal.returns-in-Err-push_bit-clause-err
 returns-in-Err-push_bit-clause-err c =
-    let a : List ℕ = bytes_of_words c.args.self.now.values.values.items in
-    let b : List ℕ = bytes_of_words c.args.self.now.values.tail in
+    let a : List ℕ = le_bytes c.args.self.now.values.values.items in
+    let b : List ℕ = le_bytes c.args.self.now.values.tail in
     let i = items_back c.args.self.now.counts.items c.push.new.self.items c.truncate.new.self.items _ _ c.in-Ok-push.ensures.items c.truncate.ensures.items (omega (arith, counts_many c.args.self.now.counts.items (ranks_parts c.requires), c.len-len.ensures, length-truths_rows a b)) in
-    ranks_same c.requires (ap₂ (λ (x : List ℕ) (y : Content). both (slice (bytes_of_words x)) y) i c.in-Err-push_bit.ensures.err)
+    ranks_same c.requires (ap₂ (λ (x : List ℕ) (y : Content). both (slice (le_bytes x)) y) i c.in-Err-push_bit.ensures.err)
 
 pub returns-in-Err-push_bit-clause-sound : goal.returns-in-Err-push_bit-clause-sound
 returns-in-Err-push_bit-clause-sound c =
-    let a : List ℕ = bytes_of_words c.args.self.now.values.values.items in
-    let b : List ℕ = bytes_of_words c.args.self.now.values.tail in
+    let a : List ℕ = le_bytes c.args.self.now.values.values.items in
+    let b : List ℕ = le_bytes c.args.self.now.values.tail in
     let i = items_back c.args.self.now.counts.items c.push.new.self.items c.truncate.new.self.items _ _ c.in-Ok-push.ensures.items c.truncate.ensures.items (omega (arith, counts_many c.args.self.now.counts.items (ranks_parts c.requires), c.len-len.ensures, length-truths_rows a b)) in
-    (ranks_same c.requires (ap₂ (λ (x : List ℕ) (y : Content). both (slice (bytes_of_words x)) y) i c.in-Err-push_bit.ensures.err)).sound
+    (ranks_same c.requires (ap₂ (λ (x : List ℕ) (y : Content). both (slice (le_bytes x)) y) i c.in-Err-push_bit.ensures.err)).sound

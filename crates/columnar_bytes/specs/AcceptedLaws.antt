@@ -1,9 +1,9 @@
-use Rattle.std.proofs.Common.{◌≡◌, ℕ, zero, suc, ◌+◌, ◌<◌, ◌≤◌, ◌%◌, List, [], ◌∷◌, length, drop, map, refl, sym, ◌∙◌, ap, arith, subst, inl, inr}
-use Rattle.std.specs.Prelude.{Some, None, Option, ◌⊎◌, nat_le, cond}
-use Rattle.columnar_core.specs.Format.{Format, Content, IsSound, Fits, Fault, fault, first, moved, moved_one, faults_at}
-use Rattle.columnar_core.specs.FaultLaws.{faults_in_room, first_none, nothing_moved}
-use Rattle.columnar_core.specs.Frame.{Frame, IsLegal, IsStore, framed_slices}
-use Rattle.columnar_core.specs.FrameLaws.{are_framed_slices, legal_of, count_of, store_of}
+use Rattle.std.proofs.Common.{◌≡◌, ℕ, ◌+◌, List, [], ◌∷◌, length, refl, sym, ◌∙◌, ap, arith}
+use Rattle.std.specs.Prelude.{Some, None}
+use Rattle.columnar_core.specs.Format.{Format, IsSound, Fits, Fault, fault, first, moved, faults_at}
+use Rattle.columnar_core.specs.FaultLaws.{faults_in_room, first_none}
+use Rattle.columnar_core.specs.Frame.{IsLegal, framed_slices}
+use Rattle.columnar_core.specs.FrameLaws.{are_framed_slices}
 use Rattle.columnar_bytes.specs.Accepted.{Accepts, Accepted}
 
 pub accepts_from : (f : Format) (bytes : List ℕ) → Accepted f bytes → Accepts f bytes

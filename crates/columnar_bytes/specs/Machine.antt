@@ -9,7 +9,6 @@ use Rattle.columnar_core.specs.declared.fault.EncodeError.{EncodeError}
 use Rattle.columnar_core.specs.declared.fault.EncodeError.TheVariants.{Memory as NoMemory, Length as TooLong}
 use Rattle.columnar_bytes.specs.declared.stash.commands.Command.{Command}
 use Rattle.columnar_bytes.specs.declared.stash.commands.Command.TheVariants.{Push, Clear, Copy, Truncate, MakeTyped, MakeAligned, Reopen}
-use Rattle.columnar_bytes.specs.declared.stash.commands.Refusal.{Refusal}
 use Rattle.columnar_bytes.specs.declared.stash.commands.Refusal.TheVariants.{Grow, Range, Encode}
 use Rattle.columnar_bytes.specs.declared.stash.commands.Reply.{Reply}
 use Rattle.columnar_bytes.specs.declared.stash.commands.Reply.TheVariants.{Done, Refused}

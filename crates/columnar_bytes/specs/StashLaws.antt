@@ -1,5 +1,5 @@
 -- What is written is accepted.
-use Rattle.std.proofs.Common.{◌≡◌, ℕ, ◌+◌, ◌*◌, ◌^◌, ◌<◌, ◌≤◌, List, [], ◌++◌, length, refl, sym, ◌∙◌, ap, arith, append-nil}
+use Rattle.std.proofs.Common.{◌≡◌, ℕ, ◌*◌, ◌^◌, ◌<◌, List, [], length, append-nil}
 use Rattle.std.specs.Prelude.{Option}
 use Rattle.columnar_core.specs.Format.{Format, Content, IsSound, IsLawful, slices_of}
 use Rattle.columnar_core.specs.Frame.{framed_slices}

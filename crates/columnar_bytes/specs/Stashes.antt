@@ -1,6 +1,6 @@
 -- What a stash holds.
-use Rattle.std.specs.Prelude.{ℕ, Bool, true, false, List, ◌≡◌}
-use Rattle.columnar_core.specs.Format.{Format, Content, slices_of}
+use Rattle.std.specs.Prelude.{ℕ, List, ◌≡◌}
+use Rattle.columnar_core.specs.Format.{Content, slices_of}
 use Rattle.columnar_core.specs.Words.{store_bytes}
 use Rattle.columnar_core.specs.Frame.{framed_slices}
 use Rattle.columnar_core.specs.declared.traits.Column.{Ghosts as ColumnOf}

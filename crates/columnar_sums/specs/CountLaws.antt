@@ -1,15 +1,15 @@
 -- Counting trues.
-use Rattle.std.proofs.Common.{◌≡◌, ℕ, zero, suc, ◌+◌, ◌-◌, ◌*◌, ◌/◌, ◌%◌, ◌^◌, ◌<◌, ◌≤◌, min, Bool, true, false, eqb, List, [], ◌∷◌, ◌++◌, length, take, cond, Option, Some, None, refl, sym, ap, ◌∙◌, subst, ⊎_elim, lit<, arith, add-one, add-zero, add-suc, add_assoc, add_comm}
+use Rattle.std.proofs.Common.{◌≡◌, ℕ, zero, suc, ◌+◌, ◌-◌, ◌*◌, ◌/◌, ◌%◌, ◌^◌, ◌<◌, ◌≤◌, min, Bool, true, false, eqb, List, [], ◌∷◌, ◌++◌, length, take, cond, Some, None, refl, sym, ap, ◌∙◌, subst, ⊎_elim, lit<, arith, add-one, add-zero, add-suc, add_assoc, add_comm}
 use Rattle.std.proofs.Math.Path.{ap₂}
 use Rattle.std.specs.Prelude.{slice_index, slice_index_or, bit_and, count_ones, count_by, option_map}
-use Rattle.std.proofs.lemmas.List.{length-take, take-append-le, length_push, get_or_past, take_at, get_or_append_left, get_or_push, take-take, get_or-take, length-take-le}
+use Rattle.std.proofs.lemmas.List.{length-take, take-append-le, length_push, get_or_past}
 use Rattle.std.proofs.lemmas.List.Sums.{count_by_more_yes, count_by_more_no, count_by-le-length, sum_by-append}
 use Rattle.std.proofs.lemmas.Bool.{cases_lt, cases_Bool, true≢false}
 use Rattle.std.proofs.lemmas.Nat.{leading_length, shr-shr, pow-add, one_shl, and_mask, ones_cat, mod_below, pow_pos, pow_below, mod-pow-add, ones_le_self}
 use Rattle.std.proofs.Math.Nat.{mul-le-mul_left}
 use lib.Count.{ones as ones_of_number, ones_in}
 use Rattle.columnar_primitive.specs.Bits.{bit, bit_in, truths, bits_of}
-use Rattle.columnar_primitive.specs.BitLaws.{bit_in_word, bit_in_tail, bit_above, bit_shr, length-truths, get_or-truths}
+use Rattle.columnar_primitive.specs.BitLaws.{bit_in_word, bit_shr, length-truths, get_or-truths}
 use Rattle.columnar_sums.specs.Counting.{ones, place, ones_below, CountWords, AreCounts, count_before, digits}
 
 -- one bit, counted

@@ -1,6 +1,6 @@
 -- Counts of a list that grows or is cut, and places.
-use Rattle.std.proofs.Common.{◌≡◌, ℕ, zero, suc, ◌+◌, ◌-◌, ◌*◌, ◌/◌, ◌%◌, ◌<◌, ◌≤◌, Bool, true, false, cond, eqb, List, [], ◌∷◌, ◌++◌, length, take, map, refl, sym, ap, ◌∙◌, subst, ⊎_elim, arith, Option, Some, None}
-use Rattle.std.specs.Prelude.{count_by, slice_index, slice_index_or, option_map, IfSome, IfNone, IsNone}
+use Rattle.std.proofs.Common.{◌≡◌, ℕ, zero, suc, ◌+◌, ◌*◌, ◌/◌, ◌%◌, ◌<◌, ◌≤◌, Bool, true, false, cond, List, [], ◌∷◌, ◌++◌, length, take, refl, sym, ap, ◌∙◌, subst, ⊎_elim, arith, Option, Some, None}
+use Rattle.std.specs.Prelude.{count_by, slice_index_or, option_map, IfSome, IfNone, IsNone}
 use Rattle.std.proofs.lemmas.List.{take-append-le, take_at, length_push, get_or_append_left, get_or_push, take-take, get_or-take, length-take-le}
 use Rattle.std.proofs.lemmas.Bool.{cases_lt}
 use Rattle.columnar_sums.specs.Counting.{ones, place, AreCounts}

@@ -1,17 +1,17 @@
 -- What a cursor keeps.
-use Rattle.std.proofs.Common.{◌≡◌, ℕ, zero, suc, ◌+◌, ◌-◌, ◌*◌, ◌/◌, ◌%◌, ◌^◌, ◌<◌, ◌≤◌, max, min, Bool, true, false, cond, List, [], ◌∷◌, length, refl, sym, ap, ◌∙◌, subst, ⊎_elim, arith}
-use Rattle.std.specs.Prelude.{slice_index, slice_index_or, Option, Some, None}
+use Rattle.std.proofs.Common.{◌≡◌, ℕ, zero, suc, ◌+◌, ◌-◌, ◌*◌, ◌/◌, ◌^◌, ◌<◌, ◌≤◌, max, Bool, true, false, cond, List, length, refl, sym, ap, ◌∙◌, ⊎_elim, arith}
+use Rattle.std.specs.Prelude.{slice_index_or, Some}
 use Rattle.std.proofs.lemmas.Bool.{cases_lt}
-use Rattle.columnar_core.specs.Format.{Content, slice, both, IsSound}
-use Rattle.columnar_core.specs.WordViews.{words_in, bit_words}
+use Rattle.columnar_core.specs.Format.{slice, both, IsSound}
+use Rattle.columnar_core.specs.WordViews.{bit_words}
 use Rattle.columnar_primitive.specs.Bits.{bit_in}
 use Rattle.columnar_primitive.specs.BoolColumns.{bits_in}
 use Rattle.columnar_primitive.specs.BoolLaws.{SoundBools, bits_length}
-use Rattle.columnar_sums.specs.Counting.{ones, ones_below, place, CountWords}
+use Rattle.columnar_sums.specs.Counting.{ones, ones_below, place}
 use Rattle.columnar_sums.specs.CountLaws.{ones_le, ones_more, ones_zero}
 use Rattle.columnar_sums.specs.CountsKept.{place_found}
 use Rattle.columnar_sums.specs.RankColumns.{ranks_format, IsAt, AreClear, IsNextTrue, AreFalseFrom}
-use Rattle.columnar_sums.specs.RankLaws.{SoundRanks, ranks_parts, words_length, last_clear, next_bit, no_bit, ones_next, ones_none, ones_bits, bit_is, words_few}
+use Rattle.columnar_sums.specs.RankLaws.{ranks_parts, words_length, last_clear, next_bit, no_bit, ones_next, ones_none, ones_bits, bit_is, words_few}
 
 -- where a cursor over the counts c, words a and tail b stands
 pub record Stands (c a b : List ℕ) (index rest pos count : ℕ) : Type 0 where

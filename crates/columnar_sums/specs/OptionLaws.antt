@@ -1,11 +1,11 @@
-use Rattle.std.proofs.Common.{◌≡◌, ℕ, zero, suc, ◌+◌, ◌-◌, ◌*◌, ◌<◌, ◌≤◌, Bool, true, false, ◌&&◌, List, [], ◌∷◌, ◌++◌, length, take, drop, map, refl, sym, ◌∙◌, ap, arith, pred, length-append, length-take, length-drop, append_assoc}
+use Rattle.std.proofs.Common.{◌≡◌, ℕ, ◌+◌, ◌-◌, ◌*◌, ◌<◌, ◌≤◌, Bool, true, false, List, [], ◌∷◌, ◌++◌, length, take, drop, map, refl, sym, ◌∙◌, ap, arith, pred, length-append, length-take, length-drop, append_assoc}
 use Rattle.std.proofs.Math.Seq.{drop-append_seam}
 use Rattle.std.specs.Prelude.{slice_get, Some, ◌||◌}
-use Rattle.std.proofs.lemmas.List.{map-append, length-map, take-map, drop-map, drop-drop, take-take}
+use Rattle.std.proofs.lemmas.List.{map-append, length-map, take-map, drop-map, drop-drop}
 use Rattle.std.proofs.Math.Nat.{mul-le-mul_right}
-use Rattle.std.proofs.lemmas.Bool.{and_parts, and_from, or_left, or_right, eqb-true, eq-eqb}
-use Rattle.columnar_core.specs.Row.{Row, truth, unit, none, some, row_eq}
-use Rattle.columnar_core.specs.Format.{Format, Content, slice, both, part, plain, IsSound, IsLawful, IsStorable, IsSame, Fits, lengths, slices_of, moved, unless, fault, all_alike, Excess, refuses_more, bytes_held}
+use Rattle.std.proofs.lemmas.Bool.{or_left, or_right, eqb-true, eq-eqb}
+use Rattle.columnar_core.specs.Row.{Row, truth, none, some, row_eq}
+use Rattle.columnar_core.specs.Format.{Format, Content, slice, both, part, plain, IsSound, IsLawful, IsStorable, IsSame, Fits, lengths, slices_of, moved, unless, fault, Excess, refuses_more, bytes_held}
 use Rattle.columnar_core.specs.FaultLaws.{nothing_left, nothing_both, nothing_moved, moved_nothing, unless_true, true_unless}
 use Rattle.columnar_core.specs.AlikeLaws.{alike_length, same_pulled, same_both, row_eq_same, row_eq_exact}
 use Rattle.columnar_core.specs.Change.{Keeps, Grew, Stayed, WasCut, Took, Copied, Refused}
@@ -18,9 +18,9 @@ use Rattle.columnar_primitive.specs.BoolLaws.{bits_from_rows}
 use Rattle.columnar_sums.specs.Counting.{ones}
 use Rattle.columnar_sums.specs.RankColumns.{ranks_broken, ranks_bits, ranks_format}
 use Rattle.columnar_sums.specs.RankLaws.{SoundRanks, ranks_parts, ranks_form, ranks_lawful, ranks_storable}
-use Rattle.columnar_sums.specs.Options.{weave, value_of, somes, inner_of, bare_option, options_level, options_broken, options_rows, options_extent, option_alike, options_refuses, options_format, AreSome, AreNone}
+use Rattle.columnar_sums.specs.Options.{weave, somes, inner_of, bare_option, options_level, option_alike, options_refuses, options_format, AreSome}
 use Rattle.columnar_sums.specs.CountLaws.{ones_zero, ones_true, ones_false, ones_le}
-use Rattle.columnar_sums.specs.WeaveLaws.{ones_nil, ones_first, ones_cut, ones_grows, ones_over, ones_most, ones_past, ones_both, ones_taken, ones_before, bit_of_row, ones_of_true, ones_of_false, length-weave, weave-append, weave-take, weave-range, weave_some, weave_none, somes-append, somes-weave, weave_alike}
+use Rattle.columnar_sums.specs.WeaveLaws.{ones_nil, ones_first, ones_cut, ones_grows, ones_over, ones_most, ones_both, ones_taken, ones_before, bit_of_row, ones_of_true, ones_of_false, length-weave, weave-append, weave-take, weave-range, weave_some, weave_none, somes-append, somes-weave, weave_alike}
 
 -- what the soundness of options is made of
 pub record SoundOptions (t : Format) (x y : Content) : Type 0 where

@@ -1,10 +1,10 @@
 -- Columns whose rows may be absent: a bit for each row, and the values of the rows that have one.
 use Rattle.std.specs.Prelude.{ℕ, Bool, true, false, List, [], ◌∷◌, ◌++◌, ◌≡◌, length, ◌+◌, drop, map, ◌&&◌, ◌||◌, nat_eq}
 use Rattle.columnar_core.specs.Row.{Row, unit, none, some, row_eq}
-use Rattle.columnar_core.specs.Format.{Format, Content, slice, both, part, plain, Fault, fault, moved, unless, misfit, Excess, IsSound}
+use Rattle.columnar_core.specs.Format.{Format, Content, slice, both, part, plain, Fault, fault, moved, unless, misfit, Excess}
 use Rattle.columnar_core.specs.Elements.{past_count}
 use Rattle.columnar_sums.specs.Counting.{ones}
-use Rattle.columnar_sums.specs.RankColumns.{ranks_broken, ranks_bits, ranks_format, ranks_content}
+use Rattle.columnar_sums.specs.RankColumns.{ranks_broken, ranks_bits, ranks_format}
 
 -- a true takes the next value, a false is none
 abbrev pub weave : List Bool → List Row → List Row

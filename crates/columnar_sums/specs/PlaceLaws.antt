@@ -1,10 +1,10 @@
 -- How a place among words moves.
-use Rattle.std.proofs.Common.{◌≡◌, ℕ, zero, suc, ◌+◌, ◌-◌, ◌*◌, ◌/◌, ◌%◌, ◌^◌, ◌<◌, ◌≤◌, max, Bool, true, false, eqb, List, [], ◌∷◌, ◌++◌, length, take, refl, sym, ap, ◌∙◌, ⊎_elim, arith, cond, add-zero, subst}
+use Rattle.std.proofs.Common.{◌≡◌, ℕ, zero, suc, ◌+◌, ◌-◌, ◌*◌, ◌/◌, ◌%◌, ◌^◌, ◌<◌, ◌≤◌, max, Bool, true, false, eqb, List, [], ◌∷◌, ◌++◌, length, take, refl, sym, ap, ◌∙◌, ⊎_elim, arith}
 use Rattle.std.proofs.Math.Path.{ap₂}
 use Rattle.std.specs.Int.{bit_at, bit_not, w64, trailing_zeros}
 use Rattle.std.specs.List.{range_with_len}
 use Rattle.std.specs.Prelude.{slice_index, bit_and}
-use Rattle.std.proofs.lemmas.List.{append-nil, append_assoc, map-id, take-append-le, length_push}
+use Rattle.std.proofs.lemmas.List.{append-nil, append_assoc, map-id}
 use Rattle.std.proofs.lemmas.List.FromFn.{map-range_with_len_more}
 use Rattle.std.proofs.lemmas.Bool.{cases_lt, eq-eqb, true≢false, cases_eq}
 use Rattle.std.proofs.lemmas.Nat.Bits.{bit_at-trailing_zeros, bit_at_clear_same, bit_at_clear_other, bit_at-zero}
@@ -12,7 +12,7 @@ use Rattle.columnar_primitive.specs.Bits.{bit, bit_in}
 use Rattle.columnar_primitive.specs.BitLaws.{bit_in_word, bit_shown}
 use Rattle.columnar_core.specs.Reads.{Reads}
 use Rattle.columnar_sums.specs.Counting.{ones_below, Adds}
-use Rattle.columnar_sums.specs.CountLaws.{ones_below_add, ones_below_same}
+use Rattle.columnar_sums.specs.CountLaws.{ones_below_add}
 use Rattle.columnar_sums.specs.RankColumns.{IsAt, AreClear}
 
 bit_of_zero : (j : ℕ) → bit 0 j ≡ false

@@ -1,19 +1,18 @@
 -- Columns of bits and counts in slices of bytes.
-use Rattle.std.proofs.Common.{◌≡◌, ℕ, suc, ◌+◌, ◌-◌, ◌*◌, ◌/◌, ◌%◌, ◌<◌, ◌≤◌, Bool, true, false, List, [], ◌∷◌, ◌++◌, length, drop, refl, sym, ◌∙◌, ap, arith, ⊎_elim}
+use Rattle.std.proofs.Common.{◌≡◌, ℕ, suc, ◌+◌, ◌*◌, ◌/◌, ◌%◌, ◌<◌, ◌≤◌, true, false, List, [], length, drop, refl, sym, ◌∙◌, ap, arith, ⊎_elim}
 use Rattle.std.specs.Prelude.{slice_index, slice_index_or, Some, None, nat_eq}
 use Rattle.std.proofs.lemmas.Bool.{cases_lt, eq-eqb, ne_eqb}
 use Rattle.std.proofs.lemmas.List.{drop-drop}
 use Rattle.columnar_core.specs.Row.{numbers_eq}
 use Rattle.columnar_core.specs.Format.{Content, slice, both, first, moved, Fault, fault, Fits, IsSound}
 use Rattle.columnar_core.specs.FaultLaws.{nothing_left, nothing_moved}
-use Rattle.columnar_core.specs.TwoParts.{two_left, two_right, two_own, two_fine}
+use Rattle.columnar_core.specs.TwoParts.{two_right, two_own, two_fine}
 use Rattle.columnar_core.specs.StoreLaws.{drop_at}
 use Rattle.columnar_core.specs.Elements.{elements_broken, first_slice}
 use Rattle.columnar_core.specs.WordViews.{words_in, bit_words, le_bytes}
 use Rattle.columnar_primitive.specs.Bits.{bit_in}
 use Rattle.columnar_primitive.specs.BoolColumns.{bits_in, bools_broken, bools_format}
 use Rattle.columnar_primitive.specs.BoolLaws.{SoundBools, bits_length}
-use Rattle.columnar_primitive.specs.BoolBytes.{built_at}
 use Rattle.columnar_sums.specs.Counting.{ones_below, counts_of, AreCounts, CountWords}
 use Rattle.columnar_sums.specs.RankColumns.{ranks_broken, ranks_format}
 use Rattle.columnar_sums.specs.RankLaws.{ranks_two, ranks_parts, counts_test, counts_in_words}

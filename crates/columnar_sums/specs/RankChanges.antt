@@ -1,25 +1,25 @@
 -- Columns of bits and counts that grow or are cut.
-use Rattle.std.proofs.Common.{◌≡◌, ℕ, zero, suc, ◌+◌, ◌-◌, ◌*◌, ◌/◌, ◌%◌, ◌^◌, ◌<◌, ◌≤◌, Bool, true, false, cond, List, [], ◌∷◌, ◌++◌, length, take, drop, map, refl, sym, ◌∙◌, ap, arith, length-append, ⊎_elim}
-use Rattle.std.specs.Prelude.{slice_index, slice_range, count_by, count_ones, Some, None}
-use Rattle.std.proofs.lemmas.List.{map-append, length-map, take-map, length-take-le, length-drop, take-append-le, get_or_append_left, get_or_push, length_push, take_at, nil_from_length}
+use Rattle.std.proofs.Common.{◌≡◌, ℕ, ◌+◌, ◌*◌, ◌/◌, ◌%◌, ◌^◌, ◌<◌, ◌≤◌, Bool, true, false, cond, List, [], ◌∷◌, ◌++◌, length, take, map, refl, sym, ◌∙◌, ap, arith, length-append, ⊎_elim}
+use Rattle.std.specs.Prelude.{slice_index, count_by, count_ones}
+use Rattle.std.proofs.lemmas.List.{map-append, length-map, take-map, length-take-le, take-append-le, get_or_append_left, get_or_push, length_push, take_at, nil_from_length}
 use Rattle.std.proofs.lemmas.Bool.{cases_lt}
 use Rattle.columnar_core.specs.Row.{Row, truth, row_eq, numbers_eq}
-use Rattle.columnar_core.specs.Format.{Content, slice, both, IsSound, lengths, fault, first, moved}
+use Rattle.columnar_core.specs.Format.{Content, slice, both, IsSound}
 use Rattle.columnar_core.specs.AlikeLaws.{alike_all, row_eq_same}
 use Rattle.columnar_core.specs.Change.{Keeps, Grew, Stayed, WasCut, Took, Copied, Refused}
-use Rattle.columnar_core.specs.ChangeLaws.{unchanged, undone}
+use Rattle.columnar_core.specs.ChangeLaws.{unchanged}
 use Rattle.columnar_core.specs.WordViews.{words_in, bit_words, le_bytes}
 use Rattle.columnar_core.specs.WordViewLaws.{length-words_in, length-le_bytes, words_cut}
 use Rattle.columnar_core.specs.declared.fault.GrowError.{GrowError}
 use Rattle.columnar_core.specs.declared.fault.GrowError.TheVariants.{Memory, Length, Offset, Format as FormatError}
 use Rattle.columnar_primitive.specs.Bits.{bit_in}
 use Rattle.columnar_primitive.specs.BoolColumns.{IsOfGrowth, bit_count, bits_in, bools_format}
-use Rattle.columnar_primitive.specs.BoolLaws.{SoundBools, Added, length_words_back, bools_parts, bools_sound, bools_took, bools_past, bits_length, bits_from_rows, words_of_bits, words_grown}
+use Rattle.columnar_primitive.specs.BoolLaws.{SoundBools, length_words_back, bools_parts, bools_took, bools_past, bits_length, bits_from_rows, words_of_bits, words_grown}
 use Rattle.columnar_sums.specs.Counting.{ones, ones_below, AreCounts, CountWords, counts_of, count_before}
 use Rattle.columnar_sums.specs.CountLaws.{ones_word_whole, ones_below_le, count_before_is}
 use Rattle.columnar_sums.specs.CountsKept.{counts_stay, counts_grow, counts_cut, counts_none}
 use Rattle.columnar_sums.specs.RankColumns.{ranks_format}
-use Rattle.columnar_sums.specs.RankLaws.{SoundRanks, ranks_parts, ranks_sound, ones_bits, bytes_of_counts, counts_from, counts_test, words_length}
+use Rattle.columnar_sums.specs.RankLaws.{SoundRanks, ranks_parts, ranks_sound, ones_bits, bytes_of_counts, counts_from}
 
 abbrev three : List ℕ → List ℕ → List ℕ → Content
 three c a b = both (slice c) (both (slice a) (slice b))

@@ -1,7 +1,7 @@
 -- Columns of truth values with counts, and where a cursor over them stands.
-use Rattle.std.specs.Prelude.{ℕ, Bool, true, false, List, [], ◌∷◌, ◌++◌, ◌≡◌, ◌≤◌, ◌<◌, ◌+◌, ◌*◌, ◌/◌, ◌&&◌, length, map, drop, nat_eq, slice_index_or, Vec}
+use Rattle.std.specs.Prelude.{ℕ, Bool, true, false, List, [], ◌∷◌, ◌++◌, ◌≡◌, ◌≤◌, ◌<◌, ◌+◌, ◌*◌, ◌/◌, length, map, drop, slice_index_or, Vec}
 use Rattle.std.specs.Global.{Global}
-use Rattle.columnar_core.specs.Row.{Row, truth, row_eq, numbers_eq}
+use Rattle.columnar_core.specs.Row.{truth, row_eq, numbers_eq}
 use Rattle.columnar_core.specs.Format.{Format, Content, slice, both, part, plain, Fault, fault, moved, unless, misfit, IsSound}
 use Rattle.columnar_core.specs.Elements.{elements_broken, first_slice, past_count}
 use Rattle.columnar_core.specs.WordViews.{words_in, bytes_of, le_bytes}

@@ -1,29 +1,24 @@
-use Rattle.std.proofs.Common.{◌≡◌, ℕ, zero, suc, ◌+◌, ◌-◌, ◌*◌, ◌/◌, ◌%◌, ◌^◌, ◌<◌, ◌≤◌, Bool, true, false, eqb, ◌&&◌, List, [], ◌∷◌, ◌++◌, length, take, drop, map, get_or, Some, None, refl, sym, ◌∙◌, ap, arith, length-append, subst, ⊎_elim, add-zero}
-use Rattle.std.specs.Prelude.{slice_get, slice_index, slice_index_or, nat_eq, Option, MatchOption}
-use Rattle.std.specs.List.{range_with_len}
+use Rattle.std.proofs.Common.{◌≡◌, ℕ, zero, suc, ◌+◌, ◌-◌, ◌*◌, ◌/◌, ◌%◌, ◌^◌, ◌<◌, ◌≤◌, Bool, true, false, List, [], ◌∷◌, ◌++◌, length, take, map, Some, None, refl, sym, ◌∙◌, ap, arith, ⊎_elim, add-zero}
+use Rattle.std.specs.Prelude.{slice_index_or, nat_eq, Option, MatchOption}
 use Rattle.std.proofs.Math.Path.{ap₂}
-use Rattle.std.proofs.lemmas.List.{map-append, length-map, take-map, length-take-le, length_push, get_or_past}
+use Rattle.std.proofs.lemmas.List.{length-map, length_push, get_or_past}
 use Rattle.std.proofs.lemmas.List.FromFn.{fill_by_all, length-map-range_with_len, get_or-map-range_with_len}
-use Rattle.std.proofs.lemmas.Bool.{and_parts, and_from, eqb-true, eq-eqb, cases_lt, cases_Bool, true≢false}
-use Rattle.columnar_core.specs.Row.{Row, truth, row_eq, numbers_eq}
-use Rattle.columnar_core.specs.Format.{Format, Content, slice, both, part, plain, IsSound, IsLawful, IsStorable, lengths, slices_of, Fault, fault, moved, unless, Excess, too_many, misplaced}
+use Rattle.std.proofs.lemmas.Bool.{and_parts, and_from, eqb-true, eq-eqb, cases_lt, true≢false}
+use Rattle.columnar_core.specs.Row.{truth, numbers_eq}
+use Rattle.columnar_core.specs.Format.{Content, slice, both, part, plain, IsSound, IsLawful, IsStorable, lengths, slices_of, Fault, fault, moved, unless}
 use Rattle.columnar_core.specs.FaultLaws.{nothing_left, nothing_both, nothing_moved, moved_nothing, unless_true, true_unless}
-use Rattle.columnar_core.specs.AlikeLaws.{alike_all, row_eq_same}
-use Rattle.columnar_core.specs.Change.{Keeps, Grew, Stayed, WasCut, Took, Copied, Refused}
-use Rattle.columnar_core.specs.ChangeLaws.{unchanged}
-use Rattle.columnar_core.specs.Elements.{elements_broken, elements_format, first_slice, past_count, word_row_of}
+use Rattle.columnar_core.specs.AlikeLaws.{row_eq_same}
+use Rattle.columnar_core.specs.Elements.{elements_broken, elements_format, word_row_of}
 use Rattle.columnar_core.specs.TwoParts.{TwoParts}
 use Rattle.columnar_core.specs.WordViews.{words_in, bytes_of, bit_words}
-use Rattle.columnar_core.specs.WordViewLaws.{length-words_in, length-le_bytes}
-use Rattle.columnar_core.specs.declared.fault.GrowError.{GrowError}
-use Rattle.columnar_core.specs.declared.fault.GrowError.TheVariants.{Memory, Length, Offset, Format as FormatError}
-use Rattle.columnar_primitive.specs.Bits.{bit, bit_in, truths, bits_of}
-use Rattle.columnar_primitive.specs.BitLaws.{get_or-bits_of, bit_in_word, bit_in_tail, bit_above, length-truths}
-use Rattle.columnar_primitive.specs.BoolColumns.{IsOfGrowth, last_word, last_count, bit_count, bits_in, bools_broken, bools_bits, bools_format}
+use Rattle.columnar_core.specs.WordViewLaws.{length-words_in}
+use Rattle.columnar_primitive.specs.Bits.{bit_in, bits_of}
+use Rattle.columnar_primitive.specs.BitLaws.{get_or-bits_of, bit_in_tail, bit_above, length-truths}
+use Rattle.columnar_primitive.specs.BoolColumns.{last_word, last_count, bit_count, bits_in, bools_broken, bools_bits, bools_format}
 use Rattle.columnar_primitive.specs.BoolLaws.{SoundBools, bools_parts, bools_sound, bools_form, bools_lawful, bits_length, words_of_bits}
 use Rattle.columnar_sums.specs.Counting.{ones, place, ones_below, counts_of, AreCounts, CountWords}
 use Rattle.columnar_sums.specs.CountLaws.{ones_truths, ones_below_mono, ones_yes, ones_no, place_some, place_none, inside}
-use Rattle.columnar_sums.specs.RankColumns.{ranks_broken, ranks_bits, ranks_format, IsNextTrue, AreFalseFrom, AreClear}
+use Rattle.columnar_sums.specs.RankColumns.{ranks_format, IsNextTrue, AreFalseFrom, AreClear}
 
 -- counts as a test
 

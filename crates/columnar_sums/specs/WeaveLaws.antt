@@ -1,12 +1,12 @@
 -- Bits and the values of the set ones.
-use Rattle.std.proofs.Common.{◌≡◌, ℕ, zero, suc, ◌+◌, ◌-◌, ◌<◌, ◌≤◌, Bool, true, false, ◌&&◌, List, [], ◌∷◌, ◌++◌, length, take, drop, map, refl, sym, ◌∙◌, ap, arith, pred, length-append, append_assoc, subst}
-use Rattle.std.specs.Prelude.{slice_get, Some, None, slice_range}
+use Rattle.std.proofs.Common.{◌≡◌, ℕ, zero, suc, ◌+◌, ◌-◌, ◌<◌, ◌≤◌, Bool, true, false, List, [], ◌∷◌, ◌++◌, length, take, drop, map, refl, sym, ◌∙◌, ap, arith, pred, append_assoc, subst}
+use Rattle.std.specs.Prelude.{slice_get, Some}
 use Rattle.std.proofs.lemmas.Bool.{and_parts, and_from}
-use Rattle.columnar_core.specs.Row.{Row, truth, unit, none, some, row_eq}
+use Rattle.columnar_core.specs.Row.{Row, truth, unit, none, some}
 use Rattle.columnar_core.specs.Format.{IsSame, all_alike}
 use Rattle.columnar_sums.specs.Counting.{ones}
 use Rattle.columnar_sums.specs.CountLaws.{ones_zero, ones_true, ones_false}
-use Rattle.columnar_sums.specs.Options.{weave, value_of, somes, option_alike, bare_option, inner_of}
+use Rattle.columnar_sums.specs.Options.{weave, value_of, somes, option_alike}
 
 -- counting
 

@@ -1,9 +1,9 @@
-use Rattle.std.proofs.Common.{◌≡◌, ℕ, List, length, sym, ◌∙◌, refl, false, true}
-use Rattle.std.specs.Prelude.{None, Some}
+use Rattle.std.proofs.Common.{◌≡◌, ℕ, List, length, ◌∙◌, refl}
+use Rattle.std.specs.Prelude.{None}
 use Rattle.columnar_core.specs.Format.{Format, first, faults_at}
 use Rattle.columnar_core.specs.Faults.{fault_of}
 use Rattle.columnar_core.specs.Frame.{framed_slices}
-use Rattle.columnar_bytes.specs.Accepted.{Accepted, Accepts}
+use Rattle.columnar_bytes.specs.Accepted.{Accepted}
 use Rattle.columnar_bytes.specs.AcceptedLaws.{accepts_from, sound_found, fault_found, refused_by}
 use Rattle.columnar_bytes.proofs.indexed.validation.validate_tallied.Goals as goal
 

@@ -1,4 +1,4 @@
-use Rattle.std.proofs.Common.{◌≡◌, ◌∙◌}
+use Rattle.std.proofs.Common.{◌∙◌}
 use Rattle.columnar_bytes.specs.Stashes.{stash_content}
 use Rattle.columnar_bytes.specs.StashLaws.{stash_counted, encoding_accepted, encoding_again}
 use Rattle.columnar_bytes.proofs.stash.Stash.aligned.Goals as goal

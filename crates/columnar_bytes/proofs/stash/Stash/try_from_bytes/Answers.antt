@@ -1,4 +1,4 @@
-use Rattle.std.proofs.Common.{◌≡◌, ℕ, List, subst}
+use Rattle.std.proofs.Common.{ℕ, List, subst}
 use Rattle.columnar_bytes.specs.Accepted.{IsFirstFault}
 use Rattle.columnar_bytes.proofs.stash.Stash.try_from_bytes.Goals as goal
 

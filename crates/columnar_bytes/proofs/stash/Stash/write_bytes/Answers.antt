@@ -1,4 +1,3 @@
-use Rattle.std.proofs.Common.{◌≡◌}
 use Rattle.columnar_core.specs.Format.{slices_of}
 use Rattle.columnar_bytes.specs.StashLaws.{written_accepted, written_again, left_of}
 use Rattle.columnar_bytes.proofs.stash.Stash.write_bytes.Goals as goal

@@ -1,4 +1,4 @@
-use Rattle.std.proofs.Common.{◌≡◌, arith, rules}
+use Rattle.std.proofs.Common.{rules}
 use Rattle.columnar_bytes.specs.States.{state_of}
 use Rattle.columnar_bytes.specs.MachineLaws.{run_more}
 use Rattle.columnar_bytes.proofs.stash.commands.run.Goals as goal

@@ -1,4 +1,4 @@
-use Rattle.std.proofs.Common.{ℕ, List, Bool, true, false, [], ◌∷◌, ◌≡◌, ◌+◌, ◌-◌, ◌<◌, ◌≤◌, length, take, drop, map, refl, sym, ap, ◌∙◌, arith, subst}
+use Rattle.std.proofs.Common.{refl, sym, ◌∙◌}
 use Rattle.columnar_sums.specs.OptionLaws.{options_parts, options_all, options_are_some, options_some_back}
 use Rattle.columnar_sums.proofs.option.Options.try_unwrap.Goals as goal
 

@@ -1,4 +1,4 @@
-use Rattle.std.proofs.Common.{ℕ, List, Bool, true, false, [], ◌∷◌, ◌≡◌, ◌+◌, ◌-◌, ◌<◌, ◌≤◌, length, take, drop, map, refl, sym, ap, ◌∙◌, arith, subst}
+use Rattle.std.proofs.Common.{arith}
 use Rattle.columnar_sums.specs.OptionLaws.{options_parts, options_bit, options_within, options_value, options_some, options_absent}
 use Rattle.columnar_sums.specs.RankColumns.{ranks_content}
 use Rattle.columnar_sums.proofs.option.OptionsIndex.get.Goals as goal

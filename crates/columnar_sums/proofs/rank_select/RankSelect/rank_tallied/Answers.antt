@@ -1,4 +1,4 @@
-use Rattle.std.proofs.Common.{◌≡◌, ◌∙◌, sym}
+use Rattle.std.proofs.Common.{◌∙◌, sym}
 use Rattle.columnar_sums.specs.RankLaws.{ranks_parts, counts_reach, counts_exact, ones_bits}
 use Rattle.columnar_sums.proofs.rank_select.RankSelect.rank_tallied.Goals as goal
 

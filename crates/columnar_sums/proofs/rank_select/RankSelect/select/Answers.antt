@@ -1,4 +1,3 @@
-use Rattle.std.proofs.Common.{List, Bool}
 use Rattle.columnar_sums.specs.CountsKept.{found_set, found_none, found_past}
 use Rattle.columnar_sums.proofs.rank_select.RankSelect.select.Goals as goal
 

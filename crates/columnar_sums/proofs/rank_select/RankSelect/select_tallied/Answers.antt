@@ -1,4 +1,3 @@
-use Rattle.std.proofs.Common.{◌≡◌}
 use Rattle.columnar_sums.specs.RankLaws.{ranks_parts, counts_cover, counts_exact, words_few, found_place}
 use Rattle.columnar_sums.proofs.rank_select.RankSelect.select_tallied.Goals as goal
 

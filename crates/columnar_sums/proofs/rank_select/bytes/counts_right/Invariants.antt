@@ -1,4 +1,4 @@
-use Rattle.std.proofs.Common.{◌≡◌, ◌+◌, ◌*◌, ◌/◌, ◌<◌, length}
+use Rattle.std.proofs.Common.{◌≡◌, ◌+◌, ◌*◌, ◌/◌}
 use Rattle.columnar_core.specs.WordViews.{bit_words, view_bytes, view_words}
 use Rattle.columnar_primitive.specs.Bits.{bit_in}
 use Rattle.columnar_sums.specs.Counting.{ones_below}

@@ -1,4 +1,4 @@
-use Rattle.std.proofs.Common.{◌≡◌, refl, ◌∙◌}
+use Rattle.std.proofs.Common.{refl}
 use Rattle.columnar_sums.specs.PlaceLaws.{ones_passed, at_later}
 use Rattle.columnar_sums.proofs.rank_select.cursor.skip_in.Goals as goal
 

@@ -1,8 +1,6 @@
-use Rattle.std.proofs.Common.{◌≡◌, List, [], take, drop, length, refl, ap}
+use Rattle.std.proofs.Common.{[], take, refl, ap}
 use Rattle.std.proofs.lemmas.Bool.{leb-true}
-use Rattle.columnar_core.specs.Row.{Row}
 use Rattle.columnar_bytes.specs.Stashes.{stash_content}
-use Rattle.columnar_bytes.specs.Machine.{in_range, order_of}
 use Rattle.columnar_bytes.specs.MachineLaws.{copy_ordered, copy_within, took_alike, same_alike}
 use Rattle.columnar_bytes.proofs.stash.commands.Stash+C+Vec+u8.act.Goals as goal
 

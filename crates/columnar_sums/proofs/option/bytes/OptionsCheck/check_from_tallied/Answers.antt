@@ -1,6 +1,6 @@
-use Rattle.std.proofs.Common.{ℕ, List, Bool, true, false, [], ◌∷◌, ◌≡◌, ◌+◌, ◌-◌, ◌<◌, ◌≤◌, length, take, drop, map, refl, sym, ap, ◌∙◌, arith, subst}
+use Rattle.std.proofs.Common.{◌+◌, sym, ◌∙◌}
 use Rattle.columnar_sums.specs.OptionLaws.{options_two, options_turns, ranks_bytes}
-use Rattle.columnar_sums.specs.RankColumns.{ranks_content, owned_ranks, ranks_format}
+use Rattle.columnar_sums.specs.RankColumns.{ranks_content, ranks_format}
 use Rattle.columnar_core.specs.TwoParts.{two_right, two_fine, two_own}
 use Rattle.columnar_core.specs.FaultLaws.{sound_from}
 use Rattle.columnar_core.specs.Faults.{fault_of}

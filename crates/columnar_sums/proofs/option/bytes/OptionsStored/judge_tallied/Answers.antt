@@ -1,7 +1,7 @@
-use Rattle.std.proofs.Common.{ℕ, List, Bool, true, false, [], ◌∷◌, ◌≡◌, ◌+◌, ◌-◌, ◌<◌, ◌≤◌, length, take, drop, map, refl, sym, ap, ◌∙◌, arith, subst}
+use Rattle.std.proofs.Common.{◌+◌, drop, sym, ◌∙◌, arith}
 use Rattle.columnar_sums.specs.OptionLaws.{options_two, options_turns, options_held, ranks_bytes}
-use Rattle.columnar_sums.specs.RankColumns.{ranks_content, owned_ranks, ranks_format}
-use Rattle.columnar_core.specs.TwoParts.{two_right_at, two_fine_at, two_own_at, two_turns}
+use Rattle.columnar_sums.specs.RankColumns.{ranks_format}
+use Rattle.columnar_core.specs.TwoParts.{two_right_at, two_fine_at, two_own_at}
 use Rattle.columnar_core.specs.FaultLaws.{fits_from}
 use Rattle.columnar_core.specs.Faults.{fault_of}
 use Rattle.columnar_core.specs.Format.{bytes_held}

@@ -1,4 +1,4 @@
-use Rattle.std.proofs.Common.{ℕ, List, Bool, true, false, [], ◌∷◌, ◌≡◌, ◌+◌, ◌-◌, ◌<◌, ◌≤◌, length, take, drop, map, refl, sym, ap, ◌∙◌, arith, subst}
+use Rattle.std.proofs.Common.{◌+◌, refl}
 use Rattle.columnar_sums.specs.OptionLaws.{options_at, options_fits}
 use Rattle.columnar_core.specs.Store.{slices_in}
 use Rattle.columnar_sums.proofs.option.bytes.OptionsVecU64VecU64ArrayU642ContainerBytes.load.Goals as goal

@@ -1,4 +1,3 @@
-use Rattle.std.proofs.Common.{ℕ, List, Bool, true, false, [], ◌∷◌, ◌≡◌, ◌+◌, ◌-◌, ◌<◌, ◌≤◌, length, take, drop, map, refl, sym, ap, ◌∙◌, arith, subst}
 use Rattle.columnar_sums.specs.OptionLaws.{options_at}
 use Rattle.columnar_core.specs.Store.{slices_in}
 use Rattle.columnar_sums.proofs.option.bytes.OptionsViewU64ViewU64ViewU64FromBytes.from_store.Goals as goal

@@ -1,4 +1,3 @@
-use Rattle.std.proofs.Common.{ℕ, List, Bool, true, false, [], ◌∷◌, ◌≡◌, ◌+◌, ◌-◌, ◌<◌, ◌≤◌, length, take, drop, map, refl, sym, ap, ◌∙◌, arith, subst}
 use Rattle.columnar_sums.specs.OptionLaws.{options_parts, options_took_some, options_took_none, options_refused_value, options_refused_true, options_refused_false}
 use Rattle.columnar_core.specs.ChangeLaws.{undone}
 use Rattle.columnar_sums.proofs.option.grow.OptionsAnyVecU64VecU64ArrayU642PushRefOptionAnyImpl6a947abb.push_ref.Goals as goal

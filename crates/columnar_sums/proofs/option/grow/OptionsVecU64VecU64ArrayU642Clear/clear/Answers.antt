@@ -1,6 +1,5 @@
-use Rattle.std.proofs.Common.{ℕ, List, Bool, true, false, [], ◌∷◌, ◌≡◌, ◌+◌, ◌-◌, ◌<◌, ◌≤◌, length, take, drop, map, refl, sym, ap, ◌∙◌, arith, subst}
+use Rattle.std.proofs.Common.{[], refl}
 use Rattle.columnar_sums.specs.OptionLaws.{options_none}
-use Rattle.columnar_sums.specs.WeaveLaws.{length-weave}
 use Rattle.columnar_primitive.specs.BoolLaws.{bits_from_rows}
 use Rattle.columnar_sums.proofs.option.grow.OptionsVecU64VecU64ArrayU642Clear.clear.Goals as goal
 

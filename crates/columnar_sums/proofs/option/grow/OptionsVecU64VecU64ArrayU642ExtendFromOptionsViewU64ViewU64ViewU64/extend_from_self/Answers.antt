@@ -1,6 +1,6 @@
-use Rattle.std.proofs.Common.{ℕ, List, Bool, true, false, [], ◌∷◌, ◌≡◌, ◌+◌, ◌-◌, ◌<◌, ◌≤◌, length, take, drop, map, refl, sym, ap, ◌∙◌, arith, subst}
+use Rattle.std.proofs.Common.{arith}
 use Rattle.columnar_sums.specs.OptionLaws.{options_parts, options_within, options_top, options_copied_range, options_refused_values_range, options_refused_bits_range}
-use Rattle.columnar_sums.specs.RankColumns.{ranks_content, owned_ranks, ranks_format}
+use Rattle.columnar_sums.specs.RankColumns.{ranks_content}
 use Rattle.std.proofs.lemmas.List.{length-map}
 use Rattle.columnar_core.specs.Row.{truth}
 use Rattle.columnar_core.specs.ChangeLaws.{undone, unchanged}

@@ -1,4 +1,3 @@
-use Rattle.std.proofs.Common.{ℕ, List, Bool, true, false, [], ◌∷◌, ◌≡◌, ◌+◌, ◌-◌, ◌<◌, ◌≤◌, length, take, drop, map, refl, sym, ap, ◌∙◌, arith, subst}
 use Rattle.columnar_sums.specs.OptionLaws.{options_none}
 use Rattle.columnar_sums.proofs.option.grow.OptionsVecU64VecU64ArrayU642Storage.empty.Goals as goal
 

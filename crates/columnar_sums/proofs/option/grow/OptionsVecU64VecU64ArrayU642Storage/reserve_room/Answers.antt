@@ -1,4 +1,3 @@
-use Rattle.std.proofs.Common.{ℕ, List, Bool, true, false, [], ◌∷◌, ◌≡◌, ◌+◌, ◌-◌, ◌<◌, ◌≤◌, length, take, drop, map, refl, sym, ap, ◌∙◌, arith, subst}
 use Rattle.columnar_sums.specs.OptionLaws.{options_parts, options_stayed}
 use Rattle.columnar_core.specs.ChangeLaws.{unchanged}
 use Rattle.columnar_sums.proofs.option.grow.OptionsVecU64VecU64ArrayU642Storage.reserve_room.Goals as goal

@@ -1,4 +1,4 @@
-use Rattle.std.proofs.Common.{◌≡◌, ◌∙◌, ap}
+use Rattle.std.proofs.Common.{◌∙◌, ap}
 use Rattle.columnar_core.specs.Store.{slices_in}
 use Rattle.columnar_core.specs.WordViews.{bytes_of}
 use Rattle.columnar_sums.specs.RankBytes.{ranks_bools_at, ranks_rows_at}

@@ -1,4 +1,4 @@
-use Rattle.std.proofs.Common.{◌≡◌, arith}
+use Rattle.std.proofs.Common.{arith}
 use Rattle.columnar_sums.specs.CursorLaws.{stands_words, stands_found, stands_ended}
 use Rattle.columnar_sums.proofs.rank_select.cursor.Cursor.next_one_tallied.Goals as goal
 

@@ -1,4 +1,4 @@
-use Rattle.std.proofs.Common.{◌≡◌, ◌≤◌, ◌+◌, ◌∙◌, ℕ, List, length, arith, ap, min}
+use Rattle.std.proofs.Common.{◌∙◌, arith}
 use Rattle.columnar_sums.specs.CursorLaws.{stands_place}
 use Rattle.columnar_sums.proofs.rank_select.cursor.Cursor.seek_to_rank_tallied.Goals as goal
 

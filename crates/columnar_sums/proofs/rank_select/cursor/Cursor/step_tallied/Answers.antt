@@ -1,4 +1,4 @@
-use Rattle.std.proofs.Common.{◌≡◌, ◌<◌, ℕ, List, length, arith}
+use Rattle.std.proofs.Common.{◌<◌, ℕ, List, length, arith}
 use Rattle.columnar_primitive.specs.BoolColumns.{bits_in}
 use Rattle.columnar_primitive.specs.BoolLaws.{bits_length}
 use Rattle.columnar_sums.specs.RankLaws.{length-ranks}

@@ -1,5 +1,5 @@
-use Rattle.std.proofs.Common.{◌≡◌, ◌-◌, ◌+◌, ap, length, take, drop, map}
-use Rattle.std.specs.Prelude.{Err, slice_range}
+use Rattle.std.proofs.Common.{ap}
+use Rattle.std.specs.Prelude.{Err}
 use Rattle.columnar_core.specs.WordViews.{view_bytes}
 use Rattle.columnar_primitive.specs.BoolColumns.{bits_in}
 use Rattle.columnar_primitive.specs.BoolLaws.{rows_between, length_between}

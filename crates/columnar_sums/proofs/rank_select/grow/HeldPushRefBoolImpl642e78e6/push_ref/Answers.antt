@@ -1,4 +1,4 @@
-use Rattle.std.proofs.Common.{◌∷◌, [], ap}
+use Rattle.std.proofs.Common.{ap}
 use Rattle.std.specs.Prelude.{Err}
 use Rattle.columnar_sums.specs.RankLaws.{ranks_parts}
 use Rattle.columnar_sums.specs.RankChanges.{ranks_took, ranks_refused}

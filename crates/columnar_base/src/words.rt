@@ -4,7 +4,7 @@ ghost use Rattle.columnar_base.specs.WordViews.{word, words_in, le_bytes, view_b
 
 use crate::view::{Items, View, element_at, element_in};
 
-/// Words that can be viewed.
+/// Words of 64 bits that can be viewed: one alone, two in an array, those of a `Vec`, or a view of any of these.
 pub trait Words {
     // the bytes of the words, each lowest first
     ghost bytes: { Self → List ℕ };

@@ -47,8 +47,7 @@ tried_err k hs bs h sound e =
     cc)
     (cases_eq (length (bounds_rows (slice bs))) 0)
 
--- a head is two words
-
+-- a head of two words is sound as words
 pub head_sound : (hs : List ℕ) → length hs ≡ 16 → IsSound words_format (slice hs)
 head_sound hs l = record { accepted = true_unless (nat_eq (length hs % 8) 0) (fault 8 0) (eq-eqb (length hs % 8) 0 (omega arith)) }
 

@@ -1,4 +1,4 @@
--- What a stash ends as, once the column that it lent has come back.
+-- What a stash ends as, once what it lent has come back.
 use Rattle.std.specs.Borrow.{Fml, RattleType, MutBor, LendsIfOk, follows_so}
 use Rattle.std.specs.Prelude.{Result, ⊤}
 use mathlib.Core.Option.{none}

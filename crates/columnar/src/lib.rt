@@ -14,11 +14,14 @@ pub mod vector;
 
 pub use columnar_core::bytes::{AsBytes, Check, FromBytes, Stored};
 pub use columnar_core::container::{
-    Borrow, Container, ContainerBytes, ExtendFrom, Reborrow, ReborrowRef, Storage,
+    Borrow, Container, ContainerBytes, ExtendFrom, Reborrow, ReborrowRef, Reserve, Storage,
+    Truncate,
 };
 pub use columnar_core::offsets::{Offsets, StoredOffsets};
 pub use columnar_core::slice::Slice;
-pub use columnar_core::traits::{Clear, Column, CopyAs, Index, IndexAs, Item, Len, Push, PushRef};
+pub use columnar_core::traits::{
+    Clear, Column, CopyAs, Index, IndexAs, Item, Len, Push, PushInto, PushRef,
+};
 pub use columnar_lists::vector::Vecs;
 pub use columnar_sums::option::Options;
 pub use columnar_sums::rank_select::{RankSelect, RankSelectCursor};

@@ -6,6 +6,7 @@ ghost use Rattle.columnar_bytes.specs.Stashes.{stash_content, variant_of, bytes}
 mod bounds;
 mod depth;
 mod options;
+mod records;
 mod refused;
 mod stash;
 mod values;
@@ -28,7 +29,7 @@ fn bytes_of(alloc: Global, words: &[u64]) -> Result<Vec<u8>, Error> {
 }
 
 // The number of the rule that words break as the store of a type, and its slice; 0 where they break none
-fn refusal<C: ContainerBytes>(alloc: Global, words: &[u64]) -> Result<(u8, usize), Error>
+fn refusal<C: Stored + Drop>(alloc: Global, words: &[u64]) -> Result<(u8, usize), Error>
     requires { IsTrue (representable C.format) }
 {
     let bytes = bytes_of(alloc, words)?;
@@ -53,7 +54,7 @@ fn front<T>(items: &[T], len: usize) -> &[T] {
 }
 
 // Row `index`, where there is one
-fn row_at<V: Index>(view: &V, index: usize) -> Option<V::Ref>
+fn row_at<V: Index + Len>(view: &V, index: usize) -> Option<V::Ref>
     requires { IsSound V.format (V.content view.now) }
     ensures { IfSome result V.Ref.valid }
 {
@@ -65,7 +66,7 @@ fn row_at<V: Index>(view: &V, index: usize) -> Option<V::Ref>
 }
 
 // Pushes rows of a view as one row; false where they are not there, or where the push is refused
-fn pushed<V: Index + Copy, C: Push<Slice<V>>>(
+fn pushed<V: Len + Copy, C: Push<Slice<V>>>(
     column: &mut C,
     view: V,
     lower: usize,
@@ -82,7 +83,7 @@ fn pushed<V: Index + Copy, C: Push<Slice<V>>>(
 }
 
 // Copies rows of a view behind those of a container; false where they are not there, or where the copy is refused
-fn copied<V: Index + Copy, C: ExtendFrom<V>>(
+fn copied<V: Len + Copy, C: ExtendFrom<V>>(
     column: &mut C,
     view: V,
     start: usize,
@@ -99,7 +100,7 @@ fn copied<V: Index + Copy, C: ExtendFrom<V>>(
 }
 
 // The stash of words that are accepted, where they are
-fn opened<C: ContainerBytes>(alloc: Global, words: &[u64]) -> Option<Stash<C, Vec<u8>>>
+fn opened<C: Stored>(alloc: Global, words: &[u64]) -> Option<Stash<C, Vec<u8>>>
     requires { IsTrue (representable C.format) }
     ensures sound { IfSome result (λ s. IsSound C.format (stash_content s)) }
     ensures variant { IfSome result (λ s. variant_of s ≡ bytes) }
@@ -133,7 +134,7 @@ fn reopened<C: ContainerBytes, B: ByteStore>(
 }
 
 // Row `index` of a stash, where there is one
-fn row_of<'a, C: ContainerBytes + Borrow<'a, Borrowed: FromBytes<'a>>, B: ByteStore>(
+fn row_of<'a, C: Stored + Borrow<'a, Borrowed: FromBytes<'a>>, B: ByteStore>(
     stash: &'a Stash<C, B>,
     index: usize,
 ) -> Option<C::Ref>
@@ -215,7 +216,7 @@ fn variant<C: Stored, B: ByteStore>(stash: &Stash<C, B>) -> u8 {
 }
 
 // Has a stash of numbers these rows?
-fn has<'a, C: ContainerBytes + Borrow<'a, Ref = u64, Borrowed: FromBytes<'a>>, B: ByteStore>(
+fn has<'a, C: Stored + Len + Borrow<'a, Ref = u64, Borrowed: FromBytes<'a>>, B: ByteStore>(
     stash: &'a Stash<C, B>,
     rows: &[u64],
 ) -> bool

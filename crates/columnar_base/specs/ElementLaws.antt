@@ -64,14 +64,14 @@ whole_times size n h = omega (arith, div-add-mod n size)
 word_value : (n : ℕ) → from_le_bytes w64 (to_le_bytes w64 n) ≡ n % 2 ^ 64
 word_value n = omega arith
 
-pub elements_sound : {T : Type 0} {size : ℕ} {bytes : T → List ℕ} (row_of : List ℕ → Row) {meaning : T → Row} → IsElement size bytes row_of meaning → (xs : List T) → IsSound (elements_format size row_of) (elements bytes xs)
+pub elements_sound : {align : ℕ} {T : Type 0} {size : ℕ} {bytes : T → List ℕ} (row_of : List ℕ → Row) {meaning : T → Row} → IsElement size bytes row_of meaning → (xs : List T) → IsSound (elements_format size align row_of) (elements bytes xs)
 elements_sound {T} {size} {bytes} row_of e xs =
     let l : length (flat_map bytes xs) ≡ size * length xs = length-flat size bytes e.sized xs in
     let m : length (flat_map bytes xs) % size ≡ 0 = rw l (mul-mod_right size (length xs)) in
     record { accepted = true_unless (nat_eq (length (flat_map bytes xs) % size) 0) (fault 8 0) (eq-eqb _ _ m) }
 
 -- a whole number of elements
-pub whole_slice : (size : ℕ) (row_of : List ℕ → Row) (bs : List ℕ) → IsSound (elements_format size row_of) (slice bs) → length bs % size ≡ 0
+pub whole_slice : {align : ℕ} (size : ℕ) (row_of : List ℕ → Row) (bs : List ℕ) → IsSound (elements_format size align row_of) (slice bs) → length bs % size ≡ 0
 whole_slice size row_of bs s = eqb-true _ _ (unless_true (nat_eq (length bs % size) 0) (fault 8 0) s.accepted)
 
 pub length-elements : (size : ℕ) (row_of : List ℕ → Row) (bs : List ℕ) → length (elements_rows size row_of (slice bs)) ≡ length bs / size
@@ -90,11 +90,11 @@ row_at size row_of bs i l =
 pub row_typed : {T : Type 0} {size : ℕ} {bytes : T → List ℕ} {row_of : List ℕ → Row} {meaning : T → Row} → IsElement size bytes row_of meaning → (xs : List T) (i : ℕ) (x : T) → slice_get xs i ≡ Some x → slice_get (elements_rows size row_of (elements bytes xs)) i ≡ Some (meaning x)
 row_typed e xs i x h = rw (rows_typed e xs, slice_get-map, h) refl
 
-past_more : (e : Excess) (m n : ℕ) → m ≤ n → past_count e m ≡ true → past_count e n ≡ true
+pub past_more : (e : Excess) (m n : ℕ) → m ≤ n → past_count e m ≡ true → past_count e n ≡ true
 past_more too_many m n l h = lt-ltb (2 ^ 64 - 1) n (omega (arith, ltb-true (2 ^ 64 - 1) m h))
 past_more misplaced m n l h = h
 
-elements_full : (size : ℕ) (row_of : List ℕ → Row) → (c : Content) → IsSound (elements_format size row_of) c → (elements_format size row_of).extent c (length (elements_rows size row_of c)) ≡ lengths c
+elements_full : {align : ℕ} (size : ℕ) (row_of : List ℕ → Row) → (c : Content) → IsSound (elements_format size align row_of) c → (elements_format size align row_of).extent c (length (elements_rows size row_of c)) ≡ lengths c
 elements_full size row_of (slice bs) s =
     let m = whole_slice size row_of bs s in
     let d : size * (length bs / size) ≡ length bs = whole_times size (length bs) m in
@@ -103,47 +103,53 @@ elements_full size row_of (both x y) s = cc
 elements_full size row_of (part l u x) s = cc
 elements_full size row_of (plain rs) s = cc
 
-elements_rebuilt : (size : ℕ) (row_of : List ℕ → Row) → (c : Content) (rest : List (List ℕ)) → IsSound (elements_format size row_of) c → first_slice (slices_of c ++ rest) ≡ c
+elements_rebuilt : {align : ℕ} (size : ℕ) (row_of : List ℕ → Row) → (c : Content) (rest : List (List ℕ)) → IsSound (elements_format size align row_of) c → first_slice (slices_of c ++ rest) ≡ c
 elements_rebuilt size row_of (slice bs) rest s = refl
 elements_rebuilt size row_of (both x y) rest s = cc
 elements_rebuilt size row_of (part l u x) rest s = cc
 elements_rebuilt size row_of (plain rs) rest s = cc
 
-elements_built : (size : ℕ) (row_of : List ℕ → Row) (ss : List (List ℕ)) → 1 ≤ length ss → IsSound (elements_format size row_of) (first_slice ss) → slices_of (first_slice ss) ≡ take 1 ss
-elements_built size row_of [] l s = absurd (omega arith)
-elements_built size row_of (bs ∷ rest) l s = refl
+pub first_built : (ss : List (List ℕ)) → 1 ≤ length ss → slices_of (first_slice ss) ≡ take 1 ss
+first_built [] l = absurd (omega arith)
+first_built (bs ∷ rest) l = refl
 
-elements_counted : (size : ℕ) (row_of : List ℕ → Row) → (c : Content) → IsSound (elements_format size row_of) c → length (slices_of c) ≡ 1
+elements_counted : {align : ℕ} (size : ℕ) (row_of : List ℕ → Row) → (c : Content) → IsSound (elements_format size align row_of) c → length (slices_of c) ≡ 1
 elements_counted size row_of (slice bs) s = refl
 elements_counted size row_of (both x y) s = cc
 elements_counted size row_of (part l u x) s = cc
 elements_counted size row_of (plain rs) s = cc
 
-pub elements_lawful : (size : ℕ) (row_of : List ℕ → Row) → IsLawful (elements_format size row_of)
-elements_lawful size row_of = record {
+pub elements_lawful : (size align : ℕ) (row_of : List ℕ → Row) → IsLawful (elements_format size align row_of)
+elements_lawful size align row_of = record {
   full = elements_full size row_of;
-  counted = elements_counted size row_of;
-  rebuilt = elements_rebuilt size row_of;
-  built = elements_built size row_of;
   same = row_eq_same;
+  kindred = row_eq_same;
+  related = λ r s h. h;
   more = λ e c n rs ss h. past_more e (n + length rs) (n + length (rs ++ ss)) (omega (arith, length-append rs ss)) h;
 }
 
-pub elements_storable : (size : ℕ) (row_of : List ℕ → Row) → IsStorable (elements_format size row_of)
-elements_storable size row_of = record { swift = omega arith; sized = refl }
+pub elements_storable : (size align : ℕ) (row_of : List ℕ → Row) → IsStorable (elements_format size align row_of)
+elements_storable size align row_of = record {
+  swift = omega arith;
+  sized = refl;
+  aligned = refl;
+  counted = elements_counted size row_of;
+  rebuilt = elements_rebuilt size row_of;
+  built = first_built;
+}
 
-elements_keeps : (size : ℕ) (row_of : List ℕ → Row) (old new : Content) (n : ℕ) → Keeps (elements_format size row_of) old new n
+elements_keeps : {align : ℕ} (size : ℕ) (row_of : List ℕ → Row) (old new : Content) (n : ℕ) → Keeps (elements_format size align row_of) old new n
 elements_keeps size row_of old new n = record { extents = λ k l. refl; limits = λ k l e rs. refl }
 
 -- the elements ys came behind the elements xs
-pub elements_grew : {T : Type 0} {size : ℕ} {bytes : T → List ℕ} {row_of : List ℕ → Row} {meaning : T → Row} → IsElement size bytes row_of meaning → (xs ys : List T) → Grew (elements_format size row_of) (elements bytes xs) (elements bytes (xs ++ ys)) (map meaning ys)
+pub elements_grew : {align : ℕ} {T : Type 0} {size : ℕ} {bytes : T → List ℕ} {row_of : List ℕ → Row} {meaning : T → Row} → IsElement size bytes row_of meaning → (xs ys : List T) → Grew (elements_format size align row_of) (elements bytes xs) (elements bytes (xs ++ ys)) (map meaning ys)
 elements_grew {T} {size} {bytes} {row_of} {meaning} e xs ys = record {
   sound = elements_sound row_of e (xs ++ ys);
   rows = rw (rows_typed e (xs ++ ys), rows_typed e xs) (map-append meaning xs ys);
   kept = elements_keeps size row_of (elements bytes xs) (elements bytes (xs ++ ys)) (length (elements_rows size row_of (elements bytes xs)));
 }
 
-pub elements_took : {T : Type 0} {size : ℕ} {bytes : T → List ℕ} {row_of : List ℕ → Row} {meaning : T → Row} → IsElement size bytes row_of meaning → (xs ys : List T) → Took (elements_format size row_of) (elements bytes xs) (elements bytes (xs ++ ys)) (map meaning ys)
+pub elements_took : {align : ℕ} {T : Type 0} {size : ℕ} {bytes : T → List ℕ} {row_of : List ℕ → Row} {meaning : T → Row} → IsElement size bytes row_of meaning → (xs ys : List T) → Took (elements_format size align row_of) (elements bytes xs) (elements bytes (xs ++ ys)) (map meaning ys)
 elements_took {T} {size} {bytes} {row_of} {meaning} e xs ys = record {
   fresh = map meaning ys;
   grew = elements_grew e xs ys;
@@ -155,17 +161,17 @@ elements_took {T} {size} {bytes} {row_of} {meaning} e xs ys = record {
 }
 
 -- one element was pushed
-pub elements_pushed : {T : Type 0} {size : ℕ} {bytes : T → List ℕ} {row_of : List ℕ → Row} {meaning : T → Row} → IsElement size bytes row_of meaning → (xs : List T) (x : T) → Took (elements_format size row_of) (elements bytes xs) (elements bytes (xs ++ x ∷ [])) (meaning x ∷ [])
+pub elements_pushed : {align : ℕ} {T : Type 0} {size : ℕ} {bytes : T → List ℕ} {row_of : List ℕ → Row} {meaning : T → Row} → IsElement size bytes row_of meaning → (xs : List T) (x : T) → Took (elements_format size align row_of) (elements bytes xs) (elements bytes (xs ++ x ∷ [])) (meaning x ∷ [])
 elements_pushed e xs x = elements_took e xs (x ∷ [])
 
 -- the rows of a range were copied behind the elements xs
-pub elements_copied : {T : Type 0} {size : ℕ} {bytes : T → List ℕ} {row_of : List ℕ → Row} {meaning : T → Row} → IsElement size bytes row_of meaning → (xs ys : List T) (start : ℕ) (rs : List Row) → map meaning ys ≡ rs → Copied (elements_format size row_of) (elements bytes xs) (elements bytes (xs ++ ys)) start rs
-elements_copied {T} {size} {bytes} {row_of} {meaning} e xs ys start rs h = record {
-  took = rw h at (elements_took e xs ys);
+pub elements_copied : {align : ℕ} {T : Type 0} {size : ℕ} {bytes : T → List ℕ} {row_of : List ℕ → Row} {meaning : T → Row} → IsElement size bytes row_of meaning → (xs ys : List T) (start : ℕ) (rs : List Row) → map meaning ys ≡ rs → Copied (elements_format size align row_of) (elements bytes xs) (elements bytes (xs ++ ys)) start rs
+elements_copied {align} {T} {size} {bytes} {row_of} {meaning} e xs ys start rs h = record {
+  took = rw h at (elements_took {align = align} e xs ys);
   front = λ n z. rw (rows_typed e (xs ++ ys), map-append) (let k : map meaning xs ≡ [] = sym (rows_typed e xs) ∙ n in rw (k, h) refl);
 }
 
-pub elements_cut : {T : Type 0} {size : ℕ} {bytes : T → List ℕ} {row_of : List ℕ → Row} {meaning : T → Row} → IsElement size bytes row_of meaning → (xs : List T) (n : ℕ) → n ≤ length xs → WasCut (elements_format size row_of) (elements bytes xs) (elements bytes (take n xs)) n
+pub elements_cut : {align : ℕ} {T : Type 0} {size : ℕ} {bytes : T → List ℕ} {row_of : List ℕ → Row} {meaning : T → Row} → IsElement size bytes row_of meaning → (xs : List T) (n : ℕ) → n ≤ length xs → WasCut (elements_format size align row_of) (elements bytes xs) (elements bytes (take n xs)) n
 elements_cut {T} {size} {bytes} {row_of} {meaning} e xs n l = record {
   sound = elements_sound row_of e (take n xs);
   rows = rw (rows_typed e (take n xs), rows_typed e xs) (sym (take-map meaning n xs));
@@ -195,7 +201,7 @@ within_bytes size row_of bs i l =
 
 -- a slice of elements breaks no rule
 pub typed_fine : {T : Type 0} {size : ℕ} {bytes : T → List ℕ} (row_of : List ℕ → Row) {meaning : T → Row} → IsElement size bytes row_of meaning → (xs : List T) (o : ℕ) → None ≡ first (moved o (elements_broken size (elements bytes xs)))
-typed_fine {T} {size} {bytes} row_of e xs o = rw (elements_sound row_of e xs).accepted refl
+typed_fine {T} {size} {bytes} row_of e xs o = rw (elements_sound {align = 1} row_of e xs).accepted refl
 
 -- row i of a slice of bytes, where the element that was read has its bytes
 pub row_read : {T : Type 0} {size : ℕ} {bytes : T → List ℕ} {row_of : List ℕ → Row} {meaning : T → Row} → IsElement size bytes row_of meaning → (bs : List ℕ) (i : ℕ) (x : T) → i < length (elements_rows size row_of (slice bs)) → bytes x ≡ take size (drop (size * i) bs) → slice_get (elements_rows size row_of (slice bs)) i ≡ Some (meaning x)

@@ -31,11 +31,12 @@ abbrev pub first_slice : List (List ℕ) → Content
 first_slice [] = plain []
 first_slice (bs ∷ rest) = slice bs
 
--- one slice of elements of `size` bytes, each read by `row_of`
-abbrev pub elements_format : ℕ → (List ℕ → Row) → Format
-elements_format size row_of = record {
+-- one slice of elements of `size` bytes, each read by `row_of`, that ask for the alignment `align`
+abbrev pub elements_format : ℕ → ℕ → (List ℕ → Row) → Format
+elements_format size align row_of = record {
   count = 1;
   sizes = size ∷ [];
+  aligns = align ∷ [];
   turns = 0;
   broken = elements_broken size;
   rows = elements_rows size row_of;
@@ -59,4 +60,4 @@ word_row_of bs = number (from_le_bytes w64 bs)
 
 -- one slice of 64-bit words
 abbrev pub words_format : Format
-words_format = elements_format 8 word_row_of
+words_format = elements_format 8 8 word_row_of

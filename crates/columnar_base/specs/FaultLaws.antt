@@ -1,6 +1,8 @@
 use Rattle.std.proofs.Common.{◌≡◌, ℕ, ◌+◌, ◌<◌, ◌≤◌, Bool, true, false, List, [], ◌∷◌, ◌++◌, length, drop, refl, sym, arith}
-use Rattle.std.specs.Prelude.{Some, None, nat_le}
+use Rattle.std.specs.Prelude.{Some, None, nat_le, Result, Ok, Err, OnOk}
 use Rattle.std.proofs.lemmas.Bool.{le-leb, lt-leb}
+use Rattle.columnar_base.specs.Faults.{verdict}
+use Rattle.columnar_base.specs.declared.fault.StoreFault.{StoreFault}
 use Rattle.columnar_base.specs.Format.{Format, Content, Fault, fault, moved, first, unless, IsSound, Fits, faults_at}
 
 pub nothing_left : (xs ys : List Fault) → xs ++ ys ≡ [] → (xs ≡ []) × (ys ≡ [])
@@ -58,3 +60,18 @@ faults_in_room f at ss l =
 -- a content that a test found nothing in is sound
 pub sound_from : (f : Format) (c : Content) (o : ℕ) → None ≡ first (moved o (f.broken c)) → IsSound f c
 sound_from f c o h = record { accepted = nothing_moved o (f.broken c) (first_none (moved o (f.broken c)) (sym h)) }
+
+-- what holds in any case holds on Ok
+pub on_ok : {A E P : Type 0} (r : Result A E) → P → OnOk r P
+on_ok (Ok x) p = p
+on_ok (Err e) p = tt
+
+-- the slices that a test accepts fit
+pub fits_on_ok : {A : Type 0} (f : Format) (at : ℕ) (ss : List (List ℕ)) (r : Result A StoreFault) → at + f.count ≤ length ss → verdict r ≡ first (moved at (f.broken (f.build (drop at ss)))) → OnOk r (Fits f at ss)
+fits_on_ok f at ss (Ok x) l h = fits_from f at ss l h
+fits_on_ok f at ss (Err e) l h = tt
+
+-- and a content that one accepts is well formed
+pub sound_on_ok : {A : Type 0} (f : Format) (c : Content) (o : ℕ) (r : Result A StoreFault) → verdict r ≡ first (moved o (f.broken c)) → OnOk r (IsSound f c)
+sound_on_ok f c o (Ok x) h = sound_from f c o h
+sound_on_ok f c o (Err e) h = tt

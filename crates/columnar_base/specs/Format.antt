@@ -54,7 +54,7 @@ pub data Excess : Type 0 where
   misplaced : Excess
 
 -- The format of a type of column.
---   count: its number of slices; sizes: the element size of each
+--   count: its number of slices; sizes: the element size of each; aligns: the alignment of each, in bytes
 --   turns: how many turns its test takes at most for a byte
 --   broken: the rules that a content breaks: those of the parts in slice order, then its own
 --   rows: what the content means
@@ -65,6 +65,7 @@ pub data Excess : Type 0 where
 pub record Format : Type 0 where
   pub count : ℕ
   pub sizes : List ℕ
+  pub aligns : List ℕ
   pub turns : ℕ
   pub broken : Content → List Fault
   pub rows : Content → List Row
@@ -95,6 +96,11 @@ bytes_held (both x y) = bytes_held x + bytes_held y
 bytes_held (part l u x) = 0
 bytes_held (plain rs) = 0
 
+-- how many bytes slices have together
+abbrev pub bytes_of_all : List (List ℕ) → ℕ
+bytes_of_all [] = 0
+bytes_of_all (bs ∷ rest) = length bs + bytes_of_all rest
+
 -- c is a well-formed content of the format f: it breaks no rule
 pub record IsSound (f : Format) (c : Content) : Type 0 where
   pub accepted : f.broken c ≡ []
@@ -107,21 +113,27 @@ refuses_more f e c rs = f.refuses e c (length (f.rows c)) rs
 pub record IsLawful (f : Format) : Type 0 where
   -- the lengths at all rows are the lengths
   pub full : (c : Content) → IsSound f c → f.extent c (length (f.rows c)) ≡ lengths c
+  -- alike is an equivalence
+  pub same : IsSame f.alike
+  -- the test for equal rows is one too, and it holds of rows that are alike
+  pub kindred : IsSame f.kin
+  pub related : (r s : Row) → f.alike r s ≡ true → f.kin r s ≡ true
+  -- what may not be held may not be held with more behind it
+  pub more : (e : Excess) (c : Content) (n : ℕ) (rs ss : List Row) → f.refuses e c n rs ≡ true → f.refuses e c n (rs ++ ss) ≡ true
+
+-- What each format of a type with bytes keeps to.
+pub record IsStorable (f : Format) : Type 0 where
+  -- its test takes at most 16 turns for a byte
+  pub swift : f.turns ≤ 16
+  -- each slice has a size and an alignment
+  pub sized : length f.sizes ≡ f.count
+  pub aligned : length f.aligns ≡ f.count
   -- a well-formed content has as many slices as the type
   pub counted : (c : Content) → IsSound f c → length (slices_of c) ≡ f.count
   -- the slices of a well-formed content make it again
   pub rebuilt : (c : Content) (rest : List (List ℕ)) → IsSound f c → f.build (slices_of c ++ rest) ≡ c
-  -- a content that slices made has just these slices
-  pub built : (ss : List (List ℕ)) → f.count ≤ length ss → IsSound f (f.build ss) → slices_of (f.build ss) ≡ take f.count ss
-  -- alike is an equivalence
-  pub same : IsSame f.alike
-  -- what may not be held may not be held with more behind it
-  pub more : (e : Excess) (c : Content) (n : ℕ) (rs ss : List Row) → f.refuses e c n rs ≡ true → f.refuses e c n (rs ++ ss) ≡ true
-
--- What each format of a type with bytes keeps to: its test takes at most 16 turns for a byte, and each slice has a size.
-pub record IsStorable (f : Format) : Type 0 where
-  pub swift : f.turns ≤ 16
-  pub sized : length f.sizes ≡ f.count
+  -- what slices make, well formed or not, has just these slices
+  pub built : (ss : List (List ℕ)) → f.count ≤ length ss → slices_of (f.build ss) ≡ take f.count ss
 
 -- no content of this form is the format's
 abbrev pub misfit : List Fault
@@ -145,6 +157,7 @@ abbrev pub part_format : Format → Format
 part_format f = record {
   count = 0;
   sizes = [];
+  aligns = [];
   turns = 0;
   broken = part_broken f;
   rows = part_rows f;

@@ -2,6 +2,7 @@ pub mod Row
 pub mod RowLaws
 pub mod Format
 pub mod FaultLaws
+pub mod HeldLaws
 pub mod AlikeLaws
 pub mod TwoParts
 pub mod Change

@@ -10,7 +10,7 @@ use Rattle.columnar_base.specs.AlikeLaws.{alike_length, same_pulled, same_both, 
 use Rattle.columnar_base.specs.Format.{Format, Content, slice, both, part, plain, IsSound, IsLawful, IsStorable, IsSame, IsExact, Fits, lengths, slices_of, moved, unless, fault, all_alike, Excess, refuses_more}
 use Rattle.columnar_base.specs.Change.{Keeps, Grew, Stayed, WasCut, Took, Copied, Refused}
 use Rattle.columnar_base.specs.ChangeLaws.{true_from}
-use Rattle.columnar_base.specs.TwoParts.{TwoParts, two_sized, two_slices}
+use Rattle.columnar_base.specs.TwoParts.{IsBoth, TwoParts, two_storable}
 use Rattle.columnar_base.specs.declared.fault.GrowError.{GrowError}
 use Rattle.columnar_base.specs.Tuples.{tuples, firsts, seconds, pair_level, pair_alike, pair_refuses, pair_format}
 
@@ -138,27 +138,6 @@ pair_full a b la lb (slice bs) s = cc
 pair_full a b la lb (part l u x) s = cc
 pair_full a b la lb (plain rs) s = cc
 
-pair_counted : (a b : Format) → IsLawful a → IsLawful b → (c : Content) → IsSound (pair_format a b) c → length (slices_of c) ≡ a.count + b.count
-pair_counted a b la lb (both x y) s =
-    let p = pair_parts a b s in
-    length-append (slices_of x) (slices_of y) ∙ omega (arith, la.counted x p.left, lb.counted y p.right)
-pair_counted a b la lb (slice bs) s = cc
-pair_counted a b la lb (part l u x) s = cc
-pair_counted a b la lb (plain rs) s = cc
-
-pair_rebuilt : (a b : Format) → IsLawful a → IsLawful b → (c : Content) (rest : List (List ℕ)) → IsSound (pair_format a b) c → (pair_format a b).build (slices_of c ++ rest) ≡ c
-pair_rebuilt a b la lb (both x y) rest s =
-    let p = pair_parts a b s in
-    let n = la.counted x p.left in
-    let e : (slices_of x ++ slices_of y) ++ rest ≡ slices_of x ++ (slices_of y ++ rest) = append_assoc (slices_of x) (slices_of y) rest in
-    let d : drop a.count (slices_of x ++ (slices_of y ++ rest)) ≡ slices_of y ++ rest = rw (← n) (drop-append_seam (slices_of x) (slices_of y ++ rest)) in
-    let u = la.rebuilt x (slices_of y ++ rest) p.left in
-    let v = lb.rebuilt y rest p.right in
-    cc
-pair_rebuilt a b la lb (slice bs) rest s = cc
-pair_rebuilt a b la lb (part l u x) rest s = cc
-pair_rebuilt a b la lb (plain rs) rest s = cc
-
 pair_more : (a b : Format) → IsLawful a → IsLawful b → (e : Excess) (c : Content) (n : ℕ) (rs ss : List Row) → pair_refuses a b e c n rs ≡ true → pair_refuses a b e c n (rs ++ ss) ≡ true
 pair_more a b la lb e (both x y) n rs ss h =
     rw (map-append first_of rs ss, map-append second_of rs ss) (or_both (a.refuses e x n (firsts rs)) (b.refuses e y n (seconds rs)) (a.refuses e x n (firsts rs ++ firsts ss)) (b.refuses e y n (seconds rs ++ seconds ss)) (la.more e x n (firsts rs) (firsts ss)) (lb.more e y n (seconds rs) (seconds ss)) h)
@@ -166,26 +145,33 @@ pair_more a b la lb e (slice bs) n rs ss h = h
 pair_more a b la lb e (part l u x) n rs ss h = h
 pair_more a b la lb e (plain ts) n rs ss h = h
 
-pub pair_two : (a b : Format) → TwoParts (pair_format a b) a b (pair_level a b) 10
-pair_two a b = record { count = refl; sizes = refl; build = λ ss. refl; broken = λ x y. refl }
+pair_form : (a b : Format) (c : Content) → IsSound (pair_format a b) c → IsBoth c
+pair_form a b (both x y) s = record { left = x; right = y; is = refl }
+pair_form a b (slice bs) s = cc
+pair_form a b (part l u x) s = cc
+pair_form a b (plain rs) s = cc
 
-pair_built : (a b : Format) → IsLawful a → IsLawful b → (ss : List (List ℕ)) → a.count + b.count ≤ length ss → IsSound (pair_format a b) ((pair_format a b).build ss) → slices_of ((pair_format a b).build ss) ≡ take (a.count + b.count) ss
-pair_built a b la lb ss l s =
-    let p = pair_parts a b s in
-    two_slices (pair_two a b) ss l (λ k. la.built ss k p.left) (λ k. lb.built (drop a.count ss) k p.right)
+pub pair_two : (a b : Format) → TwoParts (pair_format a b) a b (pair_level a b) 10
+pair_two a b = record { count = refl; sizes = refl; aligns = refl; form = pair_form a b; build = λ ss. refl; broken = λ x y. refl }
+
+-- what is alike in both parts is kin in both
+pair_related : (a b a' b' : Row → Row → Bool) → ((r s : Row) → a r s ≡ true → a' r s ≡ true) → ((r s : Row) → b r s ≡ true → b' r s ≡ true) → (r s : Row) → pair_alike a b r s ≡ true → pair_alike a' b' r s ≡ true
+pair_related a b a' b' p q r s h =
+    let u = and_parts (row_eq (bare_tuple r) (bare_tuple s)) (a (first_of r) (first_of s) && b (second_of r) (second_of s)) h in
+    let v = and_parts (a (first_of r) (first_of s)) (b (second_of r) (second_of s)) u.1 in
+    and_from _ _ u.0 (and_from _ _ (p (first_of r) (first_of s) v.0) (q (second_of r) (second_of s) v.1))
 
 pub pair_lawful : (a b : Format) → IsLawful a → IsLawful b → IsLawful (pair_format a b)
 pair_lawful a b la lb = record {
   full = pair_full a b la lb;
-  counted = pair_counted a b la lb;
-  rebuilt = pair_rebuilt a b la lb;
-  built = pair_built a b la lb;
   same = pair_same a.alike b.alike la.same lb.same;
+  kindred = pair_same a.kin b.kin la.kindred lb.kindred;
+  related = pair_related a.alike b.alike a.kin b.kin la.related lb.related;
   more = pair_more a b la lb;
 }
 
 pub pair_storable : (a b : Format) → IsStorable a → IsStorable b → IsStorable (pair_format a b)
-pair_storable a b p q = record { swift = omega arith; sized = two_sized (pair_two a b) p q }
+pair_storable a b p q = two_storable (pair_two a b) (omega arith) p q
 
 -- changes
 

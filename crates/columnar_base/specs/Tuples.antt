@@ -54,6 +54,7 @@ abbrev pub pair_format : Format → Format → Format
 pair_format a b = record {
   count = a.count + b.count;
   sizes = a.sizes ++ b.sizes;
+  aligns = a.aligns ++ b.aligns;
   turns = 16;
   broken = pair_broken a b;
   rows = pair_rows a b;

@@ -1,16 +1,25 @@
 -- Formats of two parts, one after the other: what the tests of the parts say of the whole.
-use Rattle.std.proofs.Common.{◌≡◌, ℕ, zero, suc, ◌+◌, ◌*◌, ◌≤◌, ◌^◌, Bool, true, false, ◌&&◌, List, [], ◌∷◌, ◌++◌, length, take, drop, refl, sym, ◌∙◌, ap, arith, length-append, length-drop}
-use Rattle.std.specs.Prelude.{slice_get, Some, None, nat_le, nat_lt}
+use Rattle.std.proofs.Common.{◌≡◌, ℕ, zero, suc, ◌+◌, ◌*◌, ◌≤◌, ◌^◌, Bool, true, false, ◌&&◌, List, [], ◌∷◌, ◌++◌, length, take, drop, refl, sym, ◌∙◌, ap, arith, append_assoc, length-append, length-drop}
+use Rattle.std.specs.Prelude.{slice_get, Option, Some, None, nat_le, nat_lt}
 use Rattle.std.proofs.lemmas.List.{drop-drop, map-append}
 use Rattle.std.proofs.lemmas.Bool.{and_parts, and_from, leb-true, le-leb}
 use Rattle.std.proofs.Math.Nat.{mul-le-mul_right}
-use Rattle.columnar_base.specs.Format.{Format, Content, both, IsStorable, Fault, fault, moved, moved_one, first, unless, slices_of, representable, are_sizes}
-use Rattle.columnar_base.specs.FaultLaws.{moved_twice, first_found, first_none}
+use Rattle.columnar_base.specs.Format.{Format, Content, both, Fits, IsSound, IsStorable, Fault, fault, moved, moved_one, first, unless, slices_of, representable, are_sizes}
+use Rattle.columnar_base.specs.FaultLaws.{moved_twice, first_found, first_none, nothing_left, nothing_moved}
+use Rattle.std.proofs.Math.Seq.{drop-append_seam}
+
+-- a content of two parts
+pub record IsBoth (c : Content) : Type 0 where
+  pub left : Content
+  pub right : Content
+  pub is : c ≡ both left right
 
 -- a format of two parts one after the other, and its own rule over both
 pub record TwoParts (f a b : Format) (test : Content → Content → Bool) (rule : ℕ) : Type 0 where
   pub count : f.count ≡ a.count + b.count
   pub sizes : f.sizes ≡ a.sizes ++ b.sizes
+  pub aligns : f.aligns ≡ a.aligns ++ b.aligns
+  pub form : (c : Content) → IsSound f c → IsBoth c
   pub build : (ss : List (List ℕ)) → f.build ss ≡ both (a.build ss) (b.build (drop a.count ss))
   pub broken : (x y : Content) → f.broken (both x y) ≡ a.broken x ++ (moved a.count (b.broken y) ++ unless (test x y) (fault rule 0))
 
@@ -109,10 +118,6 @@ representable_count {f} {a} {b} t h =
     let c : f.count ≤ 2 ^ 60 = leb-true f.count (2 ^ 60) p.0 in
     omega (arith, c, t.count)
 
--- both slices have a size, and so has the whole
-pub two_sized : {f a b : Format} {test : Content → Content → Bool} {rule : ℕ} → TwoParts f a b test rule → IsStorable a → IsStorable b → length f.sizes ≡ f.count
-two_sized {f} {a} {b} t p q = rw t.sizes (length-append a.sizes b.sizes ∙ omega (arith, p.sized, q.sized, t.count))
-
 -- turns of both parts are turns of the whole
 pub two_turns : (r a b m n : ℕ) → a ≤ r → b ≤ r → a * m + b * n ≤ r * (m + n)
 two_turns r a b m n p q =
@@ -138,3 +143,108 @@ two_slices {f} {a} {b} t ss l p q =
     let x = p (omega (arith, l, t.count)) in
     let y = q (rw length-drop (omega (arith, l, t.count))) in
     rw (t.build ss, t.count, x, y) (take_both a.count b.count ss)
+
+-- both parts of what is well formed are well formed
+pub two_sound_left : {f a b : Format} {test : Content → Content → Bool} {rule : ℕ} → TwoParts f a b test rule → (x y : Content) → IsSound f (both x y) → IsSound a x
+two_sound_left {f} {a} {b} {test} {rule} t x y s =
+    let h : a.broken x ++ (moved a.count (b.broken y) ++ unless (test x y) (fault rule 0)) ≡ [] = sym (t.broken x y) ∙ s.accepted in
+    record { accepted = (nothing_left (a.broken x) (moved a.count (b.broken y) ++ unless (test x y) (fault rule 0)) h).0 }
+
+pub two_sound_right : {f a b : Format} {test : Content → Content → Bool} {rule : ℕ} → TwoParts f a b test rule → (x y : Content) → IsSound f (both x y) → IsSound b y
+two_sound_right {f} {a} {b} {test} {rule} t x y s =
+    let h : a.broken x ++ (moved a.count (b.broken y) ++ unless (test x y) (fault rule 0)) ≡ [] = sym (t.broken x y) ∙ s.accepted in
+    let p = nothing_left (a.broken x) (moved a.count (b.broken y) ++ unless (test x y) (fault rule 0)) h in
+    let q = nothing_left (moved a.count (b.broken y)) (unless (test x y) (fault rule 0)) p.1 in
+    record { accepted = nothing_moved a.count (b.broken y) q.0 }
+
+-- as many slices as both parts have
+two_all : {f a b : Format} {test : Content → Content → Bool} {rule : ℕ} → TwoParts f a b test rule → IsStorable a → IsStorable b → (x y : Content) → IsSound f (both x y) → length (slices_of x ++ slices_of y) ≡ f.count
+two_all {f} {a} {b} t p q x y s =
+    length-append (slices_of x) (slices_of y) ∙ omega (arith, p.counted x (two_sound_left t x y s), q.counted y (two_sound_right t x y s), t.count)
+
+-- the slices of both parts make them again
+two_again : {f a b : Format} {test : Content → Content → Bool} {rule : ℕ} → TwoParts f a b test rule → IsStorable a → IsStorable b → (x y : Content) (rest : List (List ℕ)) → IsSound f (both x y) → f.build ((slices_of x ++ slices_of y) ++ rest) ≡ both x y
+two_again {f} {a} {b} t p q x y rest s =
+    let n = p.counted x (two_sound_left t x y s) in
+    let e : (slices_of x ++ slices_of y) ++ rest ≡ slices_of x ++ (slices_of y ++ rest) = append_assoc (slices_of x) (slices_of y) rest in
+    let d : drop a.count (slices_of x ++ (slices_of y ++ rest)) ≡ slices_of y ++ rest = rw (← n) (drop-append_seam (slices_of x) (slices_of y ++ rest)) in
+    let u = p.rebuilt x (slices_of y ++ rest) (two_sound_left t x y s) in
+    let v = q.rebuilt y rest (two_sound_right t x y s) in
+    rw (t.build ((slices_of x ++ slices_of y) ++ rest), e, u, d, v) refl
+
+-- Where both parts can stand in bytes, so can the whole.
+pub two_storable : {f a b : Format} {test : Content → Content → Bool} {rule : ℕ} → TwoParts f a b test rule → f.turns ≤ 16 → IsStorable a → IsStorable b → IsStorable f
+two_storable {f} {a} {b} t l p q = record {
+  swift = l;
+  sized = rw t.sizes (length-append a.sizes b.sizes ∙ omega (arith, p.sized, q.sized, t.count));
+  aligned = rw t.aligns (length-append a.aligns b.aligns ∙ omega (arith, p.aligned, q.aligned, t.count));
+  counted = λ c s. let w = t.form c s in rw w.is (two_all t p q w.left w.right (rw w.is at s));
+  rebuilt = λ c rest s. let w = t.form c s in rw w.is (two_again t p q w.left w.right rest (rw w.is at s));
+  built = λ ss r. two_slices t ss r (λ k. p.built ss k) (λ k. q.built (drop a.count ss) k);
+}
+
+-- the alignment of slice i
+pub align_left : (xs ys : List ℕ) (i n : ℕ) → slice_get xs i ≡ Some n → slice_get (xs ++ ys) i ≡ Some n
+align_left [] ys i n h = cc
+align_left (x ∷ xs) ys zero n h = h
+align_left (x ∷ xs) ys (suc i) n h = align_left xs ys i n h
+
+pub align_right : (xs ys : List ℕ) (i k n : ℕ) → i ≡ length xs + k → slice_get ys k ≡ Some n → slice_get (xs ++ ys) i ≡ Some n
+align_right [] ys i k n e h = let f : i ≡ k = omega arith in rw f h
+align_right (x ∷ xs) ys zero k n e h = absurd (omega arith)
+align_right (x ∷ xs) ys (suc i) k n e h = align_right xs ys i k n (omega arith) h
+
+-- the rules that both parts break, with slices counted from `o`
+abbrev pub both_broken : Format → Format → Content → Content → ℕ → List Fault
+both_broken a b x y o = moved o (a.broken x) ++ moved (o + a.count) (b.broken y)
+
+-- they come before the own one
+two_behind : {f a b : Format} {test : Content → Content → Bool} {rule : ℕ} → TwoParts f a b test rule → (x y : Content) (o : ℕ) → moved o (f.broken (both x y)) ≡ both_broken a b x y o ++ moved o (unless (test x y) (fault rule 0))
+two_behind {f} {a} {b} {test} {rule} t x y o = two_moved t x y o ∙ sym (append_assoc (moved o (a.broken x)) (moved (o + a.count) (b.broken y)) (moved o (unless (test x y) (fault rule 0))))
+
+pub judged_part : {f a b : Format} {test : Content → Content → Bool} {rule : ℕ} → TwoParts f a b test rule → (x y : Content) (o : ℕ) (z : Fault) → Some z ≡ first (both_broken a b x y o) → Some z ≡ first (moved o (f.broken (both x y)))
+judged_part {f} {a} {b} {test} {rule} t x y o z h = rw (two_behind t x y o) (sym (first_found (both_broken a b x y o) (moved o (unless (test x y) (fault rule 0))) z (sym h)))
+
+pub judged_own : {f a b : Format} {test : Content → Content → Bool} {rule : ℕ} → TwoParts f a b test rule → (x y : Content) (o : ℕ) → None ≡ first (both_broken a b x y o) → test x y ≡ false → Some (fault rule o) ≡ first (moved o (f.broken (both x y)))
+judged_own {f} {a} {b} {test} {rule} t x y o n h =
+    let e : both_broken a b x y o ≡ [] = first_none (both_broken a b x y o) (sym n) in
+    let k : o + 0 ≡ o = omega arith in
+    rw (two_behind t x y o, e, h, k) refl
+
+pub judged_fine : {f a b : Format} {test : Content → Content → Bool} {rule : ℕ} → TwoParts f a b test rule → (x y : Content) (o : ℕ) → None ≡ first (both_broken a b x y o) → test x y ≡ true → None ≡ first (moved o (f.broken (both x y)))
+judged_fine {f} {a} {b} {test} {rule} t x y o n h =
+    let e : both_broken a b x y o ≡ [] = first_none (both_broken a b x y o) (sym n) in
+    rw (two_behind t x y o, e, h) refl
+
+-- the same over the slices of a store
+pub judged_part_at : {f a b : Format} {test : Content → Content → Bool} {rule : ℕ} → TwoParts f a b test rule → (ss : List (List ℕ)) (o : ℕ) (z : Fault) → Some z ≡ first (both_broken a b (a.build (drop o ss)) (b.build (drop (o + a.count) ss)) o) → Some z ≡ first (moved o (f.broken (f.build (drop o ss))))
+judged_part_at {f} {a} {b} t ss o z h = rw (two_built t ss o) (judged_part t (a.build (drop o ss)) (b.build (drop (o + a.count) ss)) o z h)
+
+pub judged_own_at : {f a b : Format} {test : Content → Content → Bool} {rule : ℕ} → TwoParts f a b test rule → (ss : List (List ℕ)) (o : ℕ) → None ≡ first (both_broken a b (a.build (drop o ss)) (b.build (drop (o + a.count) ss)) o) → test (a.build (drop o ss)) (b.build (drop (o + a.count) ss)) ≡ false → Some (fault rule o) ≡ first (moved o (f.broken (f.build (drop o ss))))
+judged_own_at {f} {a} {b} t ss o n h = rw (two_built t ss o) (judged_own t (a.build (drop o ss)) (b.build (drop (o + a.count) ss)) o n h)
+
+pub judged_fine_at : {f a b : Format} {test : Content → Content → Bool} {rule : ℕ} → TwoParts f a b test rule → (ss : List (List ℕ)) (o : ℕ) → None ≡ first (both_broken a b (a.build (drop o ss)) (b.build (drop (o + a.count) ss)) o) → test (a.build (drop o ss)) (b.build (drop (o + a.count) ss)) ≡ true → None ≡ first (moved o (f.broken (f.build (drop o ss))))
+judged_fine_at {f} {a} {b} t ss o n h = rw (two_built t ss o) (judged_fine t (a.build (drop o ss)) (b.build (drop (o + a.count) ss)) o n h)
+
+-- no fault of both parts: none of either
+pub both_none : (a b : Format) (x y : Content) (o : ℕ) → None ≡ first (moved o (a.broken x)) → None ≡ first (moved (o + a.count) (b.broken y)) → None ≡ first (both_broken a b x y o)
+both_none a b x y o p q = rw (first_none (moved o (a.broken x)) (sym p), first_none (moved (o + a.count) (b.broken y)) (sym q)) refl
+
+pub both_left : (a b : Format) (x y : Content) (o : ℕ) (z : Fault) → Some z ≡ first (moved o (a.broken x)) → Some z ≡ first (both_broken a b x y o)
+both_left a b x y o z h = sym (first_found (moved o (a.broken x)) (moved (o + a.count) (b.broken y)) z (sym h))
+
+pub both_right : (a b : Format) (x y : Content) (o : ℕ) (v : Option Fault) → None ≡ first (moved o (a.broken x)) → v ≡ first (moved (o + a.count) (b.broken y)) → v ≡ first (both_broken a b x y o)
+both_right a b x y o v n h = rw (first_none (moved o (a.broken x)) (sym n)) h
+
+-- the slices of both parts fit where those of the whole do
+pub two_fits_left : {f a b : Format} {test : Content → Content → Bool} {rule : ℕ} → TwoParts f a b test rule → (o : ℕ) (ss : List (List ℕ)) → Fits f o ss → Fits a o ss
+two_fits_left {f} {a} {b} t o ss h = record {
+  room = let r = h.room in omega (arith, r, t.count);
+  sound = two_sound_left t (a.build (drop o ss)) (b.build (drop (o + a.count) ss)) (rw (two_built t ss o) at h.sound);
+}
+
+pub two_fits_right : {f a b : Format} {test : Content → Content → Bool} {rule : ℕ} → TwoParts f a b test rule → (o : ℕ) (ss : List (List ℕ)) → Fits f o ss → Fits b (o + a.count) ss
+two_fits_right {f} {a} {b} t o ss h = record {
+  room = let r = h.room in omega (arith, r, t.count);
+  sound = two_sound_right t (a.build (drop o ss)) (b.build (drop (o + a.count) ss)) (rw (two_built t ss o) at h.sound);
+}

@@ -57,7 +57,7 @@ part_rows size row_of bs lower upper p o l =
     rw (part_length size row_of bs lower upper o l, c, a, d)
     (ap (map row_of) (sym (pieces_take size k n (drop (size * lower) bs))) ∙ sym (take-map row_of n (pieces size (n + k) (drop (size * lower) bs))))
 
-pub part_sound : (size : ℕ) (row_of : List ℕ → Row) (bs : List ℕ) (lower upper : ℕ) → lower ≤ upper → upper ≤ length (elements_rows size row_of (slice bs)) → IsSound (elements_format size row_of) (slice (take (size * (upper - lower)) (drop (size * lower) bs)))
+pub part_sound : {align : ℕ} (size : ℕ) (row_of : List ℕ → Row) (bs : List ℕ) (lower upper : ℕ) → lower ≤ upper → upper ≤ length (elements_rows size row_of (slice bs)) → IsSound (elements_format size align row_of) (slice (take (size * (upper - lower)) (drop (size * lower) bs)))
 part_sound size row_of bs lower upper o l =
     let m : length (take (size * (upper - lower)) (drop (size * lower) bs)) % size ≡ 0 = rw (part_length size row_of bs lower upper o l) (mul-mod_right size (upper - lower)) in
     record { accepted = true_unless (nat_eq _ 0) (fault 8 0) (eq-eqb _ _ m) }

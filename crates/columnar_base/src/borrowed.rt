@@ -8,7 +8,7 @@ use crate::traits::{Clear, Column, Index, Len};
 use crate::view::element_at;
 
 impl<'a, T: Element> Column for &'a [T] {
-    ghost format = { elements_format T.size T.row_of };
+    ghost format = { elements_format T.size T.align T.row_of };
 
     ghost content = { λ s. elements T.le_bytes s.now };
 }
@@ -35,7 +35,7 @@ impl<'a, T: Element> Index for &'a [T] {
 }
 
 impl<T: Element, const N: usize> Column for [T; N] {
-    ghost format = { elements_format T.size T.row_of };
+    ghost format = { elements_format T.size T.align T.row_of };
 
     ghost content = { λ s. elements T.le_bytes s };
 }

@@ -15,6 +15,9 @@ pub trait Element: Copy + Item {
     // how many bytes
     ghost size: { ℕ };
 
+    // the alignment that it asks for, in bytes
+    ghost align: { ℕ };
+
     // its bytes, the lowest first
     ghost le_bytes: { Self → List ℕ };
 
@@ -41,8 +44,12 @@ pub trait Element: Copy + Item {
 
 /// A number of a fixed width of at most 64 bits.
 pub trait Primitive: Element {
+    ghost MIN: { Self };
+
     /// The least.
     const MIN: Self;
+
+    ghost MAX: { Self };
 
     /// The greatest.
     const MAX: Self;

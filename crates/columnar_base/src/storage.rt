@@ -7,11 +7,20 @@ use crate::fault::GrowError;
 use crate::traits::{Clear, Column, Len};
 use std::alloc::Global;
 
-/// What an owned column does that names no view.
-pub trait Storage: Len + Clear + Drop {
-    /// How much room the slices of columns take together.
-    type Room: Copy;
+/// A column that can be cut to its first rows. It is all that a column over parts asks of a part to take back what
+/// that part had taken before another was refused.
+pub trait Truncate: Len {
+    /// Keeps the first `n` rows. Needs no memory.
+    fn truncate(&mut self, n: usize)
+        requires sound { IsSound Self.format (Self.content self.old) }
+        requires in_range { n ≤ length (Self.format.rows (Self.content self.old)) }
+        ensures { WasCut Self.format (Self.content self.old) (Self.content self.new) n };
 
+    ghost lawful: { IsLawful Self.format };
+}
+
+/// What an owned column does that names no view.
+pub trait Storage: Truncate + Clear + Drop {
     /// A column without rows.
     fn empty(alloc: Global) -> Self
         ensures sound { IsSound Self.format (Self.content result) }
@@ -21,12 +30,12 @@ pub trait Storage: Len + Clear + Drop {
     fn duplicate(&self, alloc: Global) -> Result<Self, GrowError>
         ensures content { IfOk result (λ c. Self.content c ≡ Self.content self.now) }
         ensures memory { IfErr result (λ e. e ≡ GrowError.Memory) };
+}
 
-    /// Keeps the first `n` rows. Needs no memory.
-    fn truncate(&mut self, n: usize)
-        requires sound { IsSound Self.format (Self.content self.old) }
-        requires in_range { n ≤ length (Self.format.rows (Self.content self.old)) }
-        ensures { WasCut Self.format (Self.content self.old) (Self.content self.new) n };
+/// A column that makes room for rows to come.
+pub trait Reserve: Column {
+    /// How much room the slices of columns take together.
+    type Room: Copy;
 
     /// Room for nothing.
     fn no_room() -> Self::Room;
@@ -36,6 +45,4 @@ pub trait Storage: Len + Clear + Drop {
         requires { IsSound Self.format (Self.content self.old) }
         ensures stayed { Stayed Self.format (Self.content self.old) (Self.content self.new) }
         ensures memory { IfErr result (λ e. e ≡ GrowError.Memory) };
-
-    ghost lawful: { IsLawful Self.format };
 }

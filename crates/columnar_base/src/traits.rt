@@ -80,6 +80,18 @@ pub trait Push<T: Item>: Column {
     }
 }
 
+/// An item that can be pushed into columns of type `C`: `Push`, seen from the item. A column over parts whose one impl of
+/// `Push` asks this of the item is found at once, however deep the parts are nested, also where the item's type is not
+/// yet known.
+pub trait PushInto<C: Column>: Item {
+    /// Adds a row to the column that is alike to this item, or is refused, as `push`.
+    fn push_into(self, column: &mut C) -> Result<(), GrowError>
+        requires sound { IsSound C.format (C.content column.old) }
+        requires valid { Self.valid self }
+        ensures ok { OnOk result (Took C.format (C.content column.old) (C.content column.new) (Self.meaning self ∷ [])) }
+        ensures err { IfErr result (λ e. Refused C.format (C.content column.old) (C.content column.new) (Self.meaning self ∷ []) e) };
+}
+
 /// As a push of `&T`, where no lifetime can be named.
 pub trait PushRef<T: Item>: Column {
     /// Adds a row that is alike to the item, or is refused, as a push of `&T`.
@@ -101,7 +113,7 @@ pub trait PushSlice<T: Element>: Column {
 }
 
 /// A column whose rows are read by their number.
-pub trait Index: Len {
+pub trait Index: Column {
     /// What stands for a row.
     type Ref: Copy + Item;
 
@@ -114,6 +126,8 @@ pub trait Index: Len {
 
     /// The last row, None where there is none.
     final fn last(&self) -> Option<Self::Ref>
+    where
+        Self: Len,
         requires { IsSound Self.format (Self.content self.now) }
         ensures none { IsNone result ↔ (Self.format.rows (Self.content self.now) ≡ []) }
         ensures row { IfSome result (λ r. slice_get (Self.format.rows (Self.content self.now)) (length (Self.format.rows (Self.content self.now)) - 1) ≡ Some (Self.Ref.meaning r)) }
@@ -150,7 +164,7 @@ impl<'x, T: Copy + Item> CopyAs<T> for &'x T {
 }
 
 /// A column whose rows are read as `T`s.
-pub trait IndexAs<T: Item>: Len {
+pub trait IndexAs<T: Item>: Column {
     /// Row `index`.
     fn index_as(&self, index: usize) -> T
         requires sound { IsSound Self.format (Self.content self.now) }
@@ -160,6 +174,8 @@ pub trait IndexAs<T: Item>: Len {
 
     /// The last row, None where there is none.
     final fn last(&self) -> Option<T>
+    where
+        Self: Len,
         requires { IsSound Self.format (Self.content self.now) }
         ensures none { IsNone result ↔ (Self.format.rows (Self.content self.now) ≡ []) }
         ensures row { IfSome result (λ r. slice_get (Self.format.rows (Self.content self.now)) (length (Self.format.rows (Self.content self.now)) - 1) ≡ Some (T.meaning r)) }

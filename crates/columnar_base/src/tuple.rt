@@ -7,8 +7,8 @@ ghost use Rattle.columnar_base.specs.TwoParts.{two_counted};
 ghost use Rattle.columnar_base.specs.TupleLaws.{pair_lawful};
 
 use crate::fault::GrowError;
-use crate::storage::Storage;
-use crate::traits::{Clear, Column, Index, Item, Len, Push, PushRef};
+use crate::storage::{Reserve, Storage, Truncate};
+use crate::traits::{Clear, Column, Index, Item, Len, Push, PushInto, PushRef};
 use std::alloc::Global;
 
 /// As a row, it is the tuple of the rows of its parts.
@@ -48,11 +48,16 @@ impl<A: Clear, B: Clear> Clear for (A, B) {
     }
 }
 
-impl<A: Storage, B: Storage> Storage for (A, B) {
-    type Room = (A::Room, B::Room);
-
+impl<A: Truncate, B: Truncate> Truncate for (A, B) {
     ghost lawful = { pair_lawful A.format B.format A.lawful B.lawful };
 
+    fn truncate(&mut self, n: usize) {
+        self.0.truncate(n);
+        self.1.truncate(n);
+    }
+}
+
+impl<A: Storage, B: Storage> Storage for (A, B) {
     fn empty(alloc: Global) -> Self {
         let first = A::empty(alloc);
         let second = B::empty(alloc);
@@ -69,11 +74,10 @@ impl<A: Storage, B: Storage> Storage for (A, B) {
             Err(error) => Err(error),
         }
     }
+}
 
-    fn truncate(&mut self, n: usize) {
-        self.0.truncate(n);
-        self.1.truncate(n);
-    }
+impl<A: Reserve, B: Reserve> Reserve for (A, B) {
+    type Room = (A::Room, B::Room);
 
     fn no_room() -> (A::Room, B::Room) {
         (A::no_room(), B::no_room())
@@ -91,19 +95,26 @@ impl<A: Storage, B: Storage> Storage for (A, B) {
     }
 }
 
+/// A pair takes what can be pushed into it: tuples of items of its parts, by value and by reference.
+impl<P: PushInto<(A, B)>, A: Column, B: Column> Push<P> for (A, B) {
+    fn push(&mut self, item: P) -> Result<(), GrowError> {
+        item.push_into(self)
+    }
+}
+
 /// Each part takes its own of the item. Where one of them refuses it, neither has taken any.
-impl<S: Item, T: Item + Drop, A: Storage + Push<S>, B: Storage + Push<T>> Push<(S, T)> for (A, B) {
-    fn push(&mut self, item: (S, T)) -> Result<(), GrowError> {
-        let before = self.0.len();
-        let (first, second) = item;
-        match self.0.push(first) {
+impl<S: Item, T: Item + Drop, A: Truncate + Push<S>, B: Push<T>> PushInto<(A, B)> for (S, T) {
+    fn push_into(self, column: &mut (A, B)) -> Result<(), GrowError> {
+        let before = column.0.len();
+        let (first, second) = self;
+        match column.0.push(first) {
             Ok(()) => {}
             Err(error) => return Err(error),
         }
-        match self.1.push(second) {
+        match column.1.push(second) {
             Ok(()) => Ok(()),
             Err(error) => {
-                self.0.truncate(before);
+                column.0.truncate(before);
                 Err(error)
             }
         }
@@ -111,18 +122,14 @@ impl<S: Item, T: Item + Drop, A: Storage + Push<S>, B: Storage + Push<T>> Push<(
 }
 
 /// The parts of the item are pushed by reference.
-impl<'x, S: Item, T: Item, A: Storage + PushRef<S>, B: Storage + PushRef<T>> Push<&'x (S, T)>
-    for (A, B) {
-    fn push(&mut self, item: &'x (S, T)) -> Result<(), GrowError> {
-        match self.push_ref(item) {
-            Ok(()) => Ok(()),
-            Err(error) => Err(error),
-        }
+impl<'x, S: Item, T: Item, A: Truncate + PushRef<S>, B: PushRef<T>> PushInto<(A, B)>
+    for &'x (S, T) {
+    fn push_into(self, column: &mut (A, B)) -> Result<(), GrowError> {
+        column.push_ref(self)
     }
 }
 
-impl<S: Item, T: Item, A: Storage + PushRef<S>, B: Storage + PushRef<T>> PushRef<(S, T)>
-    for (A, B) {
+impl<S: Item, T: Item, A: Truncate + PushRef<S>, B: PushRef<T>> PushRef<(S, T)> for (A, B) {
     fn push_ref(&mut self, item: &(S, T)) -> Result<(), GrowError> {
         let rows = self.0.len();
         match self.0.push_ref(&item.0) {

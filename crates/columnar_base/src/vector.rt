@@ -5,13 +5,13 @@ ghost use Rattle.columnar_base.specs.ElementLaws.{elements_lawful};
 
 use crate::element::Element;
 use crate::fault::GrowError;
-use crate::storage::Storage;
+use crate::storage::{Reserve, Storage, Truncate};
 use crate::traits::{Clear, Column, Index, Len, Push, PushRef, PushSlice};
 use crate::view::element_at;
 use std::alloc::Global;
 
 impl<T: Element> Column for Vec<T> {
-    ghost format = { elements_format T.size T.row_of };
+    ghost format = { elements_format T.size T.align T.row_of };
 
     ghost content = { λ v. elements T.le_bytes v.items };
 }
@@ -72,11 +72,15 @@ impl<T: Element> PushSlice<T> for Vec<T> {
     }
 }
 
+impl<T: Element> Truncate for Vec<T> {
+    ghost lawful = { elements_lawful T.size T.align T.row_of };
+
+    fn truncate(&mut self, n: usize) {
+        Vec::truncate(self, n);
+    }
+}
+
 impl<T: Element> Storage for Vec<T> {
-    type Room = usize;
-
-    ghost lawful = { elements_lawful T.size T.row_of };
-
     fn empty(alloc: Global) -> Self {
         Vec::new(alloc)
     }
@@ -87,10 +91,10 @@ impl<T: Element> Storage for Vec<T> {
             Err(_) => Err(GrowError::Memory),
         }
     }
+}
 
-    fn truncate(&mut self, n: usize) {
-        Vec::truncate(self, n);
-    }
+impl<T: Element> Reserve for Vec<T> {
+    type Room = usize;
 
     fn no_room() -> usize {
         0

@@ -24,7 +24,7 @@ pub struct View<'a, T> {
 }
 
 impl<'v, T: Element> Column for View<'v, T> {
-    ghost format = { elements_format T.size T.row_of };
+    ghost format = { elements_format T.size T.align T.row_of };
 
     ghost content = { λ v. items_content T.le_bytes v.items };
 }
@@ -51,10 +51,10 @@ impl<'a, T: Element> View<'a, T> {
 
     /// The elements lower..upper. Asks that `lower` is at most `upper`, and `upper` at most the view's length.
     pub fn part(&self, lower: usize, upper: usize) -> Self
-        requires sound { IsSound (elements_format T.size T.row_of) (⟦<View<'a, T> as Column>⟧.content self.now) }
+        requires sound { IsSound (elements_format T.size T.align T.row_of) (⟦<View<'a, T> as Column>⟧.content self.now) }
         requires ordered { lower ≤ upper }
         requires in_range { upper ≤ length (elements_rows T.size T.row_of (⟦<View<'a, T> as Column>⟧.content self.now)) }
-        ensures sound { IsSound (elements_format T.size T.row_of) (⟦<View<'a, T> as Column>⟧.content result) }
+        ensures sound { IsSound (elements_format T.size T.align T.row_of) (⟦<View<'a, T> as Column>⟧.content result) }
         ensures rows { elements_rows T.size T.row_of (⟦<View<'a, T> as Column>⟧.content result) ≡ take (upper - lower) (drop lower (elements_rows T.size T.row_of (⟦<View<'a, T> as Column>⟧.content self.now))) }
     {
         match self.items {

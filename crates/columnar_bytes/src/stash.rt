@@ -12,7 +12,6 @@ mod grow;
 mod read;
 
 use columnar_core::bytes::Stored;
-use columnar_core::container::ContainerBytes;
 use columnar_core::store::DecodedStore;
 use columnar_core::traits::{Column, Len};
 pub use commands::{Command, Refusal, Reply, run};
@@ -120,7 +119,7 @@ impl<C: Stored, B: ByteStore> Column for Stash<C, B> {
     ghost content = { stash_content };
 }
 
-impl<C: ContainerBytes, B: ByteStore> Len for Stash<C, B> {
+impl<C: Stored + Len, B: ByteStore> Len for Stash<C, B> {
     fn len(&self) -> usize {
         match self {
             Stash::Typed(column) => column.len(),

@@ -75,7 +75,7 @@ where
 }
 
 impl<'v, T: Element> Stored for &'v [T] {
-    ghost storable = { elements_storable T.size T.row_of };
+    ghost storable = { elements_storable T.size T.align T.row_of };
 
     ghost counted = { λ v. refl };
 
@@ -86,7 +86,7 @@ impl<'v, T: Element> Stored for &'v [T] {
     }
 
     fn element_sizes(sizes: &mut Vec<usize>) -> Result<(), GrowError>
-        requires { IsTrue (representable (elements_format T.size T.row_of)) }
+        requires { IsTrue (representable (elements_format T.size T.align T.row_of)) }
         ensures ok { OnOk result (sizes.new.items ≡ sizes.old.items ++ T.size ∷ []) }
         ensures err { OnErr result (sizes.new.items ≡ sizes.old.items) }
         ensures memory { IfErr result (λ e. e ≡ GrowError.Memory) }
@@ -102,7 +102,7 @@ impl<'v, T: Element> Stored for &'v [T] {
         offset: usize,
         tally: &mut Tally<L>,
     ) -> Result<(), StoreFault>
-        requires representable { IsTrue (representable (elements_format T.size T.row_of)) }
+        requires representable { IsTrue (representable (elements_format T.size T.align T.row_of)) }
         requires room { offset + 1 ≤ length (slices_in store.now) }
         ensures exact { verdict result ≡ first (moved offset (elements_broken T.size (first_slice (drop offset (slices_in store.now))))) }
         ensures turns { tally.new.turns ≤ tally.old.turns + 0 * bytes_held (first_slice (drop offset (slices_in store.now))) }
@@ -114,8 +114,8 @@ impl<'v, T: Element> Stored for &'v [T] {
     }
 
     fn rows_in(store: &DecodedStore<'_>, offset: usize) -> usize
-        requires representable { IsTrue (representable (elements_format T.size T.row_of)) }
-        requires fits { Fits (elements_format T.size T.row_of) offset (slices_in store.now) }
+        requires representable { IsTrue (representable (elements_format T.size T.align T.row_of)) }
+        requires fits { Fits (elements_format T.size T.align T.row_of) offset (slices_in store.now) }
         ensures { result ≡ length (elements_rows T.size T.row_of (first_slice (drop offset (slices_in store.now)))) }
     {
         Vec::<T>::rows_in(store, offset)
@@ -140,11 +140,11 @@ impl<'s> FromBytes<'s> for &'s [u8] {
 impl<'s, T: Sliced> AsBytes<'s> for &'s [T] {
     /// The one slice, with the alignment of the type.
     fn get_byte_slice(&self, index: usize) -> (u64, ByteSlice<'s>)
-        requires representable { IsTrue (representable (elements_format T.size T.row_of)) }
+        requires representable { IsTrue (representable (elements_format T.size T.align T.row_of)) }
         requires in_range { index < 1 }
         ensures slice { slice_get (slices_of (elements T.le_bytes self.now.now)) index ≡ Some (bytes_in result.1) }
         ensures align { result.0 ≡ alignment result.1 }
-        ensures of_type { result.0 ≡ T.align }
+        ensures aligned { slice_get (T.align ∷ []) index ≡ Some result.0 }
     {
         let slice = T::byte_slice(*self);
         (slice.align(), slice)

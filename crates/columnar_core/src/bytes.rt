@@ -1,6 +1,6 @@
 //! Columns as slices of bytes.
-ghost use Rattle.std.specs.Prelude.{◌≡◌, ℕ, ◌+◌, ◌*◌, ◌^◌, ◌<◌, ◌≤◌, ◌++◌, Some, IsTrue, slice_get, length, drop, OnOk, OnErr, IfErr};
-ghost use Rattle.columnar_base.specs.Format.{Format, Fits, IsSound, IsStorable, bytes_held, faults_at, first, moved, representable, slices_of};
+ghost use Rattle.std.specs.Prelude.{◌≡◌, ℕ, ◌+◌, ◌*◌, ◌^◌, ◌<◌, ◌≤◌, ◌++◌, Some, IsTrue, slice_get, length, take, drop, OnOk, OnErr, IfErr};
+ghost use Rattle.columnar_base.specs.Format.{Format, Fits, IsSound, IsStorable, bytes_held, bytes_of_all, faults_at, first, moved, representable, slices_of};
 ghost use Rattle.columnar_base.specs.Faults.{verdict};
 ghost use Rattle.columnar_core.specs.Store.{slices_in, slices_left};
 ghost use Rattle.columnar_core.specs.Slices.{bytes_in, alignment};
@@ -45,7 +45,8 @@ pub trait Stored: Column {
         requires fits { Fits Self.format offset (slices_in store.now) }
         ensures { result ≡ length (Self.format.rows (Self.format.build (drop offset (slices_in store.now)))) };
 
-    /// As `validate`; the turns that it takes are added to the tally, at most 16 for each byte of its slices.
+    /// As `validate`; the turns that it takes are added to the tally, at most 16 for each byte of its slices, accepted
+    /// or refused.
     final fn validate_tallied<L>(
         store: &DecodedStore<'_>,
         offset: &mut usize,
@@ -55,7 +56,7 @@ pub trait Stored: Column {
         ensures exact { verdict result ≡ first (faults_at Self.format offset.old (slices_in store.now)) }
         ensures next { OnOk result (offset.new ≡ offset.old + Self.format.count) }
         ensures stays { OnErr result (offset.new ≡ offset.old) }
-        ensures turns { tally.new.turns ≤ tally.old.turns + 16 * bytes_held (Self.format.build (drop offset.old (slices_in store.now))) }
+        ensures turns { tally.new.turns ≤ tally.old.turns + 16 * bytes_of_all (take Self.format.count (drop offset.old (slices_in store.now))) }
     {
         let count = Self::slice_count();
         let start = *offset;
@@ -129,7 +130,7 @@ pub trait Check: Stored {
 }
 
 /// A view that is made of slices that live for `'a`.
-pub trait FromBytes<'a>: Check {
+pub trait FromBytes<'a>: Stored {
     /// The view of the slices from `offset` on, which moves past them. Asks that they are there; the view is well
     /// formed where `validate` accepts them.
     fn from_store(store: &DecodedStore<'a>, offset: &mut usize) -> Self
@@ -141,13 +142,14 @@ pub trait FromBytes<'a>: Check {
 
 /// A column, or a view of one, whose slices live for `'a`.
 pub trait AsBytes<'a>: Stored {
-    /// Slice `index`, with the alignment of its elements in bytes. Asks that the type is representable and that
+    /// Slice `index`, with the alignment of its elements in bytes, which the type alone determines. Asks that the type is representable and that
     /// `index` is below its number of slices.
     fn get_byte_slice(&self, index: usize) -> (u64, ByteSlice<'a>)
         requires representable { IsTrue (representable Self.format) }
         requires in_range { index < Self.format.count }
         ensures slice { slice_get (slices_of (Self.content self.now)) index ≡ Some (bytes_in result.1) }
-        ensures align { result.0 ≡ alignment result.1 };
+        ensures align { result.0 ≡ alignment result.1 }
+        ensures aligned { slice_get Self.format.aligns index ≡ Some result.0 };
 }
 
 /// The slices of a column in order, each with the alignment of its elements.

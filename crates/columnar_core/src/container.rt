@@ -4,21 +4,21 @@ ghost use Rattle.std.specs.Iterator.{IsFinite};
 ghost use Rattle.columnar_base.specs.Row.{Row, unit};
 ghost use Rattle.columnar_base.specs.Format.{Content, Format, Fits, IsSound, representable, slices_of};
 ghost use Rattle.columnar_core.specs.Store.{slices_in};
-ghost use Rattle.columnar_core.specs.Slices.{bytes_in};
+ghost use Rattle.columnar_core.specs.Slices.{bytes_in, alignment};
 ghost use Rattle.columnar_base.specs.Change.{Copied, Refused, Stayed};
 
 use crate::byte_slice::ByteSlice;
 use crate::bytes::Stored;
 use crate::store::DecodedStore;
 use columnar_base::fault::GrowError;
-pub use columnar_base::storage::Storage;
+pub use columnar_base::storage::{Reserve, Storage, Truncate};
 use columnar_base::traits::{Column, Index, Item, Len, Push};
 use std::alloc::Global;
 use std::marker::PhantomData;
 use std::ops::Range;
 
 /// A column that copies ranges of rows out of views of type `V`.
-pub trait ExtendFrom<V: Index + Copy>: Storage {
+pub trait ExtendFrom<V: Column + Copy>: Storage + Reserve {
     /// The room, and what the slices of the view take besides.
     fn add_room(room: Self::Room, view: V) -> Self::Room;
 
@@ -73,12 +73,12 @@ pub trait ExtendFrom<V: Index + Copy>: Storage {
 }
 
 /// A column that is borrowed, for a lifetime, as a view with the same content.
-pub trait Borrow<'a>: Len + Clone {
+pub trait Borrow<'a>: Column {
     /// A row of the view.
     type Ref: Copy + Item;
 
     /// The view.
-    type Borrowed: Copy + Index<Ref = Self::Ref>;
+    type Borrowed: Copy + Len + Index<Ref = Self::Ref>;
 
     /// Names the types that the views of the parts bring and that `Ref` and `Borrowed` leave out. Nothing has a value
     /// of it.
@@ -127,17 +127,19 @@ pub trait ReborrowRef<'b>: Item {
 
 /// All that a container does with the views and rows of one lifetime.
 pub trait Container<'a>: Borrow<'a>
+    + Clone
     + Storage
     + Push<<Self as Borrow<'a>>::Ref>
     + ExtendFrom<<Self as Borrow<'a>>::Borrowed> {}
 
 /// A container that can be written to bytes and loaded from them. What it says of bytes is what its view says.
-pub trait ContainerBytes: Storage + Stored {
+pub trait ContainerBytes: Stored {
     /// Slice `index` of the column, as its view's.
     fn byte_slice(&self, index: usize) -> ByteSlice<'_>
         requires representable { IsTrue (representable Self.format) }
         requires in_range { index < Self.format.count }
-        ensures { slice_get (slices_of (Self.content self.now)) index ≡ Some (bytes_in result) };
+        ensures slice { slice_get (slices_of (Self.content self.now)) index ≡ Some (bytes_in result) }
+        ensures aligned { slice_get Self.format.aligns index ≡ Some (alignment result) };
 
     /// A column of the rows and slices of a store that was accepted, each part loaded whole; want of memory alone
     /// refuses it.

@@ -10,6 +10,7 @@ pub mod owned;
 pub mod slice;
 pub mod store;
 pub mod tuple;
+pub mod two;
 pub mod values;
 pub mod vector;
 pub mod viewed;

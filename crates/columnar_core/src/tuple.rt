@@ -8,14 +8,15 @@ use crate::byte_slice::ByteSlice;
 use crate::bytes::{AsBytes, Check, FromBytes, Stored};
 use crate::container::{Borrow, Container, ContainerBytes, ExtendFrom, Reborrow, ReborrowRef};
 use crate::store::DecodedStore;
+use crate::two::{byte_slice_of_two, check_two, judge_two, load_two, sizes_of_two, slice_of_two};
 use columnar_base::fault::{GrowError, StoreFault};
 use columnar_base::tally::Tally;
-use columnar_base::traits::{Index, Len};
+use columnar_base::traits::{Column, Len};
 use std::alloc::Global;
 use std::ops::Range;
 
 /// Each part copies the range out of its own view. Where one of them is refused, neither has taken any row.
-impl<V: Index + Copy, W: Index + Copy, A: ExtendFrom<V>, B: ExtendFrom<W>> ExtendFrom<(V, W)>
+impl<V: Column + Copy, W: Column + Copy, A: ExtendFrom<V>, B: ExtendFrom<W>> ExtendFrom<(V, W)>
     for (A, B) {
     fn add_room(room: (A::Room, B::Room), view: (V, W)) -> (A::Room, B::Room) {
         (A::add_room(room.0, view.0), B::add_room(room.1, view.1))
@@ -89,18 +90,7 @@ impl<A: Stored, B: Stored> Stored for (A, B) {
     }
 
     fn element_sizes(sizes: &mut Vec<usize>) -> Result<(), GrowError> {
-        let before = sizes.len();
-        match A::element_sizes(sizes) {
-            Ok(()) => {}
-            Err(error) => return Err(error),
-        }
-        match B::element_sizes(sizes) {
-            Ok(()) => Ok(()),
-            Err(error) => {
-                sizes.truncate(before);
-                Err(error)
-            }
-        }
+        sizes_of_two::<A, B>(sizes)
     }
 
     fn judge_tallied<L>(
@@ -108,17 +98,12 @@ impl<A: Stored, B: Stored> Stored for (A, B) {
         offset: usize,
         tally: &mut Tally<L>,
     ) -> Result<(), StoreFault> {
-        match A::judge_tallied(store, offset, tally) {
-            Ok(()) => {}
-            Err(fault) => return Err(fault),
-        }
-        let middle = offset + A::slice_count();
-        match B::judge_tallied(store, middle, tally) {
+        match judge_two::<A, B, L>(store, offset, tally) {
             Ok(()) => {}
             Err(fault) => return Err(fault),
         }
         let rows = A::rows_in(store, offset);
-        if rows == B::rows_in(store, middle) {
+        if rows == B::rows_in(store, offset + A::slice_count()) {
             Ok(())
         } else {
             Err(StoreFault::Parts(offset))
@@ -132,12 +117,7 @@ impl<A: Stored, B: Stored> Stored for (A, B) {
 
 impl<A: Check + Len, B: Check + Len> Check for (A, B) {
     fn check_from_tallied<L>(&self, from: usize, tally: &mut Tally<L>) -> Result<(), StoreFault> {
-        match self.0.check_from_tallied(from, tally) {
-            Ok(()) => {}
-            Err(fault) => return Err(fault),
-        }
-        let middle = from + A::slice_count();
-        match self.1.check_from_tallied(middle, tally) {
+        match check_two(&self.0, &self.1, from, tally) {
             Ok(()) => {}
             Err(fault) => return Err(fault),
         }
@@ -150,7 +130,7 @@ impl<A: Check + Len, B: Check + Len> Check for (A, B) {
     }
 }
 
-impl<'s, A: FromBytes<'s> + Len, B: FromBytes<'s> + Len> FromBytes<'s> for (A, B) {
+impl<'s, A: FromBytes<'s>, B: FromBytes<'s>> FromBytes<'s> for (A, B) {
     fn from_store(store: &DecodedStore<'s>, offset: &mut usize) -> Self {
         let first = A::from_store(store, offset);
         let second = B::from_store(store, offset);
@@ -160,34 +140,17 @@ impl<'s, A: FromBytes<'s> + Len, B: FromBytes<'s> + Len> FromBytes<'s> for (A, B
 
 impl<'s, A: AsBytes<'s>, B: AsBytes<'s>> AsBytes<'s> for (A, B) {
     fn get_byte_slice(&self, index: usize) -> (u64, ByteSlice<'s>) {
-        let first = A::slice_count();
-        if index < first {
-            self.0.get_byte_slice(index)
-        } else {
-            self.1.get_byte_slice(index - first)
-        }
+        slice_of_two(&self.0, &self.1, index)
     }
 }
 
 /// Where memory is refused for the second part, the first, already loaded, is dropped.
 impl<A: ContainerBytes + Drop, B: ContainerBytes> ContainerBytes for (A, B) {
     fn byte_slice(&self, index: usize) -> ByteSlice<'_> {
-        let first = A::slice_count();
-        if index < first {
-            self.0.byte_slice(index)
-        } else {
-            self.1.byte_slice(index - first)
-        }
+        byte_slice_of_two(&self.0, &self.1, index)
     }
 
     fn load(alloc: Global, store: &DecodedStore<'_>, offset: usize) -> Result<Self, GrowError> {
-        let first = match A::load(alloc, store, offset) {
-            Ok(first) => first,
-            Err(error) => return Err(error),
-        };
-        match B::load(alloc, store, offset + A::slice_count()) {
-            Ok(second) => Ok((first, second)),
-            Err(error) => Err(error),
-        }
+        load_two(alloc, store, offset)
     }
 }

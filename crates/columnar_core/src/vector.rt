@@ -44,7 +44,7 @@ fn append_rows<'x, T: Element>(
     start: usize,
     end: usize,
 ) -> Result<(), GrowError>
-    requires view_sound { IsSound (elements_format T.size T.row_of) (⟦<View<'x, T> as Column>⟧.content view) }
+    requires view_sound { IsSound (elements_format T.size T.align T.row_of) (⟦<View<'x, T> as Column>⟧.content view) }
     requires ordered { start ≤ end }
     requires in_range { end ≤ length (elements_rows T.size T.row_of (⟦<View<'x, T> as Column>⟧.content view)) }
     ensures ok { OnOk result (Appended T.meaning column.old.items column.new.items (take (end - start) (drop start (elements_rows T.size T.row_of (⟦<View<'x, T> as Column>⟧.content view.entry))))) }
@@ -123,7 +123,7 @@ where
 }
 
 impl<T: Element> Stored for Vec<T> {
-    ghost storable = { elements_storable T.size T.row_of };
+    ghost storable = { elements_storable T.size T.align T.row_of };
 
     ghost counted = { λ v. refl };
 
@@ -159,7 +159,7 @@ impl<T: Element> Stored for Vec<T> {
 impl<'v, T: Element> Stored for View<'v, T> {
     ghost use Rattle.columnar_base.specs.ViewLaws.{items_counted};
 
-    ghost storable = { elements_storable T.size T.row_of };
+    ghost storable = { elements_storable T.size T.align T.row_of };
 
     ghost counted = { λ v. items_counted T.le_bytes v.items };
 
@@ -170,7 +170,7 @@ impl<'v, T: Element> Stored for View<'v, T> {
     }
 
     fn element_sizes(sizes: &mut Vec<usize>) -> Result<(), GrowError>
-        requires { IsTrue (representable (elements_format T.size T.row_of)) }
+        requires { IsTrue (representable (elements_format T.size T.align T.row_of)) }
         ensures ok { OnOk result (sizes.new.items ≡ sizes.old.items ++ T.size ∷ []) }
         ensures err { OnErr result (sizes.new.items ≡ sizes.old.items) }
         ensures memory { IfErr result (λ e. e ≡ GrowError.Memory) }
@@ -186,7 +186,7 @@ impl<'v, T: Element> Stored for View<'v, T> {
         offset: usize,
         tally: &mut Tally<L>,
     ) -> Result<(), StoreFault>
-        requires representable { IsTrue (representable (elements_format T.size T.row_of)) }
+        requires representable { IsTrue (representable (elements_format T.size T.align T.row_of)) }
         requires room { offset + 1 ≤ length (slices_in store.now) }
         ensures exact { verdict result ≡ first (moved offset (elements_broken T.size (first_slice (drop offset (slices_in store.now))))) }
         ensures turns { tally.new.turns ≤ tally.old.turns + 0 * bytes_held (first_slice (drop offset (slices_in store.now))) }
@@ -198,8 +198,8 @@ impl<'v, T: Element> Stored for View<'v, T> {
     }
 
     fn rows_in(store: &DecodedStore<'_>, offset: usize) -> usize
-        requires representable { IsTrue (representable (elements_format T.size T.row_of)) }
-        requires fits { Fits (elements_format T.size T.row_of) offset (slices_in store.now) }
+        requires representable { IsTrue (representable (elements_format T.size T.align T.row_of)) }
+        requires fits { Fits (elements_format T.size T.align T.row_of) offset (slices_in store.now) }
         ensures { result ≡ length (elements_rows T.size T.row_of (first_slice (drop offset (slices_in store.now)))) }
     {
         Vec::<T>::rows_in(store, offset)
@@ -232,11 +232,11 @@ impl<'s, T: Element> FromBytes<'s> for View<'s, T> {
 impl<'s, T: Sliced> AsBytes<'s> for View<'s, T> {
     /// The one slice, with the alignment of the type, wherever the elements stand.
     fn get_byte_slice(&self, index: usize) -> (u64, ByteSlice<'s>)
-        requires representable { IsTrue (representable (elements_format T.size T.row_of)) }
+        requires representable { IsTrue (representable (elements_format T.size T.align T.row_of)) }
         requires in_range { index < 1 }
         ensures slice { slice_get (slices_of (⟦<View<'s, T> as Column>⟧.content self.now)) index ≡ Some (bytes_in result.1) }
         ensures align { result.0 ≡ alignment result.1 }
-        ensures of_type { result.0 ≡ T.align }
+        ensures aligned { slice_get (T.align ∷ []) index ≡ Some result.0 }
     {
         let slice = match self.items() {
             Items::Typed(items) => T::byte_slice(items),

@@ -15,7 +15,11 @@ use columnar_base::view::View;
 pub use columnar_base::words::{Words, byte_count, word_at, word_count};
 
 // As `rises_to` of a column of numbers: reads them one by one, a turn for each.
-fn rises_by_reading<C: Index<Ref = u64>, L>(column: &C, end: u64, tally: &mut Tally<L>) -> bool
+fn rises_by_reading<C: Index<Ref = u64> + Len, L>(
+    column: &C,
+    end: u64,
+    tally: &mut Tally<L>,
+) -> bool
     requires { IsSound C.format (C.content column.now) }
     ensures value { result ≡ rises 0 (numbers (C.format.rows (C.content column.now))) end }
     ensures turns { tally.new.turns ≤ tally.old.turns + length (C.format.rows (C.content column.now)) }

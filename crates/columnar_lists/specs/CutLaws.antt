@@ -167,6 +167,20 @@ all_same same e = record {
 pub lists_same : (same : Row → Row → Bool) → IsSame same → IsSame (list_alike same)
 lists_same same e = same_both (λ r s. row_eq (end_of r) (end_of s)) (λ r s. all_alike same (items_of r) (items_of s)) (same_pulled row_eq end_of row_eq_same) (all_same same e)
 
+-- what is alike one for one is kin one for one
+all_related : (alike kin : Row → Row → Bool) → ((r s : Row) → alike r s ≡ true → kin r s ≡ true) → (rs ss : List Row) → all_alike alike rs ss ≡ true → all_alike kin rs ss ≡ true
+all_related alike kin e [] [] h = refl
+all_related alike kin e [] (s ∷ ss) h = cc
+all_related alike kin e (r ∷ rs) [] h = cc
+all_related alike kin e (r ∷ rs) (s ∷ ss) h =
+    let p = and_parts (alike r s) (all_alike alike rs ss) h in
+    and_from _ _ (e r s p.0) (all_related alike kin e rs ss p.1)
+
+pub lists_related : (alike kin : Row → Row → Bool) → ((r s : Row) → alike r s ≡ true → kin r s ≡ true) → (r s : Row) → list_alike alike r s ≡ true → list_alike kin r s ≡ true
+lists_related alike kin e r s h =
+    let p = and_parts (row_eq (end_of r) (end_of s)) (all_alike alike (items_of r) (items_of s)) h in
+    and_from _ _ p.0 (all_related alike kin e (items_of r) (items_of s) p.1)
+
 pub list_exact : (same : Row → Row → Bool) → IsExact same → IsExact (list_alike same)
 list_exact same p = record {
   exact = λ r s h.

@@ -1,3 +1,5 @@
 pub mod Lists
 pub mod CutLaws
 pub mod ListLaws
+pub mod Cut
+pub mod CutIs

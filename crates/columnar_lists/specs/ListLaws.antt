@@ -1,22 +1,22 @@
 -- What the format of lists keeps to, and what growth, a refusal and a cut of its parts leave of it.
-use Rattle.std.proofs.Common.{◌≡◌, ℕ, zero, suc, ◌+◌, ◌%◌, ◌^◌, ◌-◌, ◌<◌, ◌≤◌, Bool, true, false, ◌&&◌, ◌||◌, List, [], ◌∷◌, ◌++◌, length, take, drop, refl, sym, ◌∙◌, ap, arith, length-append, length-take, append_assoc, length-drop, append-nil}
+use Rattle.std.proofs.Common.{◌≡◌, ℕ, zero, suc, ◌+◌, ◌%◌, ◌^◌, ◌-◌, ◌<◌, ◌≤◌, Bool, true, false, ◌&&◌, ◌||◌, List, [], ◌∷◌, ◌++◌, length, take, drop, refl, sym, ◌∙◌, ap, arith, length-append, length-take, length-drop, append-nil}
 use Rattle.std.proofs.Math.Seq.{drop-append_seam, take-length}
 use Rattle.std.specs.Prelude.{slice_get, Some, nat_le}
-use Rattle.std.proofs.lemmas.List.{take-append-drop, take-append-le, map-append, length-map, take-map, drop-drop}
+use Rattle.std.proofs.lemmas.List.{take-append-drop, take-append-le, map-append, length-map, take-map}
 use Rattle.std.proofs.lemmas.Bool.{or_right, and_parts, and_from, leb-true, le-leb}
 use Rattle.columnar_base.specs.Row.{Row, list, number, number_of, items_of, end_of, empty}
 use Rattle.columnar_base.specs.RowLaws.{is-row_eq, items_of-list, end_of-list}
 use Rattle.columnar_base.specs.Elements.{word_row}
 use Rattle.columnar_base.specs.FaultLaws.{nothing_left, nothing_both, nothing_moved, moved_nothing, unless_true, true_unless}
 use Rattle.columnar_base.specs.AlikeLaws.{alike_length}
-use Rattle.columnar_base.specs.Format.{Format, Content, slice, both, part, plain, part_format, Fits, IsSound, IsLawful, IsStorable, lengths, slices_of, moved, unless, fault, Excess, refuses_more}
+use Rattle.columnar_base.specs.Format.{Format, Content, slice, both, part, plain, part_format, IsSound, IsLawful, IsStorable, lengths, moved, unless, fault, Excess, refuses_more}
 use Rattle.columnar_base.specs.Change.{Keeps, Grew, Stayed, WasCut, Took, Copied, Refused}
 use Rattle.columnar_base.specs.ChangeLaws.{grew_exactly, true_from}
-use Rattle.columnar_base.specs.TwoParts.{TwoParts, two_sized, two_counted, two_slices}
+use Rattle.columnar_base.specs.TwoParts.{IsBoth, TwoParts, two_storable}
 use Rattle.columnar_base.specs.declared.fault.GrowError.{GrowError}
 use Rattle.columnar_core.specs.Bounds.{rises, numbers, IsBounds}
 use Rattle.columnar_lists.specs.Lists.{lists_format, lists_rows, lists_refuses, joined, cut, last_or, end_at, ends, shifted}
-use Rattle.columnar_lists.specs.CutLaws.{rises-last, rises-from, rises-append, rises-take, last-take, length-cut, cut-take, cut-append, cut-more, are_lists, cut_lists, joined-cut, joined-append, ends-append, ends_rise, cut_alike, cut_exactly, lists_same, ends_cut, rises-range, cut-range, shifted-range, rises_get, last_at, number_get, bound_between}
+use Rattle.columnar_lists.specs.CutLaws.{rises-last, rises-from, rises-append, rises-take, last-take, length-cut, cut-take, cut-append, cut-more, are_lists, cut_lists, joined-cut, joined-append, ends-append, ends_rise, cut_alike, cut_exactly, lists_same, lists_related, ends_cut, rises-range, cut-range, shifted-range, rises_get, last_at, number_get, bound_between}
 
 -- what the soundness of lists is made of
 pub record SoundLists (b t : Format) (x y : Content) : Type 0 where
@@ -61,27 +61,6 @@ lists_full b t lb lt (slice bs) s = cc
 lists_full b t lb lt (part l u x) s = cc
 lists_full b t lb lt (plain rs) s = cc
 
-lists_counted : (b t : Format) → IsLawful b → IsLawful t → (c : Content) → IsSound (lists_format b t) c → length (slices_of c) ≡ b.count + t.count
-lists_counted b t lb lt (both x y) s =
-    let p = lists_parts b t s in
-    two_counted (slices_of x) (slices_of y) (lb.counted x p.bounds) (lt.counted y p.values)
-lists_counted b t lb lt (slice bs) s = cc
-lists_counted b t lb lt (part l u x) s = cc
-lists_counted b t lb lt (plain rs) s = cc
-
-lists_rebuilt : (b t : Format) → IsLawful b → IsLawful t → (c : Content) (rest : List (List ℕ)) → IsSound (lists_format b t) c → (lists_format b t).build (slices_of c ++ rest) ≡ c
-lists_rebuilt b t lb lt (both x y) rest s =
-    let p = lists_parts b t s in
-    let n = lb.counted x p.bounds in
-    let e : (slices_of x ++ slices_of y) ++ rest ≡ slices_of x ++ (slices_of y ++ rest) = append_assoc (slices_of x) (slices_of y) rest in
-    let d : drop b.count (slices_of x ++ (slices_of y ++ rest)) ≡ slices_of y ++ rest = rw (← n) (drop-append_seam (slices_of x) (slices_of y ++ rest)) in
-    let u = lb.rebuilt x (slices_of y ++ rest) p.bounds in
-    let v = lt.rebuilt y rest p.values in
-    rw (e, u, d, v) refl
-lists_rebuilt b t lb lt (slice bs) rest s = cc
-lists_rebuilt b t lb lt (part l u x) rest s = cc
-lists_rebuilt b t lb lt (plain rs) rest s = cc
-
 -- lists with more behind them are refused where either part refuses
 either : (a b c d : Bool) → (a ≡ true → c ≡ true) → (b ≡ true → d ≡ true) → (a || b) ≡ true → (c || d) ≡ true
 either true b c d p q h = rw (p refl) refl
@@ -97,37 +76,27 @@ lists_more b t lb lt e (slice bs) n rs ss h = cc
 lists_more b t lb lt e (part l u x) n rs ss h = cc
 lists_more b t lb lt e (plain us) n rs ss h = cc
 
+lists_form : (b t : Format) (c : Content) → IsSound (lists_format b t) c → IsBoth c
+lists_form b t (both x y) s = record { left = x; right = y; is = refl }
+lists_form b t (slice bs) s = cc
+lists_form b t (part l u x) s = cc
+lists_form b t (plain rs) s = cc
+
 -- the test of lists: both parts', and that the bounds rise to the number of the values
 pub lists_two : (b t : Format) → TwoParts (lists_format b t) b t (λ x y. rises 0 (numbers (b.rows x)) (length (t.rows y))) 11
-lists_two b t = record { count = refl; sizes = refl; build = λ ss. refl; broken = λ x y. refl }
-
-lists_built : (b t : Format) → IsLawful b → IsLawful t → (ss : List (List ℕ)) → b.count + t.count ≤ length ss → IsSound (lists_format b t) ((lists_format b t).build ss) → slices_of ((lists_format b t).build ss) ≡ take (b.count + t.count) ss
-lists_built b t lb lt ss l s =
-    let p = lists_parts b t s in
-    two_slices (lists_two b t) ss l (λ k. lb.built ss k p.bounds) (λ k. lt.built (drop b.count ss) k p.values)
+lists_two b t = record { count = refl; sizes = refl; aligns = refl; form = lists_form b t; build = λ ss. refl; broken = λ x y. refl }
 
 pub lists_lawful : (b t : Format) → IsLawful b → IsLawful t → IsLawful (lists_format b t)
 lists_lawful b t lb lt = record {
   full = lists_full b t lb lt;
-  counted = lists_counted b t lb lt;
-  rebuilt = lists_rebuilt b t lb lt;
-  built = lists_built b t lb lt;
   same = lists_same t.alike lt.same;
+  kindred = lists_same t.kin lt.kindred;
+  related = lists_related t.alike t.kin lt.related;
   more = lists_more b t lb lt;
 }
 
 pub lists_storable : (b t : Format) → IsStorable b → IsStorable t → IsStorable (lists_format b t)
-lists_storable b t p q = record { swift = omega arith; sized = two_sized (lists_two b t) p q }
-
--- the slices of both parts fit where those of the lists do
-pub lists_fit_bounds : (b t : Format) (o : ℕ) (ss : List (List ℕ)) → Fits (lists_format b t) o ss → Fits b o ss
-lists_fit_bounds b t o ss h = record { room = let r : o + (b.count + t.count) ≤ length ss = h.room in omega arith; sound = (lists_parts b t h.sound).bounds }
-
-pub lists_fit_values : (b t : Format) (o : ℕ) (ss : List (List ℕ)) → Fits (lists_format b t) o ss → Fits t (o + b.count) ss
-lists_fit_values b t o ss h = record {
-  room = let r : o + (b.count + t.count) ≤ length ss = h.room in omega arith;
-  sound = rw (drop-drop b.count o ss) at (lists_parts b t h.sound).values;
-}
+lists_storable b t p q = two_storable (lists_two b t) (omega arith) p q
 
 -- extents and limits are kept where both parts keep them
 pub lists_kept : (b t : Format) {x x' y y' : Content} (ms : List ℕ) → SoundLists b t x y → numbers (b.rows x') ≡ numbers (b.rows x) ++ ms → Keeps b x x' (length (b.rows x)) → Keeps t y y' (length (t.rows y)) → Keeps (lists_format b t) (both x y) (both x' y') (length (cut 0 (numbers (b.rows x)) (t.rows y)))

@@ -66,6 +66,7 @@ abbrev pub lists_format : Format → Format → Format
 lists_format b t = record {
   count = b.count + t.count;
   sizes = b.sizes ++ t.sizes;
+  aligns = b.aligns ++ t.aligns;
   turns = 16;
   broken = lists_broken b t;
   rows = lists_rows b t;

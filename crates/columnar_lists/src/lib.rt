@@ -1,4 +1,5 @@
 //! Columns of lists: the items of all lists one after another, and where each list ends.
 #![tactic(auto)]
 
+pub mod laws;
 pub mod vector;

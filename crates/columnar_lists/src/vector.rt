@@ -14,10 +14,13 @@ use columnar_base::traits::{Clear, Column, Index, Item, Len, Push};
 use columnar_core::byte_slice::ByteSlice;
 use columnar_core::bytes::{AsBytes, Check, FromBytes, Stored};
 use columnar_core::container::{
-    Borrow, Container, ContainerBytes, ExtendFrom, Named, Reborrow, Storage,
+    Borrow, Container, ContainerBytes, ExtendFrom, Named, Reborrow, Reserve, Storage, Truncate,
 };
 use columnar_core::offsets::{Offsets, StoredOffsets};
 use columnar_core::store::DecodedStore;
+use columnar_core::two::{
+    byte_slice_of_two, check_two, judge_two, load_two, sizes_of_two, slice_of_two,
+};
 use std::alloc::Global;
 use std::ops::Range;
 
@@ -50,7 +53,7 @@ impl<TC: Column, BC: Column> Column for Vecs<TC, BC> {
     ghost content = { λ v. both (BC.content v.bounds) (TC.content v.values) };
 }
 
-impl<TC: Len, BC: Len> Len for Vecs<TC, BC> {
+impl<TC: Column, BC: Len> Len for Vecs<TC, BC> {
     fn len(&self) -> usize {
         self.bounds.len()
     }
@@ -98,11 +101,17 @@ impl<V: Index + Copy, TC: ExtendFrom<V>, BC: Offsets + Push<u64>> Push<Slice<V>>
     }
 }
 
-impl<TC: Storage, BC: Storage + Offsets> Storage for Vecs<TC, BC> {
-    type Room = (BC::Room, TC::Room);
-
+impl<TC: Truncate, BC: Truncate + Offsets> Truncate for Vecs<TC, BC> {
     ghost lawful = { lists_lawful BC.format TC.format BC.lawful TC.lawful };
 
+    fn truncate(&mut self, n: usize) {
+        let end = start_of(&self.bounds, n);
+        self.values.truncate(end as usize);
+        self.bounds.truncate(n);
+    }
+}
+
+impl<TC: Storage, BC: Storage + Offsets> Storage for Vecs<TC, BC> {
     fn empty(alloc: Global) -> Self {
         let bounds = BC::empty(alloc);
         let values = TC::empty(alloc);
@@ -110,35 +119,22 @@ impl<TC: Storage, BC: Storage + Offsets> Storage for Vecs<TC, BC> {
     }
 
     fn duplicate(&self, alloc: Global) -> Result<Self, GrowError> {
-        let bounds = match self.bounds.duplicate(alloc) {
-            Ok(bounds) => bounds,
-            Err(error) => return Err(error),
-        };
-        match self.values.duplicate(alloc) {
-            Ok(values) => Ok(Vecs { bounds, values }),
-            Err(error) => Err(error),
-        }
+        let bounds = self.bounds.duplicate(alloc)?;
+        let values = self.values.duplicate(alloc)?;
+        Ok(Vecs { bounds, values })
     }
+}
 
-    fn truncate(&mut self, n: usize) {
-        let end = start_of(&self.bounds, n);
-        self.values.truncate(end as usize);
-        self.bounds.truncate(n);
-    }
+impl<TC: Reserve, BC: Reserve> Reserve for Vecs<TC, BC> {
+    type Room = (BC::Room, TC::Room);
 
     fn no_room() -> (BC::Room, TC::Room) {
         (BC::no_room(), TC::no_room())
     }
 
     fn reserve_room(&mut self, room: (BC::Room, TC::Room)) -> Result<(), GrowError> {
-        match self.bounds.reserve_room(room.0) {
-            Ok(()) => {}
-            Err(error) => return Err(error),
-        }
-        match self.values.reserve_room(room.1) {
-            Ok(()) => Ok(()),
-            Err(error) => Err(error),
-        }
+        self.bounds.reserve_room(room.0)?;
+        self.values.reserve_room(room.1)
     }
 }
 
@@ -159,7 +155,7 @@ impl<'a, TC: Borrow<'a>, BC: Borrow<'a, Borrowed: Offsets>> Borrow<'a> for Vecs<
 }
 
 // Pushes bounds of a view, those of the range, each moved from `lower` to `start`; or none of them.
-fn push_shifted<W: Offsets, BC: Storage + Push<u64>>(
+fn push_shifted<W: Offsets, BC: Truncate + Push<u64>>(
     bounds: &mut BC,
     view: &W,
     range: Range<usize>,
@@ -254,18 +250,7 @@ impl<TC: Stored, BC: StoredOffsets> Stored for Vecs<TC, BC> {
     }
 
     fn element_sizes(sizes: &mut Vec<usize>) -> Result<(), GrowError> {
-        let before = sizes.len();
-        match BC::element_sizes(sizes) {
-            Ok(()) => {}
-            Err(error) => return Err(error),
-        }
-        match TC::element_sizes(sizes) {
-            Ok(()) => Ok(()),
-            Err(error) => {
-                sizes.truncate(before);
-                Err(error)
-            }
-        }
+        sizes_of_two::<BC, TC>(sizes)
     }
 
     fn judge_tallied<L>(
@@ -273,16 +258,11 @@ impl<TC: Stored, BC: StoredOffsets> Stored for Vecs<TC, BC> {
         offset: usize,
         tally: &mut Tally<L>,
     ) -> Result<(), StoreFault> {
-        match BC::judge_tallied(store, offset, tally) {
+        match judge_two::<BC, TC, L>(store, offset, tally) {
             Ok(()) => {}
             Err(fault) => return Err(fault),
         }
-        let middle = offset + BC::slice_count();
-        match TC::judge_tallied(store, middle, tally) {
-            Ok(()) => {}
-            Err(fault) => return Err(fault),
-        }
-        let values = TC::rows_in(store, middle);
+        let values = TC::rows_in(store, offset + BC::slice_count());
         if BC::rises_in_tallied(store, offset, values as u64, tally) {
             Ok(())
         } else {
@@ -297,14 +277,7 @@ impl<TC: Stored, BC: StoredOffsets> Stored for Vecs<TC, BC> {
 
 impl<TC: Check + Len, BC: Check + StoredOffsets + Offsets> Check for Vecs<TC, BC> {
     fn check_from_tallied<L>(&self, from: usize, tally: &mut Tally<L>) -> Result<(), StoreFault> {
-        match self.bounds.check_from_tallied(from, tally) {
-            Ok(()) => {}
-            Err(fault) => return Err(fault),
-        }
-        match self
-            .values
-            .check_from_tallied(from + BC::slice_count(), tally)
-        {
+        match check_two(&self.bounds, &self.values, from, tally) {
             Ok(()) => {}
             Err(fault) => return Err(fault),
         }
@@ -317,8 +290,7 @@ impl<TC: Check + Len, BC: Check + StoredOffsets + Offsets> Check for Vecs<TC, BC
     }
 }
 
-impl<'s, TC: FromBytes<'s> + Len, BC: FromBytes<'s> + StoredOffsets + Offsets> FromBytes<'s>
-    for Vecs<TC, BC> {
+impl<'s, TC: FromBytes<'s>, BC: FromBytes<'s> + StoredOffsets> FromBytes<'s> for Vecs<TC, BC> {
     fn from_store(store: &DecodedStore<'s>, offset: &mut usize) -> Self {
         let bounds = BC::from_store(store, offset);
         let values = TC::from_store(store, offset);
@@ -328,34 +300,19 @@ impl<'s, TC: FromBytes<'s> + Len, BC: FromBytes<'s> + StoredOffsets + Offsets> F
 
 impl<'s, TC: AsBytes<'s>, BC: AsBytes<'s> + StoredOffsets> AsBytes<'s> for Vecs<TC, BC> {
     fn get_byte_slice(&self, index: usize) -> (u64, ByteSlice<'s>) {
-        let first = BC::slice_count();
-        if index < first {
-            self.bounds.get_byte_slice(index)
-        } else {
-            self.values.get_byte_slice(index - first)
-        }
+        slice_of_two(&self.bounds, &self.values, index)
     }
 }
 
-impl<TC: ContainerBytes, BC: ContainerBytes + Offsets + StoredOffsets + Drop> ContainerBytes
+/// Where memory is refused for the values, the bounds, already loaded, are dropped.
+impl<TC: ContainerBytes, BC: ContainerBytes + StoredOffsets + Drop> ContainerBytes
     for Vecs<TC, BC> {
     fn byte_slice(&self, index: usize) -> ByteSlice<'_> {
-        let first = BC::slice_count();
-        if index < first {
-            self.bounds.byte_slice(index)
-        } else {
-            self.values.byte_slice(index - first)
-        }
+        byte_slice_of_two(&self.bounds, &self.values, index)
     }
 
     fn load(alloc: Global, store: &DecodedStore<'_>, offset: usize) -> Result<Self, GrowError> {
-        let bounds = match BC::load(alloc, store, offset) {
-            Ok(bounds) => bounds,
-            Err(error) => return Err(error),
-        };
-        match TC::load(alloc, store, offset + BC::slice_count()) {
-            Ok(values) => Ok(Vecs { bounds, values }),
-            Err(error) => Err(error),
-        }
+        let (bounds, values) = load_two::<BC, TC>(alloc, store, offset)?;
+        Ok(Vecs { bounds, values })
     }
 }

@@ -55,6 +55,7 @@ abbrev pub bools_format : Format
 bools_format = record {
   count = 2;
   sizes = 8 ∷ 8 ∷ [];
+  aligns = 8 ∷ 8 ∷ [];
   turns = 0;
   broken = bools_broken;
   rows = λ c. map truth (bools_bits c);

@@ -4,7 +4,7 @@ use Rattle.std.proofs.lemmas.List.{map-append, length-map, take-map, length-take
 use Rattle.std.proofs.lemmas.Bool.{and_parts, and_from, eqb-true, eq-eqb, ltb-true, lt-ltb}
 use Rattle.std.proofs.Math.Path.{ap₂}
 use Rattle.columnar_core.specs.Row.{Row, truth, row_eq}
-use Rattle.columnar_core.specs.Format.{Format, Content, slice, both, part, plain, IsSound, IsLawful, IsStorable, lengths, slices_of, Fault, fault, moved, unless, Excess, too_many, misplaced}
+use Rattle.columnar_core.specs.Format.{Format, Content, slice, both, part, plain, IsSound, IsLawful, IsStorable, lengths, slices_of, Fault, fault, moved, unless, too_many}
 use Rattle.columnar_core.specs.FaultLaws.{nothing_left, nothing_both, nothing_moved, moved_nothing, unless_true, true_unless}
 use Rattle.columnar_core.specs.AlikeLaws.{alike_all, row_eq_same}
 use Rattle.columnar_core.specs.Change.{Keeps, Grew, Stayed, WasCut, Took, Copied, Refused}
@@ -13,6 +13,7 @@ use Rattle.columnar_core.specs.Appended.{map_drop}
 use Rattle.columnar_core.specs.declared.fault.GrowError.{GrowError}
 use Rattle.columnar_core.specs.declared.fault.GrowError.TheVariants.{Memory, Length, Offset, Format as FormatError}
 use Rattle.columnar_core.specs.Elements.{elements_broken, past_count}
+use Rattle.columnar_core.specs.ElementLaws.{past_more}
 use Rattle.columnar_core.specs.WordViews.{words_in, bit_words, le_bytes}
 use Rattle.columnar_core.specs.WordViewLaws.{length-words_in, length-le_bytes, word_of_words, words_pushed, words_cut}
 use Rattle.columnar_primitive.specs.Bits.{bit, truths}
@@ -106,27 +107,29 @@ bools_counted c s = let f = bools_form c s in rw f.is refl
 bools_rebuilt : (c : Content) (rest : List (List ℕ)) → IsSound bools_format c → bools_format.build (slices_of c ++ rest) ≡ c
 bools_rebuilt c rest s = let f = bools_form c s in rw f.is refl
 
-bools_built : (ss : List (List ℕ)) → 2 ≤ length ss → IsSound bools_format (bools_format.build ss) → slices_of (bools_format.build ss) ≡ take 2 ss
-bools_built [] l s = absurd (omega arith)
-bools_built (a ∷ []) l s = absurd (omega arith)
-bools_built (a ∷ b ∷ ss) l s = refl
-
-past_more : (e : Excess) (m n : ℕ) → m ≤ n → past_count e m ≡ true → past_count e n ≡ true
-past_more too_many m n l h = lt-ltb (2 ^ 64 - 1) n (omega (arith, ltb-true (2 ^ 64 - 1) m h))
-past_more misplaced m n l h = h
+bools_built : (ss : List (List ℕ)) → 2 ≤ length ss → slices_of (bools_format.build ss) ≡ take 2 ss
+bools_built [] l = absurd (omega arith)
+bools_built (a ∷ []) l = absurd (omega arith)
+bools_built (a ∷ b ∷ ss) l = refl
 
 pub bools_lawful : IsLawful bools_format
 bools_lawful = record {
   full = bools_full;
-  counted = bools_counted;
-  rebuilt = bools_rebuilt;
-  built = bools_built;
   same = row_eq_same;
+  kindred = row_eq_same;
+  related = λ r s h. h;
   more = λ e c n rs ss h. past_more e (n + length rs) (n + length (rs ++ ss)) (omega (arith, length-append rs ss)) h;
 }
 
 pub bools_storable : IsStorable bools_format
-bools_storable = record { swift = omega arith; sized = refl }
+bools_storable = record {
+  swift = omega arith;
+  sized = refl;
+  aligned = refl;
+  counted = bools_counted;
+  rebuilt = bools_rebuilt;
+  built = bools_built;
+}
 
 -- changes
 

@@ -8,7 +8,7 @@ use Rattle.columnar_base.specs.Elements.{past_count}
 use Rattle.columnar_base.specs.Change.{Stayed, WasCut, Took, Copied, Refused}
 use Rattle.columnar_base.specs.Tuples.{tuples, firsts, seconds, pair_format, pair_refuses}
 use Rattle.columnar_base.specs.TupleLaws.{SoundPair, pair_parts, length-pair, pair_exact, pair_lawful, pair_storable, pair_two, pair_took, pair_copied_piece, pair_refused_left, pair_refused_right, pair_refused_left_piece, pair_refused_right_piece, pair_stayed, pair_cut, pair_within, pair_top, pair_none, pair_fits, fits_level, same_pair, slice_get-tuples}
-use Rattle.columnar_base.specs.TwoParts.{two_fine}
+use Rattle.columnar_base.specs.TwoParts.{both_broken, judged_fine}
 use Rattle.columnar_base.specs.declared.fault.GrowError.{GrowError}
 use Rattle.columnar_primitive.specs.Mapped.{all_pass, IsFlat}
 use Rattle.columnar_primitive.specs.MappedLaws.{mapped_parts, mapped_lawful, mapped_storable, mapped_took, mapped_copied, mapped_refused, mapped_stayed, mapped_cut, mapped_none, mapped_piece, mapped_get, mapped_fits, mapped_fine, mapped_own, same_mapped, pass_get, pass_take, pass_drop}
@@ -140,33 +140,32 @@ durations_level a b o ss h = length-map (tuples (a.rows (a.build (drop o ss))) (
 
 -- the parts break no rule, and are as long as each other
 
-pub durations_fine : (a b : Format) (x y : Content) (o : ℕ) → None ≡ first (moved o (a.broken x)) → None ≡ first (moved (o + a.count) (b.broken y)) → length (a.rows x) ≡ length (b.rows y) → all_pass is_part_second (b.rows y) ≡ true → None ≡ first (moved o ((durations_format a b).broken (both x y)))
-durations_fine a b x y o n m l p = mapped_fine (pair_format a b) as_duration is_duration (both x y) o (two_fine (pair_two a b) x y o n m (eq-eqb _ _ l)) (pass_seconds (a.rows x) (b.rows y) l ∙ p)
+pub durations_fine : (a b : Format) (x y : Content) (o : ℕ) → None ≡ first (both_broken a b x y o) → length (a.rows x) ≡ length (b.rows y) → all_pass is_part_second (b.rows y) ≡ true → None ≡ first (moved o ((durations_format a b).broken (both x y)))
+durations_fine a b x y o n l p = mapped_fine (pair_format a b) as_duration is_duration (both x y) o (judged_fine (pair_two a b) x y o n (eq-eqb _ _ l)) (pass_seconds (a.rows x) (b.rows y) l ∙ p)
 
-pub durations_own : (a b : Format) (x y : Content) (o : ℕ) → None ≡ first (moved o (a.broken x)) → None ≡ first (moved (o + a.count) (b.broken y)) → length (a.rows x) ≡ length (b.rows y) → all_pass is_part_second (b.rows y) ≡ false → Some (fault 14 o) ≡ first (moved o ((durations_format a b).broken (both x y)))
-durations_own a b x y o n m l p = mapped_own (pair_format a b) as_duration is_duration (both x y) o (two_fine (pair_two a b) x y o n m (eq-eqb _ _ l)) (pass_seconds (a.rows x) (b.rows y) l ∙ p)
+pub durations_own : (a b : Format) (x y : Content) (o : ℕ) → None ≡ first (both_broken a b x y o) → length (a.rows x) ≡ length (b.rows y) → all_pass is_part_second (b.rows y) ≡ false → Some (fault 14 o) ≡ first (moved o ((durations_format a b).broken (both x y)))
+durations_own a b x y o n l p = mapped_own (pair_format a b) as_duration is_duration (both x y) o (judged_fine (pair_two a b) x y o n (eq-eqb _ _ l)) (pass_seconds (a.rows x) (b.rows y) l ∙ p)
 
 -- the same over the slices of a store
 
-pub durations_fine_at : (a b : Format) (ss : List (List ℕ)) (o : ℕ) → None ≡ first (moved o (a.broken (a.build (drop o ss)))) → None ≡ first (moved (o + a.count) (b.broken (b.build (drop (o + a.count) ss)))) → length (a.rows (a.build (drop o ss))) ≡ length (b.rows (b.build (drop (o + a.count) ss))) → all_pass is_part_second (b.rows (b.build (drop (o + a.count) ss))) ≡ true → None ≡ first (moved o ((durations_format a b).broken ((durations_format a b).build (drop o ss))))
-durations_fine_at a b ss o n m l p =
+pub durations_fine_at : (a b : Format) (ss : List (List ℕ)) (o : ℕ) → None ≡ first (both_broken a b (a.build (drop o ss)) (b.build (drop (o + a.count) ss)) o) → length (a.rows (a.build (drop o ss))) ≡ length (b.rows (b.build (drop (o + a.count) ss))) → all_pass is_part_second (b.rows (b.build (drop (o + a.count) ss))) ≡ true → None ≡ first (moved o ((durations_format a b).broken ((durations_format a b).build (drop o ss))))
+durations_fine_at a b ss o n l p =
     let d : drop a.count (drop o ss) ≡ drop (o + a.count) ss = drop-drop a.count o ss in
-    rw d (durations_fine a b (a.build (drop o ss)) (b.build (drop (o + a.count) ss)) o n m l p)
+    rw d (durations_fine a b (a.build (drop o ss)) (b.build (drop (o + a.count) ss)) o n l p)
 
-pub durations_own_at : (a b : Format) (ss : List (List ℕ)) (o : ℕ) → None ≡ first (moved o (a.broken (a.build (drop o ss)))) → None ≡ first (moved (o + a.count) (b.broken (b.build (drop (o + a.count) ss)))) → length (a.rows (a.build (drop o ss))) ≡ length (b.rows (b.build (drop (o + a.count) ss))) → all_pass is_part_second (b.rows (b.build (drop (o + a.count) ss))) ≡ false → Some (fault 14 o) ≡ first (moved o ((durations_format a b).broken ((durations_format a b).build (drop o ss))))
-durations_own_at a b ss o n m l p =
+pub durations_own_at : (a b : Format) (ss : List (List ℕ)) (o : ℕ) → None ≡ first (both_broken a b (a.build (drop o ss)) (b.build (drop (o + a.count) ss)) o) → length (a.rows (a.build (drop o ss))) ≡ length (b.rows (b.build (drop (o + a.count) ss))) → all_pass is_part_second (b.rows (b.build (drop (o + a.count) ss))) ≡ false → Some (fault 14 o) ≡ first (moved o ((durations_format a b).broken ((durations_format a b).build (drop o ss))))
+durations_own_at a b ss o n l p =
     let d : drop a.count (drop o ss) ≡ drop (o + a.count) ss = drop-drop a.count o ss in
-    rw d (durations_own a b (a.build (drop o ss)) (b.build (drop (o + a.count) ss)) o n m l p)
+    rw d (durations_own a b (a.build (drop o ss)) (b.build (drop (o + a.count) ss)) o n l p)
 
 -- tests of the parts that take no turn, and then a turn for each row of the second
-pub durations_turns : (old mid next new s t m n rows : ℕ) → s ≡ 0 → t ≡ 0 → mid ≤ old + s * m → next ≤ mid + t * n → new ≤ next + rows → rows ≤ n → new ≤ old + 1 * (m + n)
-durations_turns old mid next new s t m n rows e f p q r l =
-    let u : mid ≤ old + 0 * m = rw e at p in
-    let v : next ≤ mid + 0 * n = rw f at q in
+pub durations_turns : (old next new s t m n rows : ℕ) → s ≡ 0 → t ≡ 0 → next ≤ old + (s * m + t * n) → new ≤ next + rows → rows ≤ n → new ≤ old + 1 * (m + n)
+durations_turns old next new s t m n rows e f p q l =
+    let u : next ≤ old + (0 * m + 0 * n) = rw (e, f) at p in
     omega arith
 
 -- the same over the slices of a store
-pub durations_turns_at : (a b : Format) (ss : List (List ℕ)) (o old mid next new : ℕ) → a.turns ≡ 0 → b.turns ≡ 0 → mid ≤ old + a.turns * bytes_held (a.build (drop o ss)) → next ≤ mid + b.turns * bytes_held (b.build (drop (o + a.count) ss)) → new ≤ next + length (b.rows (b.build (drop (o + a.count) ss))) → length (b.rows (b.build (drop (o + a.count) ss))) ≤ bytes_held (b.build (drop (o + a.count) ss)) → new ≤ old + 1 * bytes_held ((durations_format a b).build (drop o ss))
-durations_turns_at a b ss o old mid next new e f p q r l =
+pub durations_turns_at : (a b : Format) (ss : List (List ℕ)) (o old next new : ℕ) → a.turns ≡ 0 → b.turns ≡ 0 → next ≤ old + (a.turns * bytes_held (a.build (drop o ss)) + b.turns * bytes_held (b.build (drop (o + a.count) ss))) → new ≤ next + length (b.rows (b.build (drop (o + a.count) ss))) → length (b.rows (b.build (drop (o + a.count) ss))) ≤ bytes_held (b.build (drop (o + a.count) ss)) → new ≤ old + 1 * bytes_held ((durations_format a b).build (drop o ss))
+durations_turns_at a b ss o old next new e f p q l =
     let d : drop a.count (drop o ss) ≡ drop (o + a.count) ss = drop-drop a.count o ss in
-    rw d (durations_turns old mid next new a.turns b.turns (bytes_held (a.build (drop o ss))) (bytes_held (b.build (drop (o + a.count) ss))) (length (b.rows (b.build (drop (o + a.count) ss)))) e f p q r l)
+    rw d (durations_turns old next new a.turns b.turns (bytes_held (a.build (drop o ss))) (bytes_held (b.build (drop (o + a.count) ss))) (length (b.rows (b.build (drop (o + a.count) ss)))) e f p q l)

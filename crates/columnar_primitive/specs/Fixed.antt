@@ -40,6 +40,7 @@ abbrev pub fixed_format : ℕ → Format
 fixed_format k = record {
   count = 1;
   sizes = 8 ∷ [];
+  aligns = 8 ∷ [];
   turns = 0;
   broken = fixed_broken k;
   rows = fixed_rows k;

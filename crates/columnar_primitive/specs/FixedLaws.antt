@@ -9,6 +9,7 @@ use Rattle.columnar_core.specs.AlikeLaws.{row_eq_same, row_eq_exact, alike_all}
 use Rattle.columnar_core.specs.Change.{Keeps, Grew, WasCut, Took, Copied, IsTrueOf, Refused}
 use Rattle.columnar_core.specs.ChangeLaws.{unchanged}
 use Rattle.columnar_core.specs.Elements.{first_slice}
+use Rattle.columnar_core.specs.ElementLaws.{first_built}
 use Rattle.columnar_core.specs.Bounds.{IsBounds, rises, numbers}
 use Rattle.columnar_core.specs.Bytes.{word, le_bytes}
 use Rattle.columnar_core.specs.declared.fault.GrowError.{GrowError}
@@ -121,22 +122,24 @@ fixed_rebuilt k (both x y) rest s = cc
 fixed_rebuilt k (part l u x) rest s = cc
 fixed_rebuilt k (plain rs) rest s = cc
 
-fixed_built : (ss : List (List ℕ)) → 1 ≤ length ss → slices_of (first_slice ss) ≡ take 1 ss
-fixed_built [] l = absurd (omega arith)
-fixed_built (bs ∷ rest) l = refl
-
 pub fixed_lawful : (k : ℕ) → IsLawful (fixed_format k)
 fixed_lawful k = record {
   full = λ c s. fixed_full k c s;
-  counted = fixed_counted k;
-  rebuilt = fixed_rebuilt k;
-  built = λ ss l s. fixed_built ss l;
   same = row_eq_same;
+  kindred = row_eq_same;
+  related = λ r s h. h;
   more = λ e c n rs ss h. fixed_more k e n rs ss h;
 }
 
 pub fixed_storable : (k : ℕ) → IsStorable (fixed_format k)
-fixed_storable k = record { swift = omega arith; sized = refl }
+fixed_storable k = record {
+  swift = omega arith;
+  sized = refl;
+  aligned = refl;
+  counted = fixed_counted k;
+  rebuilt = fixed_rebuilt k;
+  built = first_built;
+}
 
 pub fixed_bounds : (k : ℕ) → IsBounds (fixed_format k)
 fixed_bounds k = record { exact = row_eq_exact; swift = omega arith }

@@ -21,6 +21,7 @@ abbrev pub mapped_format : Format → (Row → Row) → (Row → Bool) → Forma
 mapped_format f to test = record {
   count = f.count;
   sizes = f.sizes;
+  aligns = f.aligns;
   turns = 1;
   broken = λ c. f.broken c ++ unless (all_pass test (f.rows c)) (fault 14 0);
   rows = λ c. map to (f.rows c);

@@ -1,15 +1,15 @@
-use Rattle.std.proofs.Common.{◌≡◌, ℕ, zero, suc, ◌+◌, ◌-◌, ◌*◌, ◌/◌, ◌^◌, ◌≤◌, Bool, true, false, ◌&&◌, List, [], ◌∷◌, ◌++◌, length, take, drop, map, refl, sym, ◌∙◌, ap, arith, length-append}
+use Rattle.std.proofs.Common.{◌≡◌, ℕ, zero, suc, ◌+◌, ◌*◌, ◌/◌, ◌≤◌, Bool, true, false, ◌&&◌, List, [], ◌∷◌, ◌++◌, length, take, drop, map, refl, sym, ◌∙◌, ap, arith, length-append}
 use Rattle.std.specs.Prelude.{slice_get, Some, None}
 use Rattle.std.proofs.lemmas.List.{map-append, length-map, take-map}
-use Rattle.std.proofs.lemmas.Bool.{and_parts, and_from, ltb-true, lt-ltb}
+use Rattle.std.proofs.lemmas.Bool.{and_parts, and_from}
 use Rattle.std.proofs.lemmas.Option.{slice_get-map}
 use Rattle.std.proofs.Math.Nat.{mul-div-le, mul-le-mul_right}
 use Rattle.columnar_base.specs.Row.{Row, row_eq}
 use Rattle.columnar_base.specs.AlikeLaws.{row_eq_same, row_eq_exact, alike_all}
 use Rattle.columnar_base.specs.FaultLaws.{nothing_left, nothing_both, unless_true, true_unless, first_found, first_none}
-use Rattle.columnar_base.specs.Format.{Format, Content, slice, both, part, plain, Fault, fault, moved, moved_one, first, unless, IsSound, IsLawful, IsStorable, Fits, Excess, too_many, misplaced, bytes_held}
-use Rattle.columnar_base.specs.Elements.{past_count, elements_format, elements_rows}
-use Rattle.columnar_base.specs.ElementLaws.{length-elements}
+use Rattle.columnar_base.specs.Format.{Format, Content, slice, both, part, plain, Fault, fault, moved, moved_one, first, unless, IsSound, IsLawful, IsStorable, Fits, bytes_held}
+use Rattle.columnar_base.specs.Elements.{elements_format, elements_rows}
+use Rattle.columnar_base.specs.ElementLaws.{length-elements, past_more}
 use Rattle.columnar_base.specs.Change.{Keeps, Stayed, WasCut, Took, Copied, Refused}
 use Rattle.columnar_base.specs.ChangeLaws.{grew_exactly, true_from, take-suc_get}
 use Rattle.columnar_base.specs.declared.fault.GrowError.{GrowError}
@@ -87,22 +87,24 @@ mapped_parts f to test {c} s =
 pub mapped_sound : (f : Format) (to : Row → Row) (test : Row → Bool) {c : Content} → IsSound f c → all_pass test (f.rows c) ≡ true → IsSound (mapped_format f to test) c
 mapped_sound f to test {c} s p = record { accepted = nothing_both (f.broken c) (unless (all_pass test (f.rows c)) (fault 14 0)) s.accepted (true_unless (all_pass test (f.rows c)) (fault 14 0) p) }
 
-past_more : (e : Excess) (m n : ℕ) → m ≤ n → past_count e m ≡ true → past_count e n ≡ true
-past_more too_many m n l h = lt-ltb (2 ^ 64 - 1) n (omega (arith, ltb-true (2 ^ 64 - 1) m h))
-past_more misplaced m n l h = h
-
 pub mapped_lawful : (f : Format) (to : Row → Row) (test : Row → Bool) → IsLawful f → IsLawful (mapped_format f to test)
 mapped_lawful f to test law = record {
   full = λ c s. ap (f.extent c) (length-map (f.rows c) to) ∙ law.full c (mapped_parts f to test s).values;
-  counted = λ c s. law.counted c (mapped_parts f to test s).values;
-  rebuilt = λ c rest s. law.rebuilt c rest (mapped_parts f to test s).values;
-  built = λ ss l s. law.built ss l (mapped_parts f to test s).values;
   same = row_eq_same;
+  kindred = row_eq_same;
+  related = λ r s h. h;
   more = λ e c n rs ss h. past_more e (n + length rs) (n + length (rs ++ ss)) (omega (arith, length-append rs ss)) h;
 }
 
 pub mapped_storable : (f : Format) (to : Row → Row) (test : Row → Bool) → IsStorable f → IsStorable (mapped_format f to test)
-mapped_storable f to test s = record { swift = omega arith; sized = s.sized }
+mapped_storable f to test s = record {
+  swift = omega arith;
+  sized = s.sized;
+  aligned = s.aligned;
+  counted = λ c t. s.counted c (mapped_parts f to test t).values;
+  rebuilt = λ c rest t. s.rebuilt c rest (mapped_parts f to test t).values;
+  built = s.built;
+}
 
 -- changes
 
@@ -192,14 +194,14 @@ quotient_below n size l =
     let m = mul-le-mul_right (n / size) l in
     omega (arith, d, m)
 
-elements_short : (size : ℕ) (row_of : List ℕ → Row) → 1 ≤ size → (c : Content) → IsSound (elements_format size row_of) c → length (elements_rows size row_of c) ≤ bytes_held c
+elements_short : {align : ℕ} (size : ℕ) (row_of : List ℕ → Row) → 1 ≤ size → (c : Content) → IsSound (elements_format size align row_of) c → length (elements_rows size row_of c) ≤ bytes_held c
 elements_short size row_of l (slice bs) s = rw (length-elements size row_of bs) (quotient_below (length bs) size l)
 elements_short size row_of l (both x y) s = cc
 elements_short size row_of l (part m u x) s = cc
 elements_short size row_of l (plain rs) s = cc
 
-pub elements_flat : (size : ℕ) (row_of : List ℕ → Row) → 1 ≤ size → IsFlat (elements_format size row_of)
-elements_flat size row_of l = record {
+pub elements_flat : (size align : ℕ) (row_of : List ℕ → Row) → 1 ≤ size → IsFlat (elements_format size align row_of)
+elements_flat size align row_of l = record {
   exact = row_eq_exact;
   limits = λ e c s n rs. refl;
   short = elements_short size row_of l;

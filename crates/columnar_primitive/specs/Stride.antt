@@ -55,6 +55,7 @@ abbrev pub strides_format : Format
 strides_format = record {
   count = 2;
   sizes = 8 ∷ 8 ∷ [];
+  aligns = 8 ∷ 8 ∷ [];
   turns = 0;
   broken = strides_broken;
   rows = strides_rows;

@@ -1,18 +1,18 @@
 use Rattle.std.proofs.Common.{◌≡◌, ℕ, zero, suc, ◌+◌, ◌-◌, ◌*◌, ◌/◌, ◌%◌, ◌^◌, ◌<◌, ◌≤◌, Bool, true, false, ◌&&◌, List, [], ◌∷◌, ◌++◌, length, take, drop, map, refl, sym, ◌∙◌, ap, arith, length-append, append-nil, append_assoc, subst, ⊎_elim}
 use Rattle.std.specs.Prelude.{slice_get, Some, None, nat_eq, nat_le, slice_index, slice_index_or}
-use Rattle.std.proofs.lemmas.Bool.{eqb-true, eq-eqb, ne_eqb, leb-true, le-leb, lt-leb, lt-ltb, ltb-true, cases_eq, cond_both}
+use Rattle.std.proofs.lemmas.Bool.{eqb-true, eq-eqb, ne_eqb, leb-true, le-leb, lt-leb, lt-ltb, cases_eq, cond_both}
 use Rattle.std.proofs.Math.Seq.{take-append-add}
 use Rattle.std.proofs.Math.Nat.{mul-le-mul_left, div-add-mod}
 use Rattle.std.proofs.lemmas.List.{length-map, map-append, take-map, take-append-le, length-take, length-take-le, take_all, take-append-drop, length-drop}
 use Rattle.std.proofs.lemmas.Option.{slice_get-map}
 use Rattle.columnar_core.specs.Row.{Row, number, number_of, row_eq}
-use Rattle.columnar_core.specs.Format.{Content, slice, both, part, plain, IsSound, IsLawful, IsStorable, lengths, slices_of, Fault, fault, unless, first, moved, Excess, too_many, misplaced}
+use Rattle.columnar_core.specs.Format.{Content, slice, both, part, plain, IsSound, IsLawful, IsStorable, lengths, slices_of, Fault, fault, unless, first, moved}
 use Rattle.columnar_core.specs.FaultLaws.{nothing_left, nothing_both, nothing_moved, moved_nothing, unless_true, true_unless}
 use Rattle.columnar_core.specs.AlikeLaws.{row_eq_same, row_eq_exact, alike_all}
 use Rattle.columnar_core.specs.Change.{Keeps, WasCut, Took, Copied, IsTrueOf, Refused}
 use Rattle.columnar_core.specs.ChangeLaws.{unchanged, grew_exactly, refused_more, took_none}
-use Rattle.columnar_core.specs.Elements.{elements_broken, first_slice, past_count, word_row, word_row_of}
-use Rattle.columnar_core.specs.ElementLaws.{length-elements, row_at, rows_typed, word_element}
+use Rattle.columnar_core.specs.Elements.{elements_broken, first_slice, word_row, word_row_of}
+use Rattle.columnar_core.specs.ElementLaws.{length-elements, past_more, row_at, rows_typed, word_element}
 use Rattle.columnar_core.specs.Bounds.{IsBounds, rises, numbers}
 use Rattle.columnar_core.specs.Bytes.{word, word_bytes, le_bytes, AreBytes}
 use Rattle.columnar_core.specs.ByteLaws.{bytes-word}
@@ -132,22 +132,24 @@ strides_built [] l = absurd (omega arith)
 strides_built (x ∷ []) l = absurd (omega arith)
 strides_built (x ∷ y ∷ rest) l = refl
 
-past_more : (e : Excess) (m n : ℕ) → m ≤ n → past_count e m ≡ true → past_count e n ≡ true
-past_more too_many m n l h = lt-ltb (2 ^ 64 - 1) n (omega (arith, ltb-true (2 ^ 64 - 1) m h))
-past_more misplaced m n l h = h
-
 pub strides_lawful : IsLawful strides_format
 strides_lawful = record {
   full = λ c s. let p = strides_both c s in rw p.is (strides_full p.head p.bounds p.sound);
-  counted = λ c s. let p = strides_both c s in rw p.is refl;
-  rebuilt = λ c rest s. let p = strides_both c s in rw p.is refl;
-  built = λ ss l s. strides_built ss l;
   same = row_eq_same;
+  kindred = row_eq_same;
+  related = λ r s h. h;
   more = λ e c n rs ss h. past_more e (n + length rs) (n + length (rs ++ ss)) (omega (arith, length-append rs ss)) h;
 }
 
 pub strides_storable : IsStorable strides_format
-strides_storable = record { swift = omega arith; sized = refl }
+strides_storable = record {
+  swift = omega arith;
+  sized = refl;
+  aligned = refl;
+  counted = λ c s. let p = strides_both c s in rw p.is refl;
+  rebuilt = λ c rest s. let p = strides_both c s in rw p.is refl;
+  built = strides_built;
+}
 
 pub strides_bounds : IsBounds strides_format
 strides_bounds = record { exact = row_eq_exact; swift = omega arith }

@@ -1,11 +1,12 @@
 use Rattle.std.proofs.Common.{◌≡◌, ℕ, zero, suc, ◌+◌, ◌-◌, ◌^◌, ◌<◌, ◌≤◌, true, List, [], ◌∷◌, ◌++◌, length, take, drop, refl, sym, ◌∙◌, ap, arith, length-append}
 use Rattle.std.specs.Prelude.{slice_get, Some}
-use Rattle.std.proofs.lemmas.Bool.{eqb-true, ltb-true, lt-ltb}
+use Rattle.std.proofs.lemmas.Bool.{eqb-true, lt-ltb}
 use Rattle.columnar_base.specs.Row.{unit, row_eq}
 use Rattle.columnar_base.specs.AlikeLaws.{row_eq_same, alike_all}
 use Rattle.columnar_base.specs.FaultLaws.{unless_true, true_unless}
-use Rattle.columnar_base.specs.Format.{Content, slice, both, part, plain, IsSound, IsLawful, IsStorable, Excess, too_many, misplaced, fault, lengths, slices_of}
-use Rattle.columnar_base.specs.Elements.{first_slice, past_count}
+use Rattle.columnar_base.specs.Format.{Content, slice, both, part, plain, IsSound, IsLawful, IsStorable, fault, lengths, slices_of}
+use Rattle.columnar_base.specs.Elements.{first_slice}
+use Rattle.columnar_base.specs.ElementLaws.{first_built, past_more}
 use Rattle.columnar_base.specs.Change.{Keeps, Grew, WasCut, Took, Copied, Refused}
 use Rattle.columnar_base.specs.ChangeLaws.{unchanged}
 use Rattle.columnar_base.specs.declared.fault.GrowError.{GrowError}
@@ -66,26 +67,24 @@ units_rebuilt (both x y) rest s = cc
 units_rebuilt (part l u x) rest s = cc
 units_rebuilt (plain rs) rest s = cc
 
-units_built : (ss : List (List ℕ)) → 1 ≤ length ss → IsSound units_format (first_slice ss) → slices_of (first_slice ss) ≡ take 1 ss
-units_built [] l s = absurd (omega arith)
-units_built (bs ∷ rest) l s = refl
-
-past_more : (e : Excess) (m n : ℕ) → m ≤ n → past_count e m ≡ true → past_count e n ≡ true
-past_more too_many m n l h = lt-ltb (2 ^ 64 - 1) n (omega (arith, ltb-true (2 ^ 64 - 1) m h))
-past_more misplaced m n l h = h
-
 pub units_lawful : IsLawful units_format
 units_lawful = record {
   full = units_full;
-  counted = units_counted;
-  rebuilt = units_rebuilt;
-  built = units_built;
   same = row_eq_same;
+  kindred = row_eq_same;
+  related = λ r s h. h;
   more = λ e c n rs ss h. past_more e (n + length rs) (n + length (rs ++ ss)) (omega (arith, length-append rs ss)) h;
 }
 
 pub units_storable : IsStorable units_format
-units_storable = record { swift = omega arith; sized = refl }
+units_storable = record {
+  swift = omega arith;
+  sized = refl;
+  aligned = refl;
+  counted = units_counted;
+  rebuilt = units_rebuilt;
+  built = first_built;
+}
 
 units_keeps : (c d : Content) (n : ℕ) → Keeps units_format c d n
 units_keeps c d n = record { extents = λ k l. refl; limits = λ k l e rs. refl }

@@ -14,6 +14,7 @@ abbrev pub units_format : Format
 units_format = record {
   count = 1;
   sizes = 8 ∷ [];
+  aligns = 8 ∷ [];
   turns = 0;
   broken = λ c. unless (is_word c) (fault 9 0);
   rows = λ c. units (number_in c);

@@ -3,13 +3,15 @@ ghost use Rattle.std.specs.Prelude.{◌≡◌, ℕ, ◌⊎◌, ◌+◌, ◌-◌,
 ghost use Rattle.columnar_core.specs.Row.{truth};
 ghost use Rattle.columnar_core.specs.Format.{slice, both, IsSound, first, moved};
 ghost use Rattle.columnar_core.specs.Faults.{verdict};
-ghost use Rattle.columnar_core.specs.Change.{Stayed, WasCut, Copied, Refused};
+ghost use Rattle.columnar_core.specs.Change.{Stayed, Took, WasCut, Copied, Refused};
 ghost use Rattle.columnar_core.specs.WordViews.{words_in, le_bytes, view_bytes, view_words, bit_words};
 ghost use Rattle.columnar_primitive.specs.Bits.{bit as bit_of, bit_in, truths, number_of_bits};
 ghost use Rattle.columnar_primitive.specs.BoolColumns.{bools_format, bools_content, bools_broken, IsOfGrowth, bits_held, bits_in, owned_content, owned_bits, last_word, last_count};
 ghost use Rattle.columnar_primitive.specs.BoolLaws.{SoundBools, Tail, bools_lawful, bools_storable};
 
-use columnar_core::container::{Borrow, Container, ExtendFrom, Reborrow, Storage};
+use columnar_core::container::{
+    Borrow, Container, ExtendFrom, Reborrow, Reserve, Storage, Truncate,
+};
 use columnar_core::fault::GrowError;
 use columnar_core::metered::word_or_tail;
 use columnar_core::tally::Tally;
@@ -291,10 +293,7 @@ impl Bools<Vec<u64>, [u64; 2]> {
         ensures kinds { IfErr result IsOfGrowth }
         ensures sound { IsSound bools_format (owned_content self.new) }
     {
-        match self.extend_bits_from_tallied(other, range, &mut Tally::new()) {
-            Ok(()) => Ok(()),
-            Err(error) => Err(error),
-        }
+        self.extend_bits_from_tallied(other, range, &mut Tally::new())
     }
 }
 
@@ -305,27 +304,8 @@ impl Clear for Bools<Vec<u64>, [u64; 2]> {
     }
 }
 
-impl Storage for Bools<Vec<u64>, [u64; 2]> {
-    type Room = usize;
-
+impl Truncate for Bools<Vec<u64>, [u64; 2]> {
     ghost lawful = { bools_lawful };
-
-    fn empty(alloc: Global) -> Self {
-        Bools {
-            values: Vec::new(alloc),
-            tail: tail_of(0, 0),
-        }
-    }
-
-    fn duplicate(&self, alloc: Global) -> Result<Self, GrowError> {
-        match Vec::from_slice(alloc, self.values.as_slice()) {
-            Ok(values) => Ok(Bools {
-                values,
-                tail: self.tail,
-            }),
-            Err(_) => Err(GrowError::Memory),
-        }
-    }
 
     fn truncate(&mut self, n: usize) {
         let count = (n % 64) as u64;
@@ -336,43 +316,71 @@ impl Storage for Bools<Vec<u64>, [u64; 2]> {
         self.values.truncate(n / 64);
         self.tail = tail_of(word, count);
     }
+}
+
+impl Storage for Bools<Vec<u64>, [u64; 2]> {
+    fn empty(alloc: Global) -> Self {
+        Bools {
+            values: Vec::new(alloc),
+            tail: tail_of(0, 0),
+        }
+    }
+
+    fn duplicate(&self, alloc: Global) -> Result<Self, GrowError> {
+        let values = Vec::from_slice(alloc, self.values.as_slice())?;
+        Ok(Bools {
+            values,
+            tail: self.tail,
+        })
+    }
+}
+
+impl Reserve for Bools<Vec<u64>, [u64; 2]> {
+    type Room = usize;
 
     fn no_room() -> usize {
         0
     }
 
     fn reserve_room(&mut self, room: usize) -> Result<(), GrowError> {
-        match self.values.reserve(room) {
-            Ok(()) => Ok(()),
-            Err(_) => Err(GrowError::Memory),
-        }
+        self.values.reserve(room)?;
+        Ok(())
     }
 }
 
 impl Push<bool> for Bools<Vec<u64>, [u64; 2]> {
-    fn push(&mut self, item: bool) -> Result<(), GrowError> {
-        match self.push_bit(item) {
-            Ok(()) => Ok(()),
-            Err(error) => Err(error),
-        }
+    /// A bit that fills no word needs no memory.
+    fn push(&mut self, item: bool) -> Result<(), GrowError>
+        requires sound { IsSound bools_format (owned_content self.old) }
+        ensures ok { OnOk result (Took bools_format (owned_content self.old) (owned_content self.new) (truth item ∷ [])) }
+        ensures err { IfErr result (λ e. Refused bools_format (owned_content self.old) (owned_content self.new) (truth item ∷ []) e) }
+        ensures no_memory { length (owned_bits self.old) % 64 < 63 → IsOk result }
+    {
+        self.push_bit(item)
     }
 }
 
 impl<'x> Push<&'x bool> for Bools<Vec<u64>, [u64; 2]> {
-    fn push(&mut self, item: &'x bool) -> Result<(), GrowError> {
-        match self.push_bit(*item) {
-            Ok(()) => Ok(()),
-            Err(error) => Err(error),
-        }
+    /// A bit that fills no word needs no memory.
+    fn push(&mut self, item: &'x bool) -> Result<(), GrowError>
+        requires sound { IsSound bools_format (owned_content self.old) }
+        ensures ok { OnOk result (Took bools_format (owned_content self.old) (owned_content self.new) (truth item.now ∷ [])) }
+        ensures err { IfErr result (λ e. Refused bools_format (owned_content self.old) (owned_content self.new) (truth item.now ∷ []) e) }
+        ensures no_memory { length (owned_bits self.old) % 64 < 63 → IsOk result }
+    {
+        self.push_ref(item)
     }
 }
 
 impl PushRef<bool> for Bools<Vec<u64>, [u64; 2]> {
-    fn push_ref(&mut self, item: &bool) -> Result<(), GrowError> {
-        match self.push_bit(*item) {
-            Ok(()) => Ok(()),
-            Err(error) => Err(error),
-        }
+    /// A bit that fills no word needs no memory.
+    fn push_ref(&mut self, item: &bool) -> Result<(), GrowError>
+        requires sound { IsSound bools_format (owned_content self.old) }
+        ensures ok { OnOk result (Took bools_format (owned_content self.old) (owned_content self.new) (truth item.now ∷ [])) }
+        ensures err { IfErr result (λ e. Refused bools_format (owned_content self.old) (owned_content self.new) (truth item.now ∷ []) e) }
+        ensures no_memory { length (owned_bits self.old) % 64 < 63 → IsOk result }
+    {
+        self.push_bit(*item)
     }
 }
 

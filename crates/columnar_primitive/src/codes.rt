@@ -10,7 +10,9 @@ use crate::flat::Flat;
 use crate::rule::{Rule, all_fit, all_fit_in};
 use columnar_core::byte_slice::ByteSlice;
 use columnar_core::bytes::{AsBytes, Check, FromBytes, Stored};
-use columnar_core::container::{Borrow, Container, ContainerBytes, ExtendFrom, Reborrow, Storage};
+use columnar_core::container::{
+    Borrow, Container, ContainerBytes, ExtendFrom, Reborrow, Reserve, Storage, Truncate,
+};
 use columnar_core::fault::{GrowError, StoreFault};
 use columnar_core::store::DecodedStore;
 use columnar_core::tally::Tally;
@@ -88,36 +90,31 @@ impl<CV: Clear, T: Coded> Clear for Codes<CV, T> {
 
 impl<T: Coded, CV: Flat + Push<T::Code>> Push<T> for Codes<CV, T> {
     fn push(&mut self, item: T) -> Result<(), GrowError> {
-        match self.values.push(item.code()) {
-            Ok(()) => Ok(()),
-            Err(error) => Err(error),
-        }
+        self.values.push(item.code())
     }
 }
 
 impl<'x, T: Coded, CV: Flat + Push<T::Code>> Push<&'x T> for Codes<CV, T> {
     fn push(&mut self, item: &'x T) -> Result<(), GrowError> {
-        match self.push_ref(item) {
-            Ok(()) => Ok(()),
-            Err(error) => Err(error),
-        }
+        self.push_ref(item)
     }
 }
 
 impl<T: Coded, CV: Flat + Push<T::Code>> PushRef<T> for Codes<CV, T> {
     fn push_ref(&mut self, item: &T) -> Result<(), GrowError> {
-        match Push::<T>::push(self, *item) {
-            Ok(()) => Ok(()),
-            Err(error) => Err(error),
-        }
+        Push::<T>::push(self, *item)
+    }
+}
+
+impl<CV: Truncate, T: Coded> Truncate for Codes<CV, T> {
+    ghost lawful = { mapped_lawful CV.format T.row_of T.is_code CV.lawful };
+
+    fn truncate(&mut self, n: usize) {
+        self.values.truncate(n);
     }
 }
 
 impl<CV: Storage, T: Coded> Storage for Codes<CV, T> {
-    type Room = CV::Room;
-
-    ghost lawful = { mapped_lawful CV.format T.row_of T.is_code CV.lawful };
-
     fn empty(alloc: Global) -> Self {
         let values = CV::empty(alloc);
         Codes {
@@ -127,32 +124,27 @@ impl<CV: Storage, T: Coded> Storage for Codes<CV, T> {
     }
 
     fn duplicate(&self, alloc: Global) -> Result<Self, GrowError> {
-        match self.values.duplicate(alloc) {
-            Ok(values) => Ok(Codes {
-                values,
-                of: PhantomData,
-            }),
-            Err(error) => Err(error),
-        }
+        let values = self.values.duplicate(alloc)?;
+        Ok(Codes {
+            values,
+            of: PhantomData,
+        })
     }
+}
 
-    fn truncate(&mut self, n: usize) {
-        self.values.truncate(n);
-    }
+impl<CV: Reserve, T: Coded> Reserve for Codes<CV, T> {
+    type Room = CV::Room;
 
     fn no_room() -> CV::Room {
         CV::no_room()
     }
 
     fn reserve_room(&mut self, room: CV::Room) -> Result<(), GrowError> {
-        match self.values.reserve_room(room) {
-            Ok(()) => Ok(()),
-            Err(error) => Err(error),
-        }
+        self.values.reserve_room(room)
     }
 }
 
-impl<T: Coded, V: Index<Ref = T::Code> + Copy, CV: Flat + ExtendFrom<V>> ExtendFrom<Codes<V, T>>
+impl<T: Coded, V: Column + Copy, CV: Flat + ExtendFrom<V>> ExtendFrom<Codes<V, T>>
     for Codes<CV, T> {
     fn add_room(room: CV::Room, view: Codes<V, T>) -> CV::Room {
         CV::add_room(room, view.values)
@@ -163,10 +155,7 @@ impl<T: Coded, V: Index<Ref = T::Code> + Copy, CV: Flat + ExtendFrom<V>> ExtendF
         view: Codes<V, T>,
         range: Range<usize>,
     ) -> Result<(), GrowError> {
-        match self.values.extend_from_self(view.values, range) {
-            Ok(()) => Ok(()),
-            Err(error) => Err(error),
-        }
+        self.values.extend_from_self(view.values, range)
     }
 }
 
@@ -212,10 +201,7 @@ impl<T: Coded, CV: Flat<Ref = T::Code>> Stored for Codes<CV, T> {
     }
 
     fn element_sizes(sizes: &mut Vec<usize>) -> Result<(), GrowError> {
-        match CV::element_sizes(sizes) {
-            Ok(()) => Ok(()),
-            Err(error) => Err(error),
-        }
+        CV::element_sizes(sizes)
     }
 
     fn judge_tallied<L>(
@@ -223,10 +209,7 @@ impl<T: Coded, CV: Flat<Ref = T::Code>> Stored for Codes<CV, T> {
         offset: usize,
         tally: &mut Tally<L>,
     ) -> Result<(), StoreFault> {
-        match CV::judge_tallied(store, offset, tally) {
-            Ok(()) => {}
-            Err(fault) => return Err(fault),
-        }
+        CV::judge_tallied(store, offset, tally)?;
         if T::always_fits() {
             return Ok(());
         }
@@ -242,12 +225,9 @@ impl<T: Coded, CV: Flat<Ref = T::Code>> Stored for Codes<CV, T> {
     }
 }
 
-impl<T: Coded, CV: Check + Flat<Ref = T::Code>> Check for Codes<CV, T> {
+impl<T: Coded, CV: Check + Flat<Ref = T::Code> + Len> Check for Codes<CV, T> {
     fn check_from_tallied<L>(&self, from: usize, tally: &mut Tally<L>) -> Result<(), StoreFault> {
-        match self.values.check_from_tallied(from, tally) {
-            Ok(()) => {}
-            Err(fault) => return Err(fault),
-        }
+        self.values.check_from_tallied(from, tally)?;
         if T::always_fits() {
             return Ok(());
         }
@@ -281,12 +261,10 @@ impl<T: Coded, CV: ContainerBytes + Flat<Ref = T::Code>> ContainerBytes for Code
     }
 
     fn load(alloc: Global, store: &DecodedStore<'_>, offset: usize) -> Result<Self, GrowError> {
-        match CV::load(alloc, store, offset) {
-            Ok(values) => Ok(Codes {
-                values,
-                of: PhantomData,
-            }),
-            Err(error) => Err(error),
-        }
+        let values = CV::load(alloc, store, offset)?;
+        Ok(Codes {
+            values,
+            of: PhantomData,
+        })
     }
 }

@@ -12,11 +12,16 @@ use crate::flat::Flat;
 use crate::rule::{Rule, all_fit, all_fit_in};
 use columnar_core::byte_slice::ByteSlice;
 use columnar_core::bytes::{AsBytes, Check, FromBytes, Stored};
-use columnar_core::container::{Borrow, Container, ContainerBytes, ExtendFrom, Reborrow, Storage};
+use columnar_core::container::{
+    Borrow, Container, ContainerBytes, ExtendFrom, Reborrow, Reserve, Storage, Truncate,
+};
 use columnar_core::fault::{GrowError, StoreFault};
 use columnar_core::store::DecodedStore;
 use columnar_core::tally::Tally;
 use columnar_core::traits::{Clear, Column, Index, Len, Push, PushRef};
+use columnar_core::two::{
+    byte_slice_of_two, check_two, judge_two, load_two, sizes_of_two, slice_of_two,
+};
 use std::alloc::Global;
 use std::ops::Range;
 use std::time::Duration;
@@ -90,11 +95,16 @@ impl<SC: Clear, NC: Clear> Clear for Durations<SC, NC> {
     }
 }
 
-impl<SC: Storage, NC: Storage> Storage for Durations<SC, NC> {
-    type Room = (SC::Room, NC::Room);
-
+impl<SC: Truncate, NC: Truncate> Truncate for Durations<SC, NC> {
     ghost lawful = { durations_lawful SC.format NC.format SC.lawful NC.lawful };
 
+    fn truncate(&mut self, n: usize) {
+        self.seconds.truncate(n);
+        self.nanoseconds.truncate(n);
+    }
+}
+
+impl<SC: Storage, NC: Storage> Storage for Durations<SC, NC> {
     fn empty(alloc: Global) -> Self {
         let seconds = SC::empty(alloc);
         let nanoseconds = NC::empty(alloc);
@@ -105,41 +115,29 @@ impl<SC: Storage, NC: Storage> Storage for Durations<SC, NC> {
     }
 
     fn duplicate(&self, alloc: Global) -> Result<Self, GrowError> {
-        let seconds = match self.seconds.duplicate(alloc) {
-            Ok(seconds) => seconds,
-            Err(error) => return Err(error),
-        };
-        match self.nanoseconds.duplicate(alloc) {
-            Ok(nanoseconds) => Ok(Durations {
-                seconds,
-                nanoseconds,
-            }),
-            Err(error) => Err(error),
-        }
+        let seconds = self.seconds.duplicate(alloc)?;
+        let nanoseconds = self.nanoseconds.duplicate(alloc)?;
+        Ok(Durations {
+            seconds,
+            nanoseconds,
+        })
     }
+}
 
-    fn truncate(&mut self, n: usize) {
-        self.seconds.truncate(n);
-        self.nanoseconds.truncate(n);
-    }
+impl<SC: Reserve, NC: Reserve> Reserve for Durations<SC, NC> {
+    type Room = (SC::Room, NC::Room);
 
     fn no_room() -> (SC::Room, NC::Room) {
         (SC::no_room(), NC::no_room())
     }
 
     fn reserve_room(&mut self, room: (SC::Room, NC::Room)) -> Result<(), GrowError> {
-        match self.seconds.reserve_room(room.0) {
-            Ok(()) => {}
-            Err(error) => return Err(error),
-        }
-        match self.nanoseconds.reserve_room(room.1) {
-            Ok(()) => Ok(()),
-            Err(error) => Err(error),
-        }
+        self.seconds.reserve_room(room.0)?;
+        self.nanoseconds.reserve_room(room.1)
     }
 }
 
-impl<SC: Flat + Storage + Push<u64>, NC: Flat + Push<u32>> Durations<SC, NC> {
+impl<SC: Flat + Truncate + Push<u64>, NC: Flat + Push<u32>> Durations<SC, NC> {
     /// Adds the duration of so many seconds and nanoseconds, which are below a second. After a refusal the rows and
     /// the lengths of all parts are as before; Length is answered only where the rows may not be held together.
     pub fn push_parts(&mut self, seconds: u64, nanoseconds: u32) -> Result<(), GrowError>
@@ -149,10 +147,7 @@ impl<SC: Flat + Storage + Push<u64>, NC: Flat + Push<u32>> Durations<SC, NC> {
         ensures err { IfErr result (λ e. Refused (durations_format SC.format NC.format) (both (SC.content self.old.seconds) (NC.content self.old.nanoseconds)) (both (SC.content self.new.seconds) (NC.content self.new.nanoseconds)) (duration seconds nanoseconds ∷ []) e) }
     {
         let before = self.seconds.len();
-        match self.seconds.push(seconds) {
-            Ok(()) => {}
-            Err(error) => return Err(error),
-        }
+        self.seconds.push(seconds)?;
         match self.nanoseconds.push(nanoseconds) {
             Ok(()) => Ok(()),
             Err(error) => {
@@ -163,37 +158,29 @@ impl<SC: Flat + Storage + Push<u64>, NC: Flat + Push<u32>> Durations<SC, NC> {
     }
 }
 
-impl<SC: Flat + Storage + Push<u64>, NC: Flat + Push<u32>> Push<Duration> for Durations<SC, NC> {
+impl<SC: Flat + Truncate + Push<u64>, NC: Flat + Push<u32>> Push<Duration> for Durations<SC, NC> {
     fn push(&mut self, item: Duration) -> Result<(), GrowError> {
-        match self.push_parts(item.as_secs(), item.subsec_nanos()) {
-            Ok(()) => Ok(()),
-            Err(error) => Err(error),
-        }
+        self.push_parts(item.as_secs(), item.subsec_nanos())
     }
 }
 
-impl<'x, SC: Flat + Storage + Push<u64>, NC: Flat + Push<u32>> Push<&'x Duration>
+impl<'x, SC: Flat + Truncate + Push<u64>, NC: Flat + Push<u32>> Push<&'x Duration>
     for Durations<SC, NC> {
     fn push(&mut self, item: &'x Duration) -> Result<(), GrowError> {
-        match self.push_ref(item) {
-            Ok(()) => Ok(()),
-            Err(error) => Err(error),
-        }
+        self.push_ref(item)
     }
 }
 
-impl<SC: Flat + Storage + Push<u64>, NC: Flat + Push<u32>> PushRef<Duration> for Durations<SC, NC> {
+impl<SC: Flat + Truncate + Push<u64>, NC: Flat + Push<u32>> PushRef<Duration>
+    for Durations<SC, NC> {
     fn push_ref(&mut self, item: &Duration) -> Result<(), GrowError> {
-        match Push::<Duration>::push(self, *item) {
-            Ok(()) => Ok(()),
-            Err(error) => Err(error),
-        }
+        Push::<Duration>::push(self, *item)
     }
 }
 
 impl<
-    V: Index<Ref = u64> + Copy,
-    W: Index<Ref = u32> + Copy,
+    V: Column + Copy,
+    W: Column + Copy,
     SC: Flat + ExtendFrom<V>,
     NC: Flat + ExtendFrom<W>,
 > ExtendFrom<Durations<V, W>> for Durations<SC, NC> {
@@ -212,10 +199,7 @@ impl<
         let rows = self.seconds.len();
         let start = range.start;
         let end = range.end;
-        match self.seconds.extend_from_self(view.seconds, start..end) {
-            Ok(()) => {}
-            Err(error) => return Err(error),
-        }
+        self.seconds.extend_from_self(view.seconds, start..end)?;
         match self
             .nanoseconds
             .extend_from_self(view.nanoseconds, start..end)
@@ -268,7 +252,7 @@ impl<'b, V: Reborrow<'b>, W: Reborrow<'b>> Reborrow<'b> for Durations<V, W> {
     }
 }
 
-impl<SC: Flat<Ref = u64>, NC: Flat<Ref = u32>> Stored for Durations<SC, NC> {
+impl<SC: Flat, NC: Flat<Ref = u32>> Stored for Durations<SC, NC> {
     ghost storable = { durations_storable SC.format NC.format SC.storable NC.storable };
 
     ghost counted = { λ c. two_counted (slices_of (SC.content c.seconds)) (slices_of (NC.content c.nanoseconds)) (SC.counted c.seconds) (NC.counted c.nanoseconds) };
@@ -278,18 +262,7 @@ impl<SC: Flat<Ref = u64>, NC: Flat<Ref = u32>> Stored for Durations<SC, NC> {
     }
 
     fn element_sizes(sizes: &mut Vec<usize>) -> Result<(), GrowError> {
-        let before = sizes.len();
-        match SC::element_sizes(sizes) {
-            Ok(()) => {}
-            Err(error) => return Err(error),
-        }
-        match NC::element_sizes(sizes) {
-            Ok(()) => Ok(()),
-            Err(error) => {
-                sizes.truncate(before);
-                Err(error)
-            }
-        }
+        sizes_of_two::<SC, NC>(sizes)
     }
 
     fn judge_tallied<L>(
@@ -297,15 +270,8 @@ impl<SC: Flat<Ref = u64>, NC: Flat<Ref = u32>> Stored for Durations<SC, NC> {
         offset: usize,
         tally: &mut Tally<L>,
     ) -> Result<(), StoreFault> {
-        match SC::judge_tallied(store, offset, tally) {
-            Ok(()) => {}
-            Err(fault) => return Err(fault),
-        }
+        judge_two::<SC, NC, L>(store, offset, tally)?;
         let middle = offset + SC::slice_count();
-        match NC::judge_tallied(store, middle, tally) {
-            Ok(()) => {}
-            Err(fault) => return Err(fault),
-        }
         let rows = SC::rows_in(store, offset);
         if rows != NC::rows_in(store, middle) {
             return Err(StoreFault::Parts(offset));
@@ -322,17 +288,9 @@ impl<SC: Flat<Ref = u64>, NC: Flat<Ref = u32>> Stored for Durations<SC, NC> {
     }
 }
 
-impl<SC: Check + Flat<Ref = u64>, NC: Check + Flat<Ref = u32>> Check for Durations<SC, NC> {
+impl<SC: Check + Flat + Len, NC: Check + Flat<Ref = u32> + Len> Check for Durations<SC, NC> {
     fn check_from_tallied<L>(&self, from: usize, tally: &mut Tally<L>) -> Result<(), StoreFault> {
-        match self.seconds.check_from_tallied(from, tally) {
-            Ok(()) => {}
-            Err(fault) => return Err(fault),
-        }
-        let middle = from + SC::slice_count();
-        match self.nanoseconds.check_from_tallied(middle, tally) {
-            Ok(()) => {}
-            Err(fault) => return Err(fault),
-        }
+        check_two(&self.seconds, &self.nanoseconds, from, tally)?;
         let rows = self.seconds.len();
         if rows != self.nanoseconds.len() {
             return Err(StoreFault::Parts(from));
@@ -345,7 +303,7 @@ impl<SC: Check + Flat<Ref = u64>, NC: Check + Flat<Ref = u32>> Check for Duratio
     }
 }
 
-impl<'s, SC: FromBytes<'s> + Flat<Ref = u64>, NC: FromBytes<'s> + Flat<Ref = u32>> FromBytes<'s>
+impl<'s, SC: FromBytes<'s> + Flat, NC: FromBytes<'s> + Flat<Ref = u32>> FromBytes<'s>
     for Durations<SC, NC> {
     fn from_store(store: &DecodedStore<'s>, offset: &mut usize) -> Self {
         let seconds = SC::from_store(store, offset);
@@ -357,40 +315,25 @@ impl<'s, SC: FromBytes<'s> + Flat<Ref = u64>, NC: FromBytes<'s> + Flat<Ref = u32
     }
 }
 
-impl<'s, SC: AsBytes<'s> + Flat<Ref = u64>, NC: AsBytes<'s> + Flat<Ref = u32>> AsBytes<'s>
+impl<'s, SC: AsBytes<'s> + Flat, NC: AsBytes<'s> + Flat<Ref = u32>> AsBytes<'s>
     for Durations<SC, NC> {
     fn get_byte_slice(&self, index: usize) -> (u64, ByteSlice<'s>) {
-        let first = SC::slice_count();
-        if index < first {
-            self.seconds.get_byte_slice(index)
-        } else {
-            self.nanoseconds.get_byte_slice(index - first)
-        }
+        slice_of_two(&self.seconds, &self.nanoseconds, index)
     }
 }
 
-impl<SC: ContainerBytes + Flat<Ref = u64>, NC: ContainerBytes + Flat<Ref = u32>> ContainerBytes
+/// Where memory is refused for the nanoseconds, the seconds, already loaded, are dropped.
+impl<SC: ContainerBytes + Flat + Drop, NC: ContainerBytes + Flat<Ref = u32>> ContainerBytes
     for Durations<SC, NC> {
     fn byte_slice(&self, index: usize) -> ByteSlice<'_> {
-        let first = SC::slice_count();
-        if index < first {
-            self.seconds.byte_slice(index)
-        } else {
-            self.nanoseconds.byte_slice(index - first)
-        }
+        byte_slice_of_two(&self.seconds, &self.nanoseconds, index)
     }
 
     fn load(alloc: Global, store: &DecodedStore<'_>, offset: usize) -> Result<Self, GrowError> {
-        let seconds = match SC::load(alloc, store, offset) {
-            Ok(seconds) => seconds,
-            Err(error) => return Err(error),
-        };
-        match NC::load(alloc, store, offset + SC::slice_count()) {
-            Ok(nanoseconds) => Ok(Durations {
-                seconds,
-                nanoseconds,
-            }),
-            Err(error) => Err(error),
-        }
+        let (seconds, nanoseconds) = load_two::<SC, NC>(alloc, store, offset)?;
+        Ok(Durations {
+            seconds,
+            nanoseconds,
+        })
     }
 }

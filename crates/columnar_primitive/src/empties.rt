@@ -1,16 +1,18 @@
 //! Columns of units, of which the number alone is kept.
-ghost use Rattle.std.specs.Prelude.{◌≡◌, ℕ, ◌+◌, ◌-◌, ◌^◌, ◌<◌, ◌≤◌, [], ◌∷◌, length, take, drop, OnOk, OnErr, IfOk, IfErr, refl};
+ghost use Rattle.std.specs.Prelude.{◌≡◌, ℕ, ◌+◌, ◌-◌, ◌^◌, ◌<◌, ◌≤◌, [], ◌∷◌, length, take, drop, OnOk, OnErr, IfOk, IfErr, Err, refl};
 ghost use Rattle.columnar_base.specs.Row.{unit};
 ghost use Rattle.columnar_base.specs.Format.{IsSound, slice, slices_of};
 ghost use Rattle.columnar_base.specs.Change.{Copied, Refused, Took};
 ghost use Rattle.columnar_primitive.specs.Counts.{number_in, word_of};
-ghost use Rattle.columnar_primitive.specs.Units.{units_format};
+ghost use Rattle.columnar_primitive.specs.Units.{units, units_format};
 ghost use Rattle.columnar_primitive.specs.UnitLaws.{units_lawful, units_storable};
 
 use crate::count::Count;
 use columnar_core::byte_slice::ByteSlice;
 use columnar_core::bytes::{AsBytes, Check, FromBytes, Stored};
-use columnar_core::container::{Borrow, Container, ContainerBytes, ExtendFrom, Reborrow, Storage};
+use columnar_core::container::{
+    Borrow, Container, ContainerBytes, ExtendFrom, Reborrow, Reserve, Storage, Truncate,
+};
 use columnar_core::element::Element;
 use columnar_core::fault::{GrowError, StoreFault};
 use columnar_core::store::DecodedStore;
@@ -72,6 +74,7 @@ impl Empties<u64> {
         ensures ok { OnOk result (self.new.count ≡ self.old.count + more) }
         ensures err { OnErr result (self.new.count ≡ self.old.count) }
         ensures length { IfErr result (λ e. (e ≡ GrowError.Length) × (2 ^ 64 - 1 < self.old.count + more)) }
+        ensures full { 2 ^ 64 - 1 < self.old.count + more → result ≡ Err GrowError.Length }
         ensures held { self.new.count < 2 ^ 64 }
     {
         match self.count.checked_add(more) {
@@ -91,10 +94,7 @@ impl Push<()> for Empties<u64> {
         ensures err { IfErr result (λ e. Refused units_format (word_of self.old.count) (word_of self.new.count) (unit ∷ []) e) }
         ensures length { IfErr result (λ e. e ≡ GrowError.Length) }
     {
-        match self.add(1) {
-            Ok(()) => Ok(()),
-            Err(error) => Err(error),
-        }
+        self.add(1)
     }
 }
 
@@ -105,10 +105,7 @@ impl<'x> Push<&'x ()> for Empties<u64> {
         ensures err { IfErr result (λ e. Refused units_format (word_of self.old.count) (word_of self.new.count) (unit ∷ []) e) }
         ensures length { IfErr result (λ e. e ≡ GrowError.Length) }
     {
-        match self.push_ref(item) {
-            Ok(()) => Ok(()),
-            Err(error) => Err(error),
-        }
+        self.push_ref(item)
     }
 }
 
@@ -119,18 +116,19 @@ impl PushRef<()> for Empties<u64> {
         ensures err { IfErr result (λ e. Refused units_format (word_of self.old.count) (word_of self.new.count) (unit ∷ []) e) }
         ensures length { IfErr result (λ e. e ≡ GrowError.Length) }
     {
-        match Push::<()>::push(self, *item) {
-            Ok(()) => Ok(()),
-            Err(error) => Err(error),
-        }
+        Push::<()>::push(self, *item)
+    }
+}
+
+impl Truncate for Empties<u64> {
+    ghost lawful = { units_lawful };
+
+    fn truncate(&mut self, n: usize) {
+        self.count = n as u64;
     }
 }
 
 impl Storage for Empties<u64> {
-    type Room = ();
-
-    ghost lawful = { units_lawful };
-
     fn empty(_alloc: Global) -> Self {
         Empties {
             count: 0,
@@ -141,10 +139,10 @@ impl Storage for Empties<u64> {
     fn duplicate(&self, _alloc: Global) -> Result<Self, GrowError> {
         Ok(*self)
     }
+}
 
-    fn truncate(&mut self, n: usize) {
-        self.count = n as u64;
-    }
+impl Reserve for Empties<u64> {
+    type Room = ();
 
     fn no_room() {}
 
@@ -156,15 +154,18 @@ impl Storage for Empties<u64> {
 impl<V: Count + Copy> ExtendFrom<Empties<V>> for Empties<u64> {
     fn add_room(_room: (), _view: Empties<V>) {}
 
-    fn extend_from_self(
-        &mut self,
-        _view: Empties<V>,
-        range: Range<usize>,
-    ) -> Result<(), GrowError> {
-        match self.add((range.end - range.start) as u64) {
-            Ok(()) => Ok(()),
-            Err(error) => Err(error),
-        }
+    /// Takes no memory: it answers Length exactly where there would be more than 2^64 - 1 rows, and else succeeds.
+    fn extend_from_self(&mut self, _view: Empties<V>, range: Range<usize>) -> Result<(), GrowError>
+        requires sound { IsSound units_format (word_of self.old.count) }
+        requires view_sound { IsSound units_format (V.held _view.count) }
+        requires ordered { range.start ≤ range.«end» }
+        requires in_range { range.«end» ≤ length (units (number_in (V.held _view.count))) }
+        ensures ok { OnOk result (Copied units_format (word_of self.old.count) (word_of self.new.count) range.start (take (range.«end» - range.start) (drop range.start (units (number_in (V.held _view.count)))))) }
+        ensures err { IfErr result (λ e. Refused units_format (word_of self.old.count) (word_of self.new.count) (take (range.«end» - range.start) (drop range.start (units (number_in (V.held _view.count))))) e) }
+        ensures length { IfErr result (λ e. (e ≡ GrowError.Length) × (2 ^ 64 - 1 < self.old.count + (range.«end» - range.start))) }
+        ensures full { 2 ^ 64 - 1 < self.old.count + (range.«end» - range.start) → result ≡ Err GrowError.Length }
+    {
+        self.add((range.end - range.start) as u64)
     }
 }
 
@@ -210,10 +211,8 @@ impl<CC: Count> Stored for Empties<CC> {
     }
 
     fn element_sizes(sizes: &mut Vec<usize>) -> Result<(), GrowError> {
-        match sizes.push(8) {
-            Ok(()) => Ok(()),
-            Err(_) => Err(GrowError::Memory),
-        }
+        sizes.push(8)?;
+        Ok(())
     }
 
     fn judge_tallied<L>(

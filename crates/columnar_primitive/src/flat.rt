@@ -28,7 +28,7 @@ pub trait Flat: Index + Stored {
 }
 
 impl<T: Element> Flat for Vec<T> {
-    ghost flat = { elements_flat T.size T.row_of T.element.positive };
+    ghost flat = { elements_flat T.size T.align T.row_of T.element.positive };
 
     ghost still = { refl };
 
@@ -38,13 +38,13 @@ impl<T: Element> Flat for Vec<T> {
 }
 
 impl<'v, T: Element> Flat for View<'v, T> {
-    ghost flat = { elements_flat T.size T.row_of T.element.positive };
+    ghost flat = { elements_flat T.size T.align T.row_of T.element.positive };
 
     ghost still = { refl };
 
     fn row_in(store: &DecodedStore<'_>, offset: usize, index: usize) -> T
-        requires representable { IsTrue (representable (elements_format T.size T.row_of)) }
-        requires fits { Fits (elements_format T.size T.row_of) offset (slices_in store.now) }
+        requires representable { IsTrue (representable (elements_format T.size T.align T.row_of)) }
+        requires fits { Fits (elements_format T.size T.align T.row_of) offset (slices_in store.now) }
         requires in_range { index < length (elements_rows T.size T.row_of (first_slice (drop offset (slices_in store.now)))) }
         ensures { slice_get (elements_rows T.size T.row_of (first_slice (drop offset (slices_in store.now)))) index ≡ Some (T.meaning result) }
     {

@@ -8,7 +8,7 @@ ghost use Rattle.columnar_primitive.specs.Mapped.{all_pass};
 use crate::flat::Flat;
 use columnar_core::store::DecodedStore;
 use columnar_core::tally::Tally;
-use columnar_core::traits::{Index, Item};
+use columnar_core::traits::{Index, Item, Len};
 
 /// Which numbers of a fixed width are codes.
 pub trait Rule {
@@ -45,7 +45,7 @@ pub(crate) fn all_fit_in<T: Rule, CV: Flat<Ref = T::Code>, L>(
 }
 
 /// Is each row of the column a code?
-pub(crate) fn all_fit<T: Rule, CV: Index<Ref = T::Code>, L>(
+pub(crate) fn all_fit<T: Rule, CV: Index<Ref = T::Code> + Len, L>(
     values: &CV,
     tally: &mut Tally<L>,
 ) -> bool

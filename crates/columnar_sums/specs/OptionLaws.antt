@@ -1,16 +1,15 @@
-use Rattle.std.proofs.Common.{◌≡◌, ℕ, ◌+◌, ◌-◌, ◌*◌, ◌<◌, ◌≤◌, Bool, true, false, List, [], ◌∷◌, ◌++◌, length, take, drop, map, refl, sym, ◌∙◌, ap, arith, pred, length-append, length-take, length-drop, append_assoc}
-use Rattle.std.proofs.Math.Seq.{drop-append_seam}
+use Rattle.std.proofs.Common.{◌≡◌, ℕ, ◌+◌, ◌-◌, ◌*◌, ◌<◌, ◌≤◌, Bool, true, false, List, [], ◌∷◌, ◌++◌, length, take, drop, map, refl, sym, ◌∙◌, ap, arith, pred, length-append, length-take, length-drop}
 use Rattle.std.specs.Prelude.{slice_get, Some, ◌||◌}
 use Rattle.std.proofs.lemmas.List.{map-append, length-map, take-map, drop-map, drop-drop}
 use Rattle.std.proofs.Math.Nat.{mul-le-mul_right}
-use Rattle.std.proofs.lemmas.Bool.{or_left, or_right, eqb-true, eq-eqb}
+use Rattle.std.proofs.lemmas.Bool.{and_parts, and_from, or_left, or_right, eqb-true, eq-eqb}
 use Rattle.columnar_core.specs.Row.{Row, truth, none, some, row_eq}
-use Rattle.columnar_core.specs.Format.{Format, Content, slice, both, part, plain, IsSound, IsLawful, IsStorable, IsSame, Fits, lengths, slices_of, moved, unless, fault, Excess, refuses_more, bytes_held}
+use Rattle.columnar_core.specs.Format.{Format, Content, slice, both, part, plain, IsSound, IsLawful, IsStorable, IsSame, lengths, moved, unless, fault, Excess, refuses_more, bytes_held}
 use Rattle.columnar_core.specs.FaultLaws.{nothing_left, nothing_both, nothing_moved, moved_nothing, unless_true, true_unless}
 use Rattle.columnar_core.specs.AlikeLaws.{alike_length, same_pulled, same_both, row_eq_same, row_eq_exact}
 use Rattle.columnar_core.specs.Change.{Keeps, Grew, Stayed, WasCut, Took, Copied, Refused}
 use Rattle.columnar_core.specs.ChangeLaws.{true_from, grew_exactly, took_none, unchanged}
-use Rattle.columnar_core.specs.TwoParts.{TwoParts, two_sized, two_slices}
+use Rattle.columnar_core.specs.TwoParts.{IsBoth, TwoParts, two_storable}
 use Rattle.columnar_base.specs.TupleLaws.{or_both}
 use Rattle.columnar_core.specs.Elements.{past_count}
 use Rattle.columnar_core.specs.declared.fault.GrowError.{GrowError}
@@ -72,27 +71,6 @@ options_full t lt (slice bs) s = cc
 options_full t lt (part l u x) s = cc
 options_full t lt (plain rs) s = cc
 
-options_counted : (t : Format) → IsLawful t → (c : Content) → IsSound (options_format t) c → length (slices_of c) ≡ 3 + t.count
-options_counted t lt (both x y) s =
-    let p = options_parts t s in
-    length-append (slices_of x) (slices_of y) ∙ omega (arith, ranks_lawful.counted x p.bits, lt.counted y p.values)
-options_counted t lt (slice bs) s = cc
-options_counted t lt (part l u x) s = cc
-options_counted t lt (plain rs) s = cc
-
-options_rebuilt : (t : Format) → IsLawful t → (c : Content) (rest : List (List ℕ)) → IsSound (options_format t) c → (options_format t).build (slices_of c ++ rest) ≡ c
-options_rebuilt t lt (both x y) rest s =
-    let p = options_parts t s in
-    let n = ranks_lawful.counted x p.bits in
-    let e : (slices_of x ++ slices_of y) ++ rest ≡ slices_of x ++ (slices_of y ++ rest) = append_assoc (slices_of x) (slices_of y) rest in
-    let d : drop 3 (slices_of x ++ (slices_of y ++ rest)) ≡ slices_of y ++ rest = rw (← n) (drop-append_seam (slices_of x) (slices_of y ++ rest)) in
-    let u = ranks_lawful.rebuilt x (slices_of y ++ rest) p.bits in
-    let v = lt.rebuilt y rest p.values in
-    cc
-options_rebuilt t lt (slice bs) rest s = cc
-options_rebuilt t lt (part l u x) rest s = cc
-options_rebuilt t lt (plain rs) rest s = cc
-
 options_more : (t : Format) → IsLawful t → (e : Excess) (c : Content) (n : ℕ) (rs ss : List Row) → options_refuses t e c n rs ≡ true → options_refuses t e c n (rs ++ ss) ≡ true
 options_more t lt e (both x y) n rs ss h =
     rw somes-append (or_both (past_count e (n + length rs)) (t.refuses e y (ones (ranks_bits x) n) (somes rs)) (past_count e (n + length (rs ++ ss))) (t.refuses e y (ones (ranks_bits x) n) (somes rs ++ somes ss)) (λ k. ranks_lawful.more e x n rs ss k) (lt.more e y (ones (ranks_bits x) n) (somes rs) (somes ss)) h)
@@ -100,26 +78,33 @@ options_more t lt e (slice bs) n rs ss h = h
 options_more t lt e (part l u x) n rs ss h = h
 options_more t lt e (plain ts) n rs ss h = h
 
-pub options_two : (t : Format) → TwoParts (options_format t) ranks_format t (options_level t) 10
-options_two t = record { count = refl; sizes = refl; build = λ ss. refl; broken = λ x y. refl }
+options_form : (t : Format) (c : Content) → IsSound (options_format t) c → IsBoth c
+options_form t (both x y) s = record { left = x; right = y; is = refl }
+options_form t (slice bs) s = cc
+options_form t (part l u x) s = cc
+options_form t (plain rs) s = cc
 
-options_built : (t : Format) → IsLawful t → (ss : List (List ℕ)) → 3 + t.count ≤ length ss → IsSound (options_format t) ((options_format t).build ss) → slices_of ((options_format t).build ss) ≡ take (3 + t.count) ss
-options_built t lt ss l s =
-    let p = options_parts t s in
-    two_slices (options_two t) ss l (λ k. ranks_lawful.built ss k p.bits) (λ k. lt.built (drop 3 ss) k p.values)
+-- bits that are counted, and then values
+pub options_two : (t : Format) → TwoParts (options_format t) ranks_format t (options_level t) 10
+options_two t = record { count = refl; sizes = refl; aligns = refl; form = options_form t; build = λ ss. refl; broken = λ x y. refl }
+
+-- what is alike is kin
+options_related : (alike kin : Row → Row → Bool) → ((r s : Row) → alike r s ≡ true → kin r s ≡ true) → (r s : Row) → option_alike alike r s ≡ true → option_alike kin r s ≡ true
+options_related alike kin e r s h =
+    let p = and_parts (row_eq (bare_option r) (bare_option s)) (alike (inner_of r) (inner_of s)) h in
+    and_from _ _ p.0 (e (inner_of r) (inner_of s) p.1)
 
 pub options_lawful : (t : Format) → IsLawful t → IsLawful (options_format t)
 options_lawful t lt = record {
   full = options_full t lt;
-  counted = options_counted t lt;
-  rebuilt = options_rebuilt t lt;
-  built = options_built t lt;
   same = option_same t.alike lt.same;
+  kindred = option_same t.kin lt.kindred;
+  related = options_related t.alike t.kin lt.related;
   more = options_more t lt;
 }
 
 pub options_storable : (t : Format) → IsStorable t → IsStorable (options_format t)
-options_storable t q = record { swift = omega arith; sized = two_sized (options_two t) ranks_storable q }
+options_storable t q = two_storable (options_two t) (omega arith) ranks_storable q
 
 -- equal formats of values make equal formats
 pub same_options : {t t' : Format} → t ≡ t' → options_format t ≡ options_format t'
@@ -352,13 +337,6 @@ options_refused_bits_range t u {x} {x'} {y} {y'} v w start end {error} s l g h =
 
 -- bytes
 
-pub options_fits : (t : Format) (o : ℕ) (ss : List (List ℕ)) → Fits (options_format t) o ss → Fits ranks_format o ss × Fits t (o + 3) ss
-options_fits t o ss h =
-    let l : o + (3 + t.count) ≤ length ss = h.room in
-    let q = options_parts t h.sound in
-    let d : drop 3 (drop o ss) ≡ drop (o + 3) ss = drop-drop 3 o ss in
-    (record { room = omega arith; sound = q.bits }, record { room = omega arith; sound = rw d at q.values })
-
 -- the bits take at least the two words of their tail
 pub ranks_bytes : (x : Content) → IsSound ranks_format x → 16 ≤ bytes_held x
 ranks_bytes x s =
@@ -366,8 +344,8 @@ ranks_bytes x s =
     let p : SoundRanks f.counts f.values f.tail = ranks_parts (rw f.is at s) in
     rw f.is (omega (arith, p.bools.two))
 
-pub options_turns : (old mid later new r m n : ℕ) → mid ≤ old + 4 * m → later ≤ mid + r * n → new ≤ later + 16 → r ≤ 16 → 16 ≤ m → new ≤ old + 16 * (m + n)
-options_turns old mid later new r m n p q h l k = let u = mul-le-mul_right n l in omega arith
+pub options_turns : (old later new r m n : ℕ) → later ≤ old + (4 * m + r * n) → new ≤ later + 16 → r ≤ 16 → 16 ≤ m → new ≤ old + 16 * (m + n)
+options_turns old later new r m n p h l k = let u = mul-le-mul_right n l in omega arith
 
 pub options_held : (t : Format) (o : ℕ) (ss : List (List ℕ)) → bytes_held ((options_format t).build (drop o ss)) ≡ bytes_held (ranks_format.build (drop o ss)) + bytes_held (t.build (drop (o + 3) ss))
 options_held t o ss =

@@ -71,6 +71,7 @@ abbrev pub options_format : Format → Format
 options_format t = record {
   count = 3 + t.count;
   sizes = 8 ∷ 8 ∷ 8 ∷ t.sizes;
+  aligns = 8 ∷ 8 ∷ 8 ∷ t.aligns;
   turns = 16;
   broken = options_broken t;
   rows = options_rows t;

@@ -4,8 +4,7 @@ use Rattle.std.specs.Prelude.{slice_index, slice_index_or, Some, None, nat_eq}
 use Rattle.std.proofs.lemmas.Bool.{cases_lt, eq-eqb, ne_eqb}
 use Rattle.std.proofs.lemmas.List.{drop-drop}
 use Rattle.columnar_core.specs.Row.{numbers_eq}
-use Rattle.columnar_core.specs.Format.{Content, slice, both, first, moved, Fault, fault, Fits, IsSound}
-use Rattle.columnar_core.specs.FaultLaws.{nothing_left, nothing_moved}
+use Rattle.columnar_core.specs.Format.{Content, slice, both, first, moved, Fault, fault, Fits}
 use Rattle.columnar_core.specs.TwoParts.{two_right, two_own, two_fine}
 use Rattle.columnar_core.specs.StoreLaws.{drop_at}
 use Rattle.columnar_core.specs.Elements.{elements_broken, first_slice}
@@ -86,18 +85,6 @@ pub ranks_held_at : (ss : List (List ℕ)) (o : ℕ) (xs : List ℕ) (y : Conten
 ranks_held_at ss o xs y p q =
     let d : drop 1 (drop o ss) ≡ drop (o + 1) ss = drop-drop 1 o ss in
     rw (p, q, d) refl
-
-pub ranks_right : (x y : Content) → IsSound ranks_format (both x y) → IsSound bools_format y
-ranks_right x y s =
-    let q = nothing_left (elements_broken 8 x) _ s.accepted in
-    let r = nothing_left (moved 1 (bools_broken y)) _ q.1 in
-    record { accepted = nothing_moved 1 (bools_broken y) r.0 }
-
-pub ranks_fit : (ss : List (List ℕ)) (o : ℕ) → Fits ranks_format o ss → Fits bools_format (o + 1) ss
-ranks_fit ss o h =
-    let l : o + 3 ≤ length ss = h.room in
-    let d : drop 1 (drop o ss) ≡ drop (o + 1) ss = drop-drop 1 o ss in
-    record { room = omega arith; sound = rw d at (ranks_right (first_slice (drop o ss)) (bools_format.build (drop 1 (drop o ss))) h.sound) }
 
 -- the words and the tail of slices that were accepted
 pub ranks_bools_at : (ss : List (List ℕ)) (o : ℕ) (a b : List ℕ) → Fits ranks_format o ss → a ≡ slice_index_or ss (o + 1) [] → b ≡ slice_index_or ss (o + 2) [] → SoundBools a b

@@ -229,3 +229,7 @@ words_short {a} {b} s = omega (arith, s.short)
 -- turns for words, and for the counts of new chunks
 pub turns_fit : (old mid new l m w n : ℕ) → mid ≤ old + (m / 64 + 1) → new + 16 * n ≤ mid + 16 * w → n ≡ l / 1024 → w ≡ (l + m) / 1024 → new ≤ old + (m / 16 + 64)
 turns_fit old mid new l m w n p q r s = omega arith
+
+-- a bit that may be refused for want of memory fills a word
+pub fills_word : (n : ℕ) → (n % 64 < 63 → ⊥) → n % 64 ≡ 63
+fills_word n h = ⊎_elim (λ (l : n % 64 < 63). absurd (h l)) (λ (m : 63 ≤ n % 64). omega arith) (cases_lt (n % 64) 63)

@@ -29,6 +29,7 @@ abbrev pub ranks_format : Format
 ranks_format = record {
   count = 3;
   sizes = 8 ∷ 8 ∷ 8 ∷ [];
+  aligns = 8 ∷ 8 ∷ 8 ∷ [];
   turns = 4;
   broken = ranks_broken;
   rows = λ c. map truth (ranks_bits c);

@@ -1,21 +1,22 @@
-use Rattle.std.proofs.Common.{◌≡◌, ℕ, zero, suc, ◌+◌, ◌-◌, ◌*◌, ◌/◌, ◌%◌, ◌^◌, ◌<◌, ◌≤◌, Bool, true, false, List, [], ◌∷◌, ◌++◌, length, take, map, Some, None, refl, sym, ◌∙◌, ap, arith, ⊎_elim, add-zero}
+use Rattle.std.proofs.Common.{◌≡◌, ℕ, zero, suc, ◌+◌, ◌-◌, ◌*◌, ◌/◌, ◌%◌, ◌^◌, ◌<◌, ◌≤◌, Bool, true, false, List, [], ◌∷◌, ◌++◌, length, map, Some, None, refl, sym, ◌∙◌, ap, arith, ⊎_elim, add-zero}
 use Rattle.std.specs.Prelude.{slice_index_or, nat_eq, Option, MatchOption}
 use Rattle.std.proofs.Math.Path.{ap₂}
 use Rattle.std.proofs.lemmas.List.{length-map, length_push, get_or_past}
 use Rattle.std.proofs.lemmas.List.FromFn.{fill_by_all, length-map-range_with_len, get_or-map-range_with_len}
 use Rattle.std.proofs.lemmas.Bool.{and_parts, and_from, eqb-true, eq-eqb, cases_lt, true≢false}
 use Rattle.columnar_core.specs.Row.{truth, numbers_eq}
-use Rattle.columnar_core.specs.Format.{Content, slice, both, part, plain, IsSound, IsLawful, IsStorable, lengths, slices_of, Fault, fault, moved, unless}
+use Rattle.columnar_core.specs.Format.{Content, slice, both, part, plain, IsSound, IsLawful, IsStorable, lengths, Fault, fault, moved, unless}
 use Rattle.columnar_core.specs.FaultLaws.{nothing_left, nothing_both, nothing_moved, moved_nothing, unless_true, true_unless}
 use Rattle.columnar_core.specs.AlikeLaws.{row_eq_same}
 use Rattle.columnar_core.specs.Elements.{elements_broken, elements_format, word_row_of}
-use Rattle.columnar_core.specs.TwoParts.{TwoParts}
+use Rattle.columnar_base.specs.ElementLaws.{elements_storable}
+use Rattle.columnar_core.specs.TwoParts.{IsBoth, TwoParts, two_storable}
 use Rattle.columnar_core.specs.WordViews.{words_in, bytes_of, bit_words}
 use Rattle.columnar_core.specs.WordViewLaws.{length-words_in}
 use Rattle.columnar_primitive.specs.Bits.{bit_in, bits_of}
 use Rattle.columnar_primitive.specs.BitLaws.{get_or-bits_of, bit_in_tail, bit_above, length-truths}
 use Rattle.columnar_primitive.specs.BoolColumns.{last_word, last_count, bit_count, bits_in, bools_broken, bools_bits, bools_format}
-use Rattle.columnar_primitive.specs.BoolLaws.{SoundBools, bools_parts, bools_sound, bools_form, bools_lawful, bits_length, words_of_bits}
+use Rattle.columnar_primitive.specs.BoolLaws.{SoundBools, bools_parts, bools_sound, bools_form, bools_lawful, bools_storable, bits_length, words_of_bits}
 use Rattle.columnar_sums.specs.Counting.{ones, place, ones_below, counts_of, AreCounts, CountWords}
 use Rattle.columnar_sums.specs.CountLaws.{ones_truths, ones_below_mono, ones_yes, ones_no, place_some, place_none, inside}
 use Rattle.columnar_sums.specs.RankColumns.{ranks_format, IsNextTrue, AreFalseFrom, AreClear}
@@ -72,8 +73,15 @@ ranks_sound {c} {a} {b} s = record {
       (true_unless (counts_right c a b) (fault 12 0) (counts_test (bits_in a b) (words_in c) s.are_counts)));
 }
 
-pub ranks_two : TwoParts ranks_format (elements_format 8 word_row_of) bools_format (λ x y. numbers_eq (words_in (bytes_of x)) (counts_of (bools_bits y))) 12
-ranks_two = record { count = refl; sizes = refl; build = λ ss. refl; broken = λ x y. refl }
+ranks_both : (x : Content) → IsSound ranks_format x → IsBoth x
+ranks_both (both x y) s = record { left = x; right = y; is = refl }
+ranks_both (slice bs) s = cc
+ranks_both (part l u x) s = cc
+ranks_both (plain rs) s = cc
+
+-- counts, and then bits
+pub ranks_two : TwoParts ranks_format (elements_format 8 8 word_row_of) bools_format (λ x y. numbers_eq (words_in (bytes_of x)) (counts_of (bools_bits y))) 12
+ranks_two = record { count = refl; sizes = refl; aligns = refl; form = ranks_both; build = λ ss. refl; broken = λ x y. refl }
 
 -- a sound content is of three slices
 pub record ThreeSlices (x : Content) : Type 0 where
@@ -116,30 +124,17 @@ ranks_full x s =
     full_of : {c a b : List ℕ} → SoundRanks c a b → 8 * (length (map truth (bits_in a b)) / 1024) ∷ 8 * (length (map truth (bits_in a b)) / 64) ∷ 16 ∷ [] ≡ length c ∷ length a ∷ length b ∷ []
     full_of {c} {a} {b} p = rw (length-ranks a b, bytes_of_counts p, words_of_bits p.bools, p.bools.two) refl
 
-ranks_counted : (x : Content) → IsSound ranks_format x → length (slices_of x) ≡ 3
-ranks_counted x s = let f = ranks_form x s in rw f.is refl
-
-ranks_rebuilt : (x : Content) (rest : List (List ℕ)) → IsSound ranks_format x → ranks_format.build (slices_of x ++ rest) ≡ x
-ranks_rebuilt x rest s = let f = ranks_form x s in rw f.is refl
-
-ranks_built : (ss : List (List ℕ)) → 3 ≤ length ss → IsSound ranks_format (ranks_format.build ss) → slices_of (ranks_format.build ss) ≡ take 3 ss
-ranks_built [] l s = absurd (omega arith)
-ranks_built (a ∷ []) l s = absurd (omega arith)
-ranks_built (a ∷ b ∷ []) l s = absurd (omega arith)
-ranks_built (a ∷ b ∷ c ∷ ss) l s = refl
-
 pub ranks_lawful : IsLawful ranks_format
 ranks_lawful = record {
   full = ranks_full;
-  counted = ranks_counted;
-  rebuilt = ranks_rebuilt;
-  built = ranks_built;
   same = row_eq_same;
+  kindred = row_eq_same;
+  related = λ r s h. h;
   more = λ e c n rs ss h. bools_lawful.more e (plain []) n rs ss h;
 }
 
 pub ranks_storable : IsStorable ranks_format
-ranks_storable = record { swift = omega arith; sized = refl }
+ranks_storable = two_storable ranks_two (omega arith) (elements_storable 8 8 word_row_of) bools_storable
 
 -- bits and their words
 

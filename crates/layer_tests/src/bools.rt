@@ -4,7 +4,7 @@ ghost use Rattle.columnar_core.specs.Format.{IsSound};
 ghost use Rattle.columnar_primitive.specs.BoolColumns.{bools_format, owned_content, owned_bits};
 
 use columnar_core::bytes::Check;
-use columnar_core::container::{Borrow, Storage};
+use columnar_core::container::{Borrow, Storage, Truncate};
 use columnar_core::fault::StoreFault;
 use columnar_core::traits::{Index, Len};
 use columnar_core::view::View;

@@ -1,5 +1,5 @@
 // Worked stores, and writers that fail.
-ghost use Rattle.std.specs.Prelude.{[], ◌∷◌, ◌≡◌, IsTrue, refl, false};
+ghost use Rattle.std.specs.Prelude.{◌≡◌, IsTrue, refl};
 ghost use Rattle.columnar_core.specs.Bytes.{le_bytes};
 ghost use Rattle.columnar_core.specs.Format.{representable, slice, both};
 
@@ -25,20 +25,27 @@ struct BytesAndWords<'a> {
     words: &'a [u64],
 }
 
+// As a column it is what a pair of a column of bytes and one of words is.
+type Both = (Vec<u8>, Vec<u64>);
+
 impl<'v> Column for BytesAndWords<'v> {
-    ghost format = { record { count = 2; sizes = 1 ∷ 8 ∷ []; turns = 0; broken = λ c. []; rows = λ c. []; extent = λ c n. []; build = λ ss. slice []; alike = λ r s. false; kin = λ r s. false; refuses = λ e c n rs. false } };
+    ghost format = { ⟦<Both as Column>⟧.format };
 
     ghost content = { λ s. both (slice s.bytes.now) (slice (le_bytes s.words.now)) };
 }
 
 impl<'v> Stored for BytesAndWords<'v> {
-    ghost use Rattle.std.specs.Prelude.{◌+◌, ◌*◌, ◌++◌, ◌≤◌, length, drop, None, OnOk, OnErr, IfErr};
-    ghost use Rattle.columnar_core.specs.Format.{bytes_held};
+    ghost use Rattle.columnar_core.specs.Elements.{words_format, word_row_of, elements_format};
+    ghost use Rattle.columnar_core.specs.ElementLaws.{elements_storable};
+    ghost use Rattle.columnar_base.specs.TupleLaws.{pair_storable};
+    ghost use Rattle.columnar_base.specs.Numbers.{unsigned_row_of};
+    ghost use Rattle.std.specs.Int.{w8};
+    ghost use Rattle.std.specs.Prelude.{[], ◌∷◌, ◌++◌, ◌+◌, ◌*◌, ◌≤◌, length, drop, OnOk, OnErr, IfErr};
+    ghost use Rattle.columnar_core.specs.Format.{Fits, bytes_held, first, moved};
     ghost use Rattle.columnar_core.specs.Faults.{verdict};
     ghost use Rattle.columnar_core.specs.Store.{slices_in};
-    ghost use Rattle.std.proofs.Common.{arith};
 
-    ghost storable = { record { swift = Prim.omega arith; sized = refl } };
+    ghost storable = { pair_storable (elements_format 1 1 (unsigned_row_of w8)) words_format (elements_storable 1 1 (unsigned_row_of w8)) (elements_storable 8 8 word_row_of) };
 
     ghost counted = { λ s. refl };
 
@@ -60,20 +67,24 @@ impl<'v> Stored for BytesAndWords<'v> {
     }
 
     fn judge_tallied<L>(
-        _store: &DecodedStore<'_>,
-        _offset: usize,
+        store: &DecodedStore<'_>,
+        offset: usize,
         tally: &mut Tally<L>,
     ) -> Result<(), StoreFault>
-        ensures exact { verdict result ≡ None }
-        ensures turns { tally.new.turns ≤ tally.old.turns + 0 * bytes_held (slice []) }
+        requires representable { IsTrue (representable ⟦<Both as Column>⟧.format) }
+        requires room { offset + 2 ≤ length (slices_in store.now) }
+        ensures exact { verdict result ≡ first (moved offset (⟦<Both as Column>⟧.format.broken (⟦<Both as Column>⟧.format.build (drop offset (slices_in store.now))))) }
+        ensures turns { tally.new.turns ≤ tally.old.turns + ⟦<Both as Column>⟧.format.turns * bytes_held (⟦<Both as Column>⟧.format.build (drop offset (slices_in store.now))) }
     {
-        Ok(())
+        Both::judge_tallied(store, offset, tally)
     }
 
-    fn rows_in(_store: &DecodedStore<'_>, _offset: usize) -> usize
-        ensures { result ≡ 0 }
+    fn rows_in(store: &DecodedStore<'_>, offset: usize) -> usize
+        requires representable { IsTrue (representable ⟦<Both as Column>⟧.format) }
+        requires fits { Fits ⟦<Both as Column>⟧.format offset (slices_in store.now) }
+        ensures { result ≡ length (⟦<Both as Column>⟧.format.rows (⟦<Both as Column>⟧.format.build (drop offset (slices_in store.now)))) }
     {
-        0
+        Both::rows_in(store, offset)
     }
 }
 

@@ -3,7 +3,9 @@ ghost use Rattle.std.specs.Prelude.{◌≡◌, length, IfSome};
 ghost use Rattle.columnar_base.specs.Format.{IsSound};
 
 use columnar_core::bytes::{AsBytes, Check, Stored};
-use columnar_core::container::{Borrow, Container, ContainerBytes, ExtendFrom, Reborrow, Storage};
+use columnar_core::container::{
+    Borrow, Container, ContainerBytes, ExtendFrom, Reborrow, Storage, Truncate,
+};
 use columnar_core::fault::StoreFault;
 use columnar_core::slice::Slice;
 use columnar_core::traits::{Clear, Index, Len, Push};
@@ -26,7 +28,7 @@ fn count<'a, C: Container<'a>>(column: &'a C) -> usize
 }
 
 // Pushes rows of a view as one row; false where they are not there, or where the push is refused.
-fn pushed<V: Index + Copy, C: Push<Slice<V>>>(
+fn pushed<V: Len + Copy, C: Push<Slice<V>>>(
     column: &mut C,
     view: V,
     lower: usize,
@@ -48,7 +50,7 @@ fn pushed<V: Index + Copy, C: Push<Slice<V>>>(
 }
 
 // Copies rows of a view behind those of a container; false where they are not there, or where the copy is refused.
-fn copied<V: Index + Copy, C: ExtendFrom<V>>(
+fn copied<V: Len + Copy, C: ExtendFrom<V>>(
     column: &mut C,
     view: V,
     start: usize,
@@ -65,7 +67,7 @@ fn copied<V: Index + Copy, C: ExtendFrom<V>>(
 }
 
 // Row `index`, where there is one.
-fn row_at<V: Index>(view: &V, index: usize) -> Option<V::Ref>
+fn row_at<V: Index + Len>(view: &V, index: usize) -> Option<V::Ref>
     requires { IsSound V.format (V.content view.now) }
     ensures { IfSome result V.Ref.valid }
 {

@@ -4,7 +4,7 @@ ghost use Rattle.columnar_core.specs.Format.{IsSound};
 ghost use Rattle.columnar_primitive.specs.Stride.{strides_format, head_and_bounds};
 
 use columnar_core::bytes::Check;
-use columnar_core::container::{Borrow, Container, Storage};
+use columnar_core::container::{Borrow, Container, Storage, Truncate};
 use columnar_core::fault::{GrowError, StoreFault};
 use columnar_core::offsets::Offsets;
 use columnar_core::traits::{Clear, Len, Push};

@@ -3,7 +3,7 @@ ghost use Rattle.std.specs.Prelude.{◌≡◌, ℕ, length, IfOk, IfSome};
 ghost use Rattle.columnar_core.specs.Format.{IsSound};
 
 use columnar_core::bytes::{Check, Stored};
-use columnar_core::container::{Borrow, Container, ExtendFrom, Storage};
+use columnar_core::container::{Borrow, Container, ExtendFrom, Storage, Truncate};
 use columnar_core::fault::{GrowError, StoreFault};
 use columnar_core::traits::{Clear, Index, Len, Push, PushRef};
 use columnar_core::view::View;
@@ -26,7 +26,7 @@ fn count<'a, C: Container<'a>>(column: &'a C) -> usize
 }
 
 // Row `index`, where there is one
-fn row_at<V: Index>(view: &V, index: usize) -> Option<V::Ref>
+fn row_at<V: Index + Len>(view: &V, index: usize) -> Option<V::Ref>
     requires { IsSound V.format (V.content view.now) }
     ensures { IfSome result V.Ref.valid }
 {
@@ -38,7 +38,7 @@ fn row_at<V: Index>(view: &V, index: usize) -> Option<V::Ref>
 }
 
 // Copies rows of a view behind those of a container; false where they are not there, or where the copy is refused
-fn copied<V: Index + Copy, C: ExtendFrom<V>>(
+fn copied<V: Len + Copy, C: ExtendFrom<V>>(
     column: &mut C,
     view: V,
     start: usize,

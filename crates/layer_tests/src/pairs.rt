@@ -3,7 +3,7 @@ ghost use Rattle.std.specs.Prelude.{◌≡◌, length};
 ghost use Rattle.columnar_base.specs.Format.{IsSound};
 
 use columnar_core::bytes::{Check, Stored};
-use columnar_core::container::{Borrow, Container, ExtendFrom, Storage};
+use columnar_core::container::{Borrow, Container, ExtendFrom, Storage, Truncate};
 use columnar_core::fault::{GrowError, StoreFault};
 use columnar_core::traits::{Clear, Index, Len, Push, PushRef};
 use columnar_core::view::View;
@@ -22,7 +22,7 @@ fn count<'a, C: Container<'a>>(column: &'a C) -> usize
 }
 
 // Copies the rows of a view behind those of a container, through the bounds.
-fn copy_all<V: Index + Copy, C: ExtendFrom<V>>(column: &mut C, view: V) -> Result<(), GrowError>
+fn copy_all<V: Len + Copy, C: ExtendFrom<V>>(column: &mut C, view: V) -> Result<(), GrowError>
     requires sound { IsSound C.format (C.content column.old) }
     requires view_sound { IsSound V.format (V.content view) }
     ensures { IsSound C.format (C.content column.new) }

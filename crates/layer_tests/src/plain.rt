@@ -3,7 +3,7 @@ ghost use Rattle.std.specs.Prelude.{◌≡◌, ℕ, length, IfOk};
 ghost use Rattle.columnar_core.specs.Format.{IsSound};
 ghost use Rattle.columnar_sums.specs.RankColumns.{ranks_format, owned_ranks};
 
-use columnar_core::container::{Borrow, ExtendFrom, Storage};
+use columnar_core::container::{Borrow, ExtendFrom, Storage, Truncate};
 use columnar_core::traits::{Index, Len, Push};
 use columnar_sums::rank_select::RankSelect;
 use std::alloc::Global;
@@ -111,7 +111,7 @@ fn end_of(alloc: Global, column: &Held, start: usize) -> Result<Held, Fail>
 }
 
 // Copies the rows of a view from `start` on behind those of a container.
-fn copied<V: Index + Copy, C: ExtendFrom<V>>(column: &mut C, view: V, start: usize) -> bool
+fn copied<V: Len + Copy, C: ExtendFrom<V>>(column: &mut C, view: V, start: usize) -> bool
     requires sound { IsSound C.format (C.content column.old) }
     requires view_sound { IsSound V.format (V.content view) }
     ensures { IsSound C.format (C.content column.new) }

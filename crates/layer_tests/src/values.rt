@@ -3,7 +3,9 @@ ghost use Rattle.std.specs.Prelude.{◌≡◌, ℕ, length, IsTrue};
 ghost use Rattle.columnar_base.specs.Format.{IsSound, representable};
 
 use columnar_core::bytes::{AsBytes, Check, Stored};
-use columnar_core::container::{Borrow, Container, ContainerBytes, ExtendFrom, Reborrow, Storage};
+use columnar_core::container::{
+    Borrow, Container, ContainerBytes, ExtendFrom, Reborrow, Storage, Truncate,
+};
 use columnar_core::fault::{GrowError, StoreFault};
 use columnar_core::traits::{Clear, Column, Index, Len, Push, PushRef};
 use columnar_core::view::View;
@@ -40,7 +42,7 @@ fn count<'a, C: Container<'a>>(column: &'a C) -> usize
 }
 
 // Copies the rows of a view behind those of a container, through the bounds.
-fn copy_all<V: Index + Copy, C: ExtendFrom<V>>(column: &mut C, view: V) -> Result<(), GrowError>
+fn copy_all<V: Len + Copy, C: ExtendFrom<V>>(column: &mut C, view: V) -> Result<(), GrowError>
     requires sound { IsSound C.format (C.content column.old) }
     requires view_sound { IsSound V.format (V.content view) }
     ensures { IsSound C.format (C.content column.new) }
@@ -63,7 +65,7 @@ fn checked<V: Check>(view: &V) -> Result<(), StoreFault>
 }
 
 // Row `index`, None past the end, through the bound
-fn row_of<V: Index>(view: &V, index: usize) -> Option<V::Ref>
+fn row_of<V: Index + Len>(view: &V, index: usize) -> Option<V::Ref>
     requires { IsSound V.format (V.content view.now) }
 {
     if index < view.len() {

@@ -77,7 +77,7 @@ fn takes<'x, T: Item + Copy, C: Storage + Push<T> + Push<&'x T> + PushRef<T>>(
 }
 
 // A container that is loaded from bytes
-fn loads<C: ContainerBytes>(alloc: Global, words: &[u64]) -> Option<C>
+fn loads<C: ContainerBytes + Storage>(alloc: Global, words: &[u64]) -> Option<C>
     requires { IsTrue (representable C.format) }
     ensures { IfSome result (λ c. IsSound C.format (C.content c)) }
 {
@@ -97,7 +97,7 @@ fn loads<C: ContainerBytes>(alloc: Global, words: &[u64]) -> Option<C>
 }
 
 // A view of bytes, which tests itself
-fn views<'a, V: FromBytes<'a> + Drop>(bytes: &'a [u8]) -> Option<V>
+fn views<'a, V: FromBytes<'a> + Check + Drop>(bytes: &'a [u8]) -> Option<V>
     requires { IsTrue (representable V.format) }
     ensures { IfSome result (λ v. IsSound V.format (V.content v)) }
 {
@@ -114,7 +114,7 @@ fn views<'a, V: FromBytes<'a> + Drop>(bytes: &'a [u8]) -> Option<V>
 }
 
 // The first and the last row, where there is one
-fn ends<V: Index>(view: &V) -> Option<(V::Ref, V::Ref)>
+fn ends<V: Index + Len>(view: &V) -> Option<(V::Ref, V::Ref)>
     requires { IsSound V.format (V.content view.now) }
 {
     match view.last() {
@@ -124,7 +124,7 @@ fn ends<V: Index>(view: &V) -> Option<(V::Ref, V::Ref)>
 }
 
 // The same, as values of another type
-fn ends_as<T: Item + Drop, V: IndexAs<T>>(view: &V) -> Option<(T, T)>
+fn ends_as<T: Item + Drop, V: IndexAs<T> + Len>(view: &V) -> Option<(T, T)>
     requires { IsSound V.format (V.content view.now) }
 {
     if view.is_empty() {

@@ -6,7 +6,8 @@ use crate::bytes::stash::Stash;
 use crate::common::View;
 use crate::fault::StoreFault;
 use crate::{
-    AsBytes, Borrow, Check, Clear, Len, Push, Reborrow, ReborrowRef, Slice, Storage, Stored, Vecs,
+    AsBytes, Borrow, Check, Clear, Len, Push, Reborrow, ReborrowRef, Slice, Storage, Stored,
+    Truncate, Vecs,
 };
 use std::test::Fail;
 

@@ -50,7 +50,7 @@ static FIRSTS: [u64; 2] = [5, 6];
 static SECONDS: [u64; 2] = [50, 60];
 
 // A push is done, or refused and then done
-fn push_keeps<T: Item + Copy, C: ContainerBytes + Push<T>>(
+fn push_keeps<T: Item + Copy, C: ContainerBytes + Storage + Push<T>>(
     stash: &mut Stash<C, Vec<u8>>,
     item: T,
     before: &[u64],
@@ -75,7 +75,7 @@ fn push_keeps<T: Item + Copy, C: ContainerBytes + Push<T>>(
 }
 
 // The same of a push by reference
-fn push_ref_keeps<T: Item, C: ContainerBytes + PushRef<T>>(
+fn push_ref_keeps<T: Item, C: ContainerBytes + Storage + PushRef<T>>(
     stash: &mut Stash<C, Vec<u8>>,
     item: &T,
     before: &[u64],
@@ -100,7 +100,7 @@ fn push_ref_keeps<T: Item, C: ContainerBytes + PushRef<T>>(
 }
 
 // The same of a copy of the first rows of a view
-fn copy_keeps<V: Index + Copy, C: ContainerBytes + ExtendFrom<V>>(
+fn copy_keeps<V: Len + Copy, C: ContainerBytes + Storage + ExtendFrom<V>>(
     stash: &mut Stash<C, Vec<u8>>,
     view: V,
     count: usize,
@@ -132,7 +132,7 @@ fn copy_keeps<V: Index + Copy, C: ContainerBytes + ExtendFrom<V>>(
 }
 
 // Room for a view is made, or not; the rows stay
-fn room_keeps<V: Index + Copy, C: ContainerBytes + ExtendFrom<V>>(
+fn room_keeps<V: Len + Copy, C: ContainerBytes + Storage + ExtendFrom<V>>(
     stash: &mut Stash<C, Vec<u8>>,
     view: V,
     before: &[u64],
@@ -150,7 +150,7 @@ fn room_keeps<V: Index + Copy, C: ContainerBytes + ExtendFrom<V>>(
 }
 
 // An empty column with room for a view is made, or not
-fn room_is_made_or_refused<V: Index + Copy, C: ContainerBytes + ExtendFrom<V>>(
+fn room_is_made_or_refused<V: Len + Copy, C: ContainerBytes + Storage + ExtendFrom<V>>(
     alloc: Global,
     view: V,
 ) -> bool {
@@ -161,7 +161,7 @@ fn room_is_made_or_refused<V: Index + Copy, C: ContainerBytes + ExtendFrom<V>>(
 }
 
 // A cut is done, or refused and then done
-fn cut_keeps<C: ContainerBytes>(
+fn cut_keeps<C: ContainerBytes + Storage>(
     stash: &mut Stash<C, Vec<u8>>,
     count: usize,
     before: &[u64],
@@ -188,7 +188,11 @@ fn cut_keeps<C: ContainerBytes>(
 }
 
 // What a stash is turned into has the same words, and the stash is as it was; so it is after a refusal
-fn turns_keep<C: ContainerBytes>(alloc: Global, stash: &Stash<C, Vec<u8>>, words: &[u64]) -> bool
+fn turns_keep<C: ContainerBytes + Storage>(
+    alloc: Global,
+    stash: &Stash<C, Vec<u8>>,
+    words: &[u64],
+) -> bool
     requires representable { IsTrue (representable C.format) }
     requires sound { IsSound C.format (stash_content stash.now) }
 {
@@ -206,7 +210,7 @@ fn turns_keep<C: ContainerBytes>(alloc: Global, stash: &Stash<C, Vec<u8>>, words
 
 // A clone and a duplicate are of the same variant and have the same words, and the stash is as it was; so it is after a
 // refusal
-fn clones_keep<C: ContainerBytes + Clone>(
+fn clones_keep<C: ContainerBytes + Storage + Clone>(
     alloc: Global,
     stash: &Stash<C, Vec<u8>>,
     words: &[u64],
@@ -226,7 +230,7 @@ fn clones_keep<C: ContainerBytes + Clone>(
 }
 
 // The bytes are aligned in place, or the stash is as it was
-fn aligning_keeps<C: ContainerBytes>(
+fn aligning_keeps<C: ContainerBytes + Storage>(
     alloc: Global,
     stash: &mut Stash<C, Vec<u8>>,
     words: &[u64],
@@ -248,7 +252,7 @@ fn aligning_keeps<C: ContainerBytes>(
 }
 
 // The bytes are loaded in place, or the stash is as it was
-fn loading_keeps<C: ContainerBytes>(stash: &mut Stash<C, Vec<u8>>, words: &[u64]) -> bool
+fn loading_keeps<C: ContainerBytes + Storage>(stash: &mut Stash<C, Vec<u8>>, words: &[u64]) -> bool
     requires { IsTrue (representable C.format) }
 {
     let held = variant(stash);
@@ -310,7 +314,7 @@ struct Trial<'a> {
 }
 
 // Pushes to bytes and to a column
-fn both_pushes_keep<T: Item + Copy, C: ContainerBytes + Push<T>>(
+fn both_pushes_keep<T: Item + Copy, C: ContainerBytes + Storage + Push<T>>(
     alloc: Global,
     item: T,
     trial: &Trial<'_>,
@@ -329,11 +333,11 @@ fn both_pushes_keep<T: Item + Copy, C: ContainerBytes + Push<T>>(
 }
 
 // Pushes of an item by value and by reference, to bytes and to a column
-fn pushes_keep<'a, T: Item + Copy, C: ContainerBytes + Push<T> + Push<&'a T> + PushRef<T>>(
-    alloc: Global,
-    item: &'a T,
-    trial: &Trial<'_>,
-) -> bool
+fn pushes_keep<
+    'a,
+    T: Item + Copy,
+    C: ContainerBytes + Storage + Push<T> + Push<&'a T> + PushRef<T>,
+>(alloc: Global, item: &'a T, trial: &Trial<'_>) -> bool
     requires representable { IsTrue (representable C.format) }
     requires valid { T.valid item.now }
 {
@@ -350,7 +354,7 @@ fn pushes_keep<'a, T: Item + Copy, C: ContainerBytes + Push<T> + Push<&'a T> + P
 }
 
 // Copies of rows, and room for them: in bytes, in a column and in an empty one
-fn copies_keep<V: Index + Copy, C: ContainerBytes + ExtendFrom<V>>(
+fn copies_keep<V: Len + Copy, C: ContainerBytes + Storage + ExtendFrom<V>>(
     alloc: Global,
     source: V,
     trial: &Trial<'_>,
@@ -387,7 +391,10 @@ fn copies_keep<V: Index + Copy, C: ContainerBytes + ExtendFrom<V>>(
 }
 
 // Bytes and a column are loaded, copied, aligned, cloned and cut
-fn turns_and_clones_keep<C: ContainerBytes + Clone>(alloc: Global, trial: &Trial<'_>) -> bool
+fn turns_and_clones_keep<C: ContainerBytes + Storage + Clone>(
+    alloc: Global,
+    trial: &Trial<'_>,
+) -> bool
     requires { IsTrue (representable C.format) }
 {
     let words = trial.after;
@@ -410,7 +417,7 @@ fn turns_and_clones_keep<C: ContainerBytes + Clone>(alloc: Global, trial: &Trial
 }
 
 // Do the words break a rule, where there is memory to test it?
-fn is_refused<C: ContainerBytes>(alloc: Global, words: &[u64]) -> bool
+fn is_refused<C: ContainerBytes + Storage>(alloc: Global, words: &[u64]) -> bool
     requires { IsTrue (representable C.format) }
 {
     match bytes_of(alloc, words) {
@@ -420,7 +427,7 @@ fn is_refused<C: ContainerBytes>(alloc: Global, words: &[u64]) -> bool
 }
 
 // Is no store of the test refused? Else it would end before the calls that it tests.
-fn is_lawful<C: ContainerBytes>(alloc: Global, trial: &Trial<'_>) -> bool
+fn is_lawful<C: ContainerBytes + Storage>(alloc: Global, trial: &Trial<'_>) -> bool
     requires { IsTrue (representable C.format) }
 {
     !is_refused::<C>(alloc, trial.before)
@@ -430,7 +437,7 @@ fn is_lawful<C: ContainerBytes>(alloc: Global, trial: &Trial<'_>) -> bool
 }
 
 // Each call that takes memory, but the pushes
-fn calls_keep<'v, V: AsBytes<'v> + Index + Copy, C: ContainerBytes + ExtendFrom<V> + Clone>(
+fn calls_keep<'v, V: AsBytes<'v> + Len + Copy, C: ContainerBytes + Storage + ExtendFrom<V> + Clone>(
     alloc: Global,
     source: V,
     trial: &Trial<'_>,
@@ -445,7 +452,7 @@ fn calls_keep<'v, V: AsBytes<'v> + Index + Copy, C: ContainerBytes + ExtendFrom<
 }
 
 // A run of one command does it, or tells that memory was refused; the stash is as it was then
-fn run_keeps<T: Item, V: Index + Copy, C: ContainerBytes + PushRef<T> + ExtendFrom<V>>(
+fn run_keeps<T: Item, V: Len + Copy, C: ContainerBytes + Storage + PushRef<T> + ExtendFrom<V>>(
     alloc: Global,
     stash: Stash<C, Vec<u8>>,
     source: V,

@@ -16,6 +16,8 @@ impl<T: Primitive, const N: usize> Item for [T; N] {
 impl<T: Primitive, const N: usize> Element for [T; N] {
     ghost size = { array_size T.size N };
 
+    ghost align = { T.align };
+
     ghost le_bytes = { array_bytes N T.size T.le_bytes };
 
     ghost row_of = { array_row_of N T.size T.row_of };

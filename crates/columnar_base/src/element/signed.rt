@@ -1,5 +1,5 @@
 //! Signed numbers as elements, in two's complement.
-ghost use Rattle.std.specs.Prelude.{ℕ, ◌≡◌, refl};
+ghost use Rattle.std.specs.Prelude.{ℕ, ◌≡◌, ◌-◌, ◌^◌, pos, negsuc, refl};
 ghost use Rattle.std.specs.Int.{w8, w16, w32, w64};
 ghost use Rattle.columnar_base.specs.Numbers.{signed_bytes, signed_row, signed_row_of};
 ghost use Rattle.columnar_base.specs.NumberLaws.{signed_element, at_most_8};
@@ -15,6 +15,8 @@ impl Item for i8 {
 
 impl Element for i8 {
     ghost size = { 1 };
+
+    ghost align = { 1 };
 
     ghost le_bytes = { signed_bytes w8 };
 
@@ -40,7 +42,11 @@ impl Element for i8 {
 impl Primitive for i8 {
     ghost small = { at_most_8 1 refl };
 
+    ghost MIN = { negsuc (2 ^ 7 - 1) };
+
     const MIN: Self = i8::MIN;
+
+    ghost MAX = { pos (2 ^ 7 - 1) };
 
     const MAX: Self = i8::MAX;
 
@@ -59,6 +65,8 @@ impl Item for i16 {
 
 impl Element for i16 {
     ghost size = { 2 };
+
+    ghost align = { 2 };
 
     ghost le_bytes = { signed_bytes w16 };
 
@@ -84,7 +92,11 @@ impl Element for i16 {
 impl Primitive for i16 {
     ghost small = { at_most_8 2 refl };
 
+    ghost MIN = { negsuc (2 ^ 15 - 1) };
+
     const MIN: Self = i16::MIN;
+
+    ghost MAX = { pos (2 ^ 15 - 1) };
 
     const MAX: Self = i16::MAX;
 
@@ -103,6 +115,8 @@ impl Item for i32 {
 
 impl Element for i32 {
     ghost size = { 4 };
+
+    ghost align = { 4 };
 
     ghost le_bytes = { signed_bytes w32 };
 
@@ -128,7 +142,11 @@ impl Element for i32 {
 impl Primitive for i32 {
     ghost small = { at_most_8 4 refl };
 
+    ghost MIN = { negsuc (2 ^ 31 - 1) };
+
     const MIN: Self = i32::MIN;
+
+    ghost MAX = { pos (2 ^ 31 - 1) };
 
     const MAX: Self = i32::MAX;
 
@@ -147,6 +165,8 @@ impl Item for i64 {
 
 impl Element for i64 {
     ghost size = { 8 };
+
+    ghost align = { 8 };
 
     ghost le_bytes = { signed_bytes w64 };
 
@@ -174,7 +194,11 @@ impl Element for i64 {
 impl Primitive for i64 {
     ghost small = { at_most_8 8 refl };
 
+    ghost MIN = { negsuc (2 ^ 63 - 1) };
+
     const MIN: Self = i64::MIN;
+
+    ghost MAX = { pos (2 ^ 63 - 1) };
 
     const MAX: Self = i64::MAX;
 

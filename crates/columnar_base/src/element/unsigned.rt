@@ -1,5 +1,5 @@
 //! Unsigned numbers as elements.
-ghost use Rattle.std.specs.Prelude.{ℕ, ◌≡◌, refl};
+ghost use Rattle.std.specs.Prelude.{ℕ, ◌≡◌, ◌-◌, ◌^◌, refl};
 ghost use Rattle.std.specs.Int.{to_le_bytes, w8, w16, w32, w64};
 ghost use Rattle.columnar_base.specs.Elements.{word_row, word_row_of};
 ghost use Rattle.columnar_base.specs.ElementLaws.{word_element};
@@ -17,6 +17,8 @@ impl Item for u8 {
 
 impl Element for u8 {
     ghost size = { 1 };
+
+    ghost align = { 1 };
 
     ghost le_bytes = { to_le_bytes w8 };
 
@@ -42,7 +44,11 @@ impl Element for u8 {
 impl Primitive for u8 {
     ghost small = { at_most_8 1 refl };
 
+    ghost MIN = { 0 };
+
     const MIN: Self = u8::MIN;
+
+    ghost MAX = { 2 ^ 8 - 1 };
 
     const MAX: Self = u8::MAX;
 
@@ -59,6 +65,8 @@ impl Item for u16 {
 
 impl Element for u16 {
     ghost size = { 2 };
+
+    ghost align = { 2 };
 
     ghost le_bytes = { to_le_bytes w16 };
 
@@ -84,7 +92,11 @@ impl Element for u16 {
 impl Primitive for u16 {
     ghost small = { at_most_8 2 refl };
 
+    ghost MIN = { 0 };
+
     const MIN: Self = u16::MIN;
+
+    ghost MAX = { 2 ^ 16 - 1 };
 
     const MAX: Self = u16::MAX;
 
@@ -103,6 +115,8 @@ impl Item for u32 {
 
 impl Element for u32 {
     ghost size = { 4 };
+
+    ghost align = { 4 };
 
     ghost le_bytes = { to_le_bytes w32 };
 
@@ -128,7 +142,11 @@ impl Element for u32 {
 impl Primitive for u32 {
     ghost small = { at_most_8 4 refl };
 
+    ghost MIN = { 0 };
+
     const MIN: Self = u32::MIN;
+
+    ghost MAX = { 2 ^ 32 - 1 };
 
     const MAX: Self = u32::MAX;
 
@@ -147,6 +165,8 @@ impl Item for u64 {
 
 impl Element for u64 {
     ghost size = { 8 };
+
+    ghost align = { 8 };
 
     ghost le_bytes = { to_le_bytes w64 };
 
@@ -174,7 +194,11 @@ impl Element for u64 {
 impl Primitive for u64 {
     ghost small = { at_most_8 8 refl };
 
+    ghost MIN = { 0 };
+
     const MIN: Self = u64::MIN;
+
+    ghost MAX = { 2 ^ 64 - 1 };
 
     const MAX: Self = u64::MAX;
 

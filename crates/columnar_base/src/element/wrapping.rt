@@ -15,6 +15,8 @@ impl<T: Item> Item for Wrapping<T> {
 impl<T: Primitive> Element for Wrapping<T> {
     ghost size = { T.size };
 
+    ghost align = { T.align };
+
     ghost le_bytes = { λ x. T.le_bytes x.0 };
 
     ghost row_of = { T.row_of };
@@ -39,7 +41,11 @@ impl<T: Primitive> Element for Wrapping<T> {
 impl<T: Primitive> Primitive for Wrapping<T> {
     ghost small = { T.small };
 
+    ghost MIN = { record { 0 = T.MIN } };
+
     const MIN: Self = Wrapping(T::MIN);
+
+    ghost MAX = { record { 0 = T.MAX } };
 
     const MAX: Self = Wrapping(T::MAX);
 

@@ -1,5 +1,5 @@
 //! The structure of a store.
-ghost use Rattle.std.specs.Prelude.{◌≡◌, ◌+◌, ◌≤◌, ◌↔◌, length, IsOk, IfErr, OnOk};
+ghost use Rattle.std.specs.Prelude.{◌≡◌, ◌+◌, ◌/◌, ◌≤◌, ◌↔◌, length, IsOk, IfErr, OnOk};
 ghost use Rattle.columnar_core.specs.Frame.{IsLegal, IsStore, framed_slices};
 ghost use Rattle.columnar_bytes.specs.Faults.{IsFirstBroken};
 
@@ -21,8 +21,8 @@ pub fn validate_structure(bytes: &[u8], expected: usize) -> Result<(), StoreFaul
     }
 }
 
-/// As `validate_structure`; the turns that it takes are added to the tally, at most one for each slice that is
-/// expected, so fewer than the table has words.
+/// As `validate_structure`; the turns that it takes are added to the tally: fewer than the bytes have words, whatever
+/// number is expected.
 #[tactic(auto, using(crate::specs::FaultLaws::broken_refused))]
 pub fn validate_structure_tallied<L>(
     bytes: &[u8],
@@ -33,7 +33,7 @@ pub fn validate_structure_tallied<L>(
     ensures fault { IfErr result (IsFirstBroken bytes.now expected) }
     ensures store { OnOk result (IsStore bytes.now) }
     ensures count { OnOk result (length (framed_slices bytes.now) ≡ expected) }
-    ensures turns { tally.new.turns ≤ tally.old.turns + expected }
+    ensures turns { tally.new.turns ≤ tally.old.turns + length bytes.now / 8 }
 {
     let len = bytes.len();
     if len % 8 != 0 {

@@ -1,6 +1,6 @@
 //! Whether a store holds a column of a type.
-ghost use Rattle.std.specs.Prelude.{◌≡◌, ◌+◌, ◌*◌, ◌≤◌, ◌↔◌, IsTrue, IsOk, IfErr, OnOk};
-ghost use Rattle.columnar_core.specs.Format.{bytes_held, representable};
+ghost use Rattle.std.specs.Prelude.{◌≡◌, ◌+◌, ◌*◌, ◌/◌, ◌≤◌, ◌↔◌, length, IsTrue, IsOk, IfErr, OnOk};
+ghost use Rattle.columnar_core.specs.Format.{bytes_of_all, representable};
 ghost use Rattle.columnar_core.specs.Frame.{framed_slices};
 ghost use Rattle.columnar_bytes.specs.Accepted.{Accepts, Accepted, IsFirstFault};
 
@@ -25,14 +25,14 @@ pub fn validate<T: Stored>(bytes: &[u8]) -> Result<(), StoreFault>
     }
 }
 
-/// As `validate`; the turns that it takes are added to the tally: at most one for each slice, and 16 for each byte of
-/// the slices.
+/// As `validate`; the turns that it takes are added to the tally: at most one for each word of the bytes, and 16 for
+/// each byte of their slices, accepted or refused.
 pub fn validate_tallied<T: Stored, L>(bytes: &[u8], tally: &mut Tally<L>) -> Result<(), StoreFault>
     requires { IsTrue (representable T.format) }
     ensures exact { IsOk result ↔ Accepts T.format bytes.now }
     ensures fault { IfErr result (IsFirstFault T.format bytes.now) }
     ensures accepted { OnOk result (Accepted T.format bytes.now) }
-    ensures turns { tally.new.turns ≤ tally.old.turns + (T.format.count + 16 * bytes_held (T.format.build (framed_slices bytes.now))) }
+    ensures turns { tally.new.turns ≤ tally.old.turns + (length bytes.now / 8 + 16 * bytes_of_all (framed_slices bytes.now)) }
 {
     match validate_structure_tallied(bytes, T::slice_count(), tally) {
         Ok(()) => {}

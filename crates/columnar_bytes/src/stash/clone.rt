@@ -3,7 +3,7 @@ ghost use Rattle.std.specs.Prelude.{◌≡◌, IfOk, IfErr};
 
 use super::{ByteStore, Checked, Stash};
 use columnar_core::bytes::Stored;
-use columnar_core::container::ContainerBytes;
+use columnar_core::container::Storage;
 use columnar_core::fault::GrowError;
 use std::alloc::{AllocError, Global};
 use std::marker::PhantomData;
@@ -48,7 +48,7 @@ impl<C: Stored + Clone, B: ByteStore> Clone for Stash<C, B> {
     }
 }
 
-impl<C: ContainerBytes, B: ByteStore> Stash<C, B> {
+impl<C: Stored + Storage, B: ByteStore> Stash<C, B> {
     ghost use Rattle.columnar_bytes.specs.Stashes.{stash_content, variant_of};
 
     /// A stash of the same variant, with the same rows and slices; want of memory alone refuses it. What a clone keeps

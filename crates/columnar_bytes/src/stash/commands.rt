@@ -7,9 +7,9 @@ ghost use Rattle.columnar_bytes.specs.States.{state_of};
 ghost use Rattle.columnar_bytes.specs.Machine.{Answers, IsValid, Ran, in_range, order_of};
 
 use super::Stash;
-use columnar_core::container::{ContainerBytes, ExtendFrom};
+use columnar_core::container::{ContainerBytes, ExtendFrom, Storage};
 use columnar_core::fault::{EncodeError, GrowError};
-use columnar_core::traits::{Clear, Index, Item, Len, PushRef};
+use columnar_core::traits::{Clear, Item, Len, PushRef};
 use std::alloc::Global;
 
 /// A command on a stash.
@@ -68,9 +68,9 @@ impl<T> Command<T> {
     }
 }
 
-impl<C: ContainerBytes> Stash<C, Vec<u8>> {
+impl<C: ContainerBytes + Storage> Stash<C, Vec<u8>> {
     // One command; the range is tested first.
-    fn apply<T: Item, V: Index + Copy>(
+    fn apply<T: Item, V: Len + Copy>(
         &mut self,
         alloc: Global,
         source: V,
@@ -94,7 +94,7 @@ impl<C: ContainerBytes> Stash<C, Vec<u8>> {
     }
 
     // One command that is in range.
-    fn act<T: Item, V: Index + Copy>(
+    fn act<T: Item, V: Len + Copy>(
         &mut self,
         alloc: Global,
         source: V,
@@ -146,7 +146,7 @@ impl<C: ContainerBytes> Stash<C, Vec<u8>> {
 /// Runs the commands in turn, and gives the stash back with one reply for each, in order. Each reply is true of the
 /// column that was held then. The memory for the replies is taken first; where it is refused, the stash comes back as it
 /// was.
-pub fn run<T: Item, V: Index + Copy, C: ContainerBytes + PushRef<T> + ExtendFrom<V>>(
+pub fn run<T: Item, V: Len + Copy, C: ContainerBytes + PushRef<T> + ExtendFrom<V>>(
     alloc: Global,
     mut stash: Stash<C, Vec<u8>>,
     source: V,

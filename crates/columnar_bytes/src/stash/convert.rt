@@ -7,8 +7,8 @@ ghost use Rattle.columnar_bytes.specs.Accepted.{Accepted};
 
 use super::{ByteStore, Checked, Stash};
 use crate::indexed::{length_in_bytes, write};
-use columnar_core::bytes::AsBytes;
-use columnar_core::container::ContainerBytes;
+use columnar_core::bytes::{AsBytes, Stored};
+use columnar_core::container::{ContainerBytes, Storage};
 use columnar_core::fault::{EncodeError, GrowError};
 use columnar_core::owned::Owned;
 use columnar_core::store::DecodedStore;
@@ -25,11 +25,12 @@ impl<C: ContainerBytes, B: ByteStore> Checked<C, B> {
         ensures sound { IfOk result (λ c. IsSound C.format (C.content c)) }
         ensures memory { IfErr result (λ e. e ≡ GrowError.Memory) }
     {
-        match C::load(alloc, &DecodedStore::new(self.bytes()), 0) {
-            Ok(column) => Ok(column),
-            Err(error) => Err(error),
-        }
+        C::load(alloc, &DecodedStore::new(self.bytes()), 0)
     }
+}
+
+impl<C: Stored, B: ByteStore> Checked<C, B> {
+    ghost use Rattle.columnar_bytes.specs.Stashes.{checked_bytes};
 
     // Bytes that are accepted.
     pub(super) fn accept(alloc: Global, store: B) -> Self
@@ -65,11 +66,8 @@ fn encoding<'a, S: AsBytes<'a>>(alloc: Global, item: &S) -> Result<Vec<u8>, Enco
     }
 }
 
-impl<C: ContainerBytes, B: ByteStore> Stash<C, B> {
-    ghost use Rattle.std.specs.Borrow.{sem};
-    ghost use Rattle.columnar_bytes.specs.Stashes.{stash_content, variant_of, typed, bytes, aligned, HoldsBytes, checked_bytes};
-    ghost use Rattle.columnar_bytes.specs.StashLends.{lends_typed, ends_as};
-    ghost use Rattle.columnar_bytes.specs.declared.stash.Stash.TheVariants.{Align};
+impl<C: ContainerBytes + Storage, B: ByteStore> Stash<C, B> {
+    ghost use Rattle.columnar_bytes.specs.Stashes.{stash_content, variant_of, typed};
 
     /// A stash of a column with the same rows and slices; want of memory alone refuses it.
     pub fn to_typed(&self, alloc: Global) -> Result<Self, GrowError>
@@ -103,6 +101,12 @@ impl<C: ContainerBytes, B: ByteStore> Stash<C, B> {
             },
         }
     }
+}
+
+impl<C: ContainerBytes + Drop, B: ByteStore> Stash<C, B> {
+    ghost use Rattle.std.specs.Borrow.{sem};
+    ghost use Rattle.columnar_bytes.specs.Stashes.{stash_content, variant_of, typed};
+    ghost use Rattle.columnar_bytes.specs.StashLends.{lends_typed};
 
     /// The column, for writing: bytes are loaded into a column first, with the same rows and slices. What the caller
     /// leaves there is what the stash holds. Want of memory alone refuses it, and leaves the stash as it was.
@@ -143,6 +147,10 @@ impl<C: ContainerBytes, B: ByteStore> Stash<C, B> {
             Err(error) => Err(error),
         }
     }
+}
+
+impl<C: ContainerBytes, B: ByteStore> Stash<C, B> {
+    ghost use Rattle.columnar_bytes.specs.Stashes.{stash_content, variant_of, aligned, HoldsBytes, checked_bytes};
 
     // The bytes of the words of the view.
     fn encoded(&self, alloc: Global) -> Result<Vec<u8>, EncodeError>
@@ -191,6 +199,13 @@ impl<C: ContainerBytes, B: ByteStore> Stash<C, B> {
             Err(_) => Err(EncodeError::Memory),
         }
     }
+}
+
+impl<C: ContainerBytes + Drop, B: ByteStore> Stash<C, B> {
+    ghost use Rattle.std.specs.Borrow.{sem};
+    ghost use Rattle.columnar_bytes.specs.Stashes.{stash_content, variant_of, aligned, HoldsBytes, checked_bytes};
+    ghost use Rattle.columnar_bytes.specs.StashLends.{ends_as};
+    ghost use Rattle.columnar_bytes.specs.declared.stash.Stash.TheVariants.{Align};
 
     /// The bytes of the encoding, with zeros between the slices and nothing behind them, which the stash then holds: bytes
     /// of the same rows. Where it is of the variant `Align` already, they are its bytes as they are. Refused with `Length`
@@ -243,7 +258,7 @@ impl<C: ContainerBytes, B: ByteStore> Stash<C, B> {
     }
 }
 
-impl<C: ContainerBytes> Stash<C, Vec<u8>> {
+impl<C: ContainerBytes + Drop> Stash<C, Vec<u8>> {
     ghost use Rattle.columnar_bytes.specs.Stashes.{stash_content, variant_of, bytes};
 
     // The stash, written to new bytes and opened.

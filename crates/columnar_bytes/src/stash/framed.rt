@@ -8,7 +8,6 @@ ghost use Rattle.columnar_core.specs.Frame.{framed_slices};
 use super::{ByteStore, Checked};
 use columnar_core::byte_slice::ByteSlice;
 use columnar_core::bytes::{AsBytes, Stored};
-use columnar_core::container::ContainerBytes;
 use columnar_core::fault::{GrowError, StoreFault};
 use columnar_core::store::DecodedStore;
 use columnar_core::tally::Tally;
@@ -40,19 +39,19 @@ impl<C: Stored, B: ByteStore> Checked<C, B> {
 }
 
 impl<'v, C: Stored> Column for Framed<'v, C> {
-    ghost use Rattle.columnar_bytes.specs.FramedContent.{framed_content};
+    ghost use Rattle.columnar_bytes.specs.FramedContent.{byte_format, framed_content};
 
-    ghost format = { C.format };
+    ghost format = { byte_format C.format };
 
     ghost content = { framed_content };
 }
 
-impl<'v, C: ContainerBytes> Stored for Framed<'v, C> {
-    ghost use Rattle.columnar_bytes.specs.FramedContent.{framed_counted};
+impl<'v, C: Stored> Stored for Framed<'v, C> {
+    ghost use Rattle.columnar_bytes.specs.FramedContent.{byte_format, byte_storable, framed_counted};
 
-    ghost storable = { C.storable };
+    ghost storable = { byte_storable C.format C.storable };
 
-    ghost counted = { framed_counted C.lawful };
+    ghost counted = { framed_counted C.storable };
 
     fn slice_count() -> usize
         requires { IsTrue (representable C.format) }
@@ -91,14 +90,14 @@ impl<'v, C: ContainerBytes> Stored for Framed<'v, C> {
 
     fn rows_in(store: &DecodedStore<'_>, offset: usize) -> usize
         requires representable { IsTrue (representable C.format) }
-        requires fits { Fits C.format offset (slices_in store.now) }
+        requires fits { Fits (byte_format C.format) offset (slices_in store.now) }
         ensures { result ≡ length (C.format.rows (C.format.build (drop offset (slices_in store.now)))) }
     {
         C::rows_in(store, offset)
     }
 }
 
-impl<'a, C: ContainerBytes> AsBytes<'a> for Framed<'a, C> {
+impl<'a, C: Stored> AsBytes<'a> for Framed<'a, C> {
     fn get_byte_slice(&self, index: usize) -> (u64, ByteSlice<'a>) {
         let slice = ByteSlice::of_bytes(self.store.get(index));
         (slice.align(), slice)

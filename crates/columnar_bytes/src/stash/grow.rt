@@ -5,13 +5,14 @@ ghost use Rattle.columnar_core.specs.Format.{IsSound};
 ghost use Rattle.columnar_core.specs.Change.{Took, Copied, Refused, Stayed, WasCut};
 
 use super::{ByteStore, Stash};
-use columnar_core::container::{ContainerBytes, ExtendFrom};
+use columnar_core::bytes::Stored;
+use columnar_core::container::{ContainerBytes, ExtendFrom, Storage, Truncate};
 use columnar_core::fault::GrowError;
-use columnar_core::traits::{Clear, Index, Item, Push, PushRef};
+use columnar_core::traits::{Clear, Column, Item, Push, PushRef};
 use std::alloc::Global;
 use std::ops::Range;
 
-impl<C: ContainerBytes, B: ByteStore> Clear for Stash<C, B> {
+impl<C: Stored + Storage, B: ByteStore> Clear for Stash<C, B> {
     ghost use Rattle.columnar_bytes.specs.Stashes.{stash_content, variant_of, typed};
 
     /// Takes all rows away: bytes become a column. Takes no memory.
@@ -34,7 +35,7 @@ impl<C: ContainerBytes, B: ByteStore> Clear for Stash<C, B> {
     }
 }
 
-impl<T: Item + Drop, C: ContainerBytes + Push<T>, B: ByteStore> Push<T> for Stash<C, B> {
+impl<T: Item + Drop, C: ContainerBytes + Drop + Push<T>, B: ByteStore> Push<T> for Stash<C, B> {
     ghost use Rattle.columnar_bytes.specs.Stashes.{stash_content, variant_of, typed};
 
     /// Pushes into the column; want of memory for the loaded column refuses too. A refusal leaves the variant.
@@ -70,7 +71,7 @@ impl<T: Item + Drop, C: ContainerBytes + Push<T>, B: ByteStore> Push<T> for Stas
     }
 }
 
-impl<T: Item, C: ContainerBytes + PushRef<T>, B: ByteStore> PushRef<T> for Stash<C, B> {
+impl<T: Item, C: ContainerBytes + Drop + PushRef<T>, B: ByteStore> PushRef<T> for Stash<C, B> {
     ghost use Rattle.columnar_bytes.specs.Stashes.{stash_content, variant_of, typed};
 
     /// As a push of `&T`.
@@ -110,7 +111,7 @@ impl<C: ContainerBytes, B: ByteStore> Stash<C, B> {
     ghost use Rattle.columnar_bytes.specs.Stashes.{stash_content, variant_of, typed};
 
     /// A stash of a column without rows, with room for the rows of the views; want of memory alone refuses it.
-    pub fn with_capacity_for<V: Index + Copy, I: Iterator<Item = V> + Drop>(
+    pub fn with_capacity_for<V: Column + Copy, I: Iterator<Item = V> + Drop>(
         alloc: Global,
         views: I,
     ) -> Result<Self, GrowError>
@@ -131,7 +132,7 @@ impl<C: ContainerBytes, B: ByteStore> Stash<C, B> {
 
     /// Makes room for the rows of the views in the column; the rows stay. Want of memory alone refuses it, and leaves
     /// the variant.
-    pub fn reserve_for<V: Index + Copy, I: Iterator<Item = V> + Drop>(
+    pub fn reserve_for<V: Column + Copy, I: Iterator<Item = V> + Drop>(
         &mut self,
         views: I,
     ) -> Result<(), GrowError>
@@ -170,7 +171,7 @@ impl<C: ContainerBytes, B: ByteStore> Stash<C, B> {
 
     /// Adds rows that are alike to the rows of the range, or none of them, as the column's own call; a refusal leaves
     /// the variant.
-    pub fn extend_from_self<V: Index + Copy>(
+    pub fn extend_from_self<V: Column + Copy>(
         &mut self,
         view: V,
         range: Range<usize>,
@@ -208,6 +209,10 @@ impl<C: ContainerBytes, B: ByteStore> Stash<C, B> {
             Err(error) => Err(error),
         }
     }
+}
+
+impl<C: ContainerBytes + Truncate + Drop, B: ByteStore> Stash<C, B> {
+    ghost use Rattle.columnar_bytes.specs.Stashes.{stash_content, variant_of, typed};
 
     /// Keeps the first `n` rows. On a column it never fails; on bytes want of memory alone refuses it, and leaves the
     /// rows and the variant.

@@ -9,8 +9,8 @@ ghost use Rattle.columnar_bytes.specs.Written.{IsLeftOf};
 
 use super::{ByteStore, Checked, Stash};
 use crate::indexed::{length_in_bytes, validate, write};
-use columnar_core::bytes::{AsBytes, FromBytes};
-use columnar_core::container::{Borrow, ContainerBytes};
+use columnar_core::bytes::{AsBytes, FromBytes, Stored};
+use columnar_core::container::{Borrow, ContainerBytes, Storage};
 use columnar_core::fault::{StoreFault, WriteFault};
 use columnar_core::owned::Owned;
 use columnar_core::store::DecodedStore;
@@ -18,7 +18,7 @@ use columnar_core::writer::WriteBytes;
 use std::alloc::Global;
 use std::marker::PhantomData;
 
-impl<C: ContainerBytes, B: ByteStore> Checked<C, B> {
+impl<C: Stored, B: ByteStore> Checked<C, B> {
     ghost use Rattle.columnar_bytes.specs.Stashes.{checked_bytes};
 
     // The view of the bytes.
@@ -32,8 +32,8 @@ impl<C: ContainerBytes, B: ByteStore> Checked<C, B> {
     }
 }
 
-impl<C: ContainerBytes, B: ByteStore> Stash<C, B> {
-    ghost use Rattle.columnar_bytes.specs.Stashes.{stash_content, variant_of, typed, bytes, HoldsBytes, written_bytes};
+impl<C: Stored + Storage, B: ByteStore> Stash<C, B> {
+    ghost use Rattle.columnar_bytes.specs.Stashes.{stash_content, variant_of, typed};
 
     /// A stash of a column without rows.
     pub fn empty(alloc: Global) -> Self
@@ -43,6 +43,10 @@ impl<C: ContainerBytes, B: ByteStore> Stash<C, B> {
     {
         Stash::Typed(C::empty(alloc))
     }
+}
+
+impl<C: Stored, B: ByteStore> Stash<C, B> {
+    ghost use Rattle.columnar_bytes.specs.Stashes.{stash_content, variant_of, bytes, HoldsBytes};
 
     /// The bytes, where they are accepted for columns of type `C`; else the first broken rule, at its slice, and the
     /// bytes are given up. Takes no memory.
@@ -78,6 +82,10 @@ impl<C: ContainerBytes, B: ByteStore> Stash<C, B> {
             Stash::Align(checked) => checked.view(),
         }
     }
+}
+
+impl<C: ContainerBytes, B: ByteStore> Stash<C, B> {
+    ghost use Rattle.columnar_bytes.specs.Stashes.{stash_content, written_bytes};
 
     /// How many bytes the encoding of the view takes; None where they pass 64 bits.
     pub fn length_in_bytes(&self) -> Option<usize>
@@ -121,8 +129,7 @@ impl<C: ContainerBytes, B: ByteStore> Stash<C, B> {
     }
 }
 
-impl<'a, C: ContainerBytes + Borrow<'a, Borrowed: FromBytes<'a>>, B: ByteStore> Borrow<'a>
-    for Stash<C, B> {
+impl<'a, C: Stored + Borrow<'a, Borrowed: FromBytes<'a>>, B: ByteStore> Borrow<'a> for Stash<C, B> {
     type Ref = C::Ref;
 
     type Borrowed = C::Borrowed;

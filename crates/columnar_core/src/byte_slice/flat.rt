@@ -16,8 +16,6 @@ pub trait Flat<const N: usize>: Sliced + Primitive {
 }
 
 impl<T: Flat<N>, const N: usize> Sliced for [T; N] {
-    ghost align = { T.align };
-
     fn align() -> u64 {
         T::align()
     }

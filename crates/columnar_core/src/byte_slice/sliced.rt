@@ -9,23 +9,18 @@ use std::num::Wrapping;
 
 /// An element whose slices can go out as bytes.
 pub trait Sliced: Element {
-    // the alignment of its slices, in bytes
-    ghost align: { ℕ };
-
     /// The alignment of its slices, in bytes.
     fn align() -> u64
-        ensures { result ≡ align };
+        ensures { result ≡ Self.align };
 
     /// The bytes of the elements. Asks that an element is at most 2^63 - 1 bytes.
     fn byte_slice(items: &[Self]) -> ByteSlice<'_>
         requires { Self.size < 2 ^ 63 }
         ensures bytes { bytes_in result ≡ flat_map Self.le_bytes items.now }
-        ensures align { alignment result ≡ align };
+        ensures align { alignment result ≡ Self.align };
 }
 
 impl Sliced for u8 {
-    ghost align = { 1 };
-
     fn align() -> u64 {
         1
     }
@@ -36,8 +31,6 @@ impl Sliced for u8 {
 }
 
 impl Sliced for u16 {
-    ghost align = { 2 };
-
     fn align() -> u64 {
         2
     }
@@ -53,8 +46,6 @@ impl Sliced for u16 {
 }
 
 impl Sliced for u32 {
-    ghost align = { 4 };
-
     fn align() -> u64 {
         4
     }
@@ -70,8 +61,6 @@ impl Sliced for u32 {
 }
 
 impl Sliced for u64 {
-    ghost align = { 8 };
-
     fn align() -> u64 {
         8
     }
@@ -87,8 +76,6 @@ impl Sliced for u64 {
 }
 
 impl Sliced for i8 {
-    ghost align = { 1 };
-
     fn align() -> u64 {
         1
     }
@@ -104,8 +91,6 @@ impl Sliced for i8 {
 }
 
 impl Sliced for i16 {
-    ghost align = { 2 };
-
     fn align() -> u64 {
         2
     }
@@ -121,8 +106,6 @@ impl Sliced for i16 {
 }
 
 impl Sliced for i32 {
-    ghost align = { 4 };
-
     fn align() -> u64 {
         4
     }
@@ -138,8 +121,6 @@ impl Sliced for i32 {
 }
 
 impl Sliced for i64 {
-    ghost align = { 8 };
-
     fn align() -> u64 {
         8
     }
@@ -155,8 +136,6 @@ impl Sliced for i64 {
 }
 
 impl Sliced for Wrapping<u8> {
-    ghost align = { 1 };
-
     fn align() -> u64 {
         1
     }
@@ -172,8 +151,6 @@ impl Sliced for Wrapping<u8> {
 }
 
 impl Sliced for Wrapping<u16> {
-    ghost align = { 2 };
-
     fn align() -> u64 {
         2
     }
@@ -189,8 +166,6 @@ impl Sliced for Wrapping<u16> {
 }
 
 impl Sliced for Wrapping<u32> {
-    ghost align = { 4 };
-
     fn align() -> u64 {
         4
     }
@@ -206,8 +181,6 @@ impl Sliced for Wrapping<u32> {
 }
 
 impl Sliced for Wrapping<u64> {
-    ghost align = { 8 };
-
     fn align() -> u64 {
         8
     }
@@ -223,8 +196,6 @@ impl Sliced for Wrapping<u64> {
 }
 
 impl Sliced for Wrapping<i8> {
-    ghost align = { 1 };
-
     fn align() -> u64 {
         1
     }
@@ -240,8 +211,6 @@ impl Sliced for Wrapping<i8> {
 }
 
 impl Sliced for Wrapping<i16> {
-    ghost align = { 2 };
-
     fn align() -> u64 {
         2
     }
@@ -257,8 +226,6 @@ impl Sliced for Wrapping<i16> {
 }
 
 impl Sliced for Wrapping<i32> {
-    ghost align = { 4 };
-
     fn align() -> u64 {
         4
     }
@@ -274,8 +241,6 @@ impl Sliced for Wrapping<i32> {
 }
 
 impl Sliced for Wrapping<i64> {
-    ghost align = { 8 };
-
     fn align() -> u64 {
         8
     }

@@ -18,13 +18,14 @@ use columnar_core::view::{Items, View, element_in};
 use columnar_core::words::{Words, byte_count, word_count};
 use std::alloc::Global;
 
-/// The bytes of the words of a view.
+/// The bytes of the words of a view, with the alignment of words, wherever they stand.
 pub fn view_slice<'a>(view: View<'a, u64>) -> ByteSlice<'a>
-    ensures { bytes_in result ≡ view_bytes view.entry }
+    ensures bytes { bytes_in result ≡ view_bytes view.entry }
+    ensures align { alignment result ≡ 8 }
 {
     match view.items() {
         Items::Typed(items) => ByteSlice::of_words(items),
-        Items::Bytes(bytes) => ByteSlice::of_bytes(bytes),
+        Items::Bytes(bytes) => ByteSlice::of_le_bytes(bytes, 8),
     }
 }
 
@@ -66,18 +67,8 @@ impl<VC: Words, TC: Words> Stored for Bools<VC, TC> {
     }
 
     fn element_sizes(sizes: &mut Vec<usize>) -> Result<(), GrowError> {
-        let before = sizes.len();
-        match sizes.push(8) {
-            Ok(()) => {}
-            Err(_) => return Err(GrowError::Memory),
-        }
-        match sizes.push(8) {
-            Ok(()) => Ok(()),
-            Err(_) => {
-                sizes.truncate(before);
-                Err(GrowError::Memory)
-            }
-        }
+        sizes.extend_from_slice(&[8, 8])?;
+        Ok(())
     }
 
     fn judge_tallied<L>(
@@ -87,10 +78,7 @@ impl<VC: Words, TC: Words> Stored for Bools<VC, TC> {
     ) -> Result<(), StoreFault> {
         let values = View::from_le_bytes(store.get(offset));
         let tail = View::from_le_bytes(store.get(offset + 1));
-        match judged(values, tail, offset) {
-            Ok(()) => Ok(()),
-            Err(fault) => Err(fault),
-        }
+        judged(values, tail, offset)
     }
 
     fn rows_in(store: &DecodedStore<'_>, offset: usize) -> usize {
@@ -102,10 +90,7 @@ impl<VC: Words, TC: Words> Stored for Bools<VC, TC> {
 
 impl<VC: Words, TC: Words> Check for Bools<VC, TC> {
     fn check_from_tallied<L>(&self, from: usize, tally: &mut Tally<L>) -> Result<(), StoreFault> {
-        match judged(self.values.words(), self.tail.words(), from) {
-            Ok(()) => Ok(()),
-            Err(fault) => Err(fault),
-        }
+        judged(self.values.words(), self.tail.words(), from)
     }
 }
 
@@ -150,12 +135,10 @@ impl ContainerBytes for Bools<Vec<u64>, [u64; 2]> {
     }
 
     fn load(alloc: Global, store: &DecodedStore<'_>, offset: usize) -> Result<Self, GrowError> {
-        match <Vec<u64> as ContainerBytes>::load(alloc, store, offset) {
-            Ok(values) => Ok(Bools {
-                values,
-                tail: two_words(store.get(offset + 1)),
-            }),
-            Err(error) => Err(error),
-        }
+        let values = <Vec<u64> as ContainerBytes>::load(alloc, store, offset)?;
+        Ok(Bools {
+            values,
+            tail: two_words(store.get(offset + 1)),
+        })
     }
 }

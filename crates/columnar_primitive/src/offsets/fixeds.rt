@@ -1,5 +1,5 @@
 //! Offsets that are the multiples of a constant, of which the count alone is kept.
-ghost use Rattle.std.specs.Prelude.{◌≡◌, ℕ, ◌+◌, ◌-◌, ◌*◌, ◌<◌, ◌≤◌, ◌^◌, ◌∷◌, [], List, length, take, drop, OnOk, IfOk, IfErr, true, false, refl};
+ghost use Rattle.std.specs.Prelude.{◌≡◌, ℕ, ◌+◌, ◌-◌, ◌*◌, ◌<◌, ◌≤◌, ◌^◌, ◌∷◌, [], List, length, take, drop, OnOk, IfOk, IfErr, IsTrue, IsFalse, Err, ◌↔◌, true, false, refl};
 ghost use Rattle.columnar_core.specs.Row.{Row, number};
 ghost use Rattle.columnar_core.specs.Format.{slice, first, moved, IsSound};
 ghost use Rattle.columnar_core.specs.Bytes.{word};
@@ -7,7 +7,7 @@ ghost use Rattle.columnar_core.specs.Elements.{word_row};
 ghost use Rattle.columnar_core.specs.Faults.{verdict};
 ghost use Rattle.columnar_core.specs.Change.{Copied, Refused, Took};
 ghost use Rattle.columnar_primitive.specs.Held.{counted};
-ghost use Rattle.columnar_primitive.specs.Fixed.{fixed_broken, fixed_format, fixed_rows, IsCauseOf, IsLimit};
+ghost use Rattle.columnar_primitive.specs.Fixed.{fixed_broken, fixed_format, fixed_rows, passes, IsCauseOf, IsLimit};
 ghost use Rattle.columnar_primitive.specs.Tried.{Tried};
 ghost use Rattle.columnar_primitive.specs.FixedLaws.{fixed_lawful, fixed_storable, fixed_bounds};
 
@@ -15,7 +15,9 @@ use super::strides::Strides;
 use crate::bools::view_slice;
 use columnar_core::byte_slice::ByteSlice;
 use columnar_core::bytes::{AsBytes, Check, FromBytes, Stored};
-use columnar_core::container::{Borrow, Container, ContainerBytes, ExtendFrom, Reborrow, Storage};
+use columnar_core::container::{
+    Borrow, Container, ContainerBytes, ExtendFrom, Reborrow, Reserve, Storage, Truncate,
+};
 use columnar_core::fault::{GrowError, StoreFault};
 use columnar_core::offsets::{Offsets, StoredOffsets};
 use columnar_core::store::{DecodedStore, word_at};
@@ -68,11 +70,15 @@ impl<const K: u64> Clear for Fixeds<K, u64> {
     }
 }
 
-impl<const K: u64> Storage for Fixeds<K, u64> {
-    type Room = ();
-
+impl<const K: u64> Truncate for Fixeds<K, u64> {
     ghost lawful = { fixed_lawful K };
 
+    fn truncate(&mut self, n: usize) {
+        self.count = n as u64;
+    }
+}
+
+impl<const K: u64> Storage for Fixeds<K, u64> {
     fn empty(_alloc: Global) -> Self {
         Fixeds { count: 0 }
     }
@@ -80,10 +86,10 @@ impl<const K: u64> Storage for Fixeds<K, u64> {
     fn duplicate(&self, _alloc: Global) -> Result<Self, GrowError> {
         Ok(Fixeds { count: self.count })
     }
+}
 
-    fn truncate(&mut self, n: usize) {
-        self.count = n as u64;
-    }
+impl<const K: u64> Reserve for Fixeds<K, u64> {
+    type Room = ();
 
     fn no_room() -> () {
         ()
@@ -99,6 +105,8 @@ fn next_count<const K: u64>(count: u64, item: u64) -> Result<u64, GrowError>
     ensures ok { IfOk result (λ n. (n ≡ count + 1) × (item ≡ K * n)) }
     ensures fits { IfOk result (λ n. K * n < 2 ^ 64) }
     ensures limit { IfErr result IsLimit }
+    ensures length { (result ≡ Err GrowError.Length) ↔ IsTrue (passes K (count + 1)) }
+    ensures offset { (result ≡ Err GrowError.Offset) ↔ (IsFalse (passes K (count + 1)) × (item ≡ K * (count + 1) → ⊥)) }
     ensures err { IfErr result (λ e. (rs : List Row) → IsCauseOf K e count (number item ∷ rs)) }
 {
     let next = match count.checked_add(1) {
@@ -123,14 +131,11 @@ impl<const K: u64> Push<u64> for Fixeds<K, u64> {
         ensures ok { OnOk result (Took (fixed_format K) (counted self.old.count) (counted self.new.count) (word_row item ∷ [])) }
         ensures err { IfErr result (λ e. Refused (fixed_format K) (counted self.old.count) (counted self.new.count) (word_row item ∷ []) e) }
         ensures limit { IfErr result IsLimit }
+        ensures length { (result ≡ Err GrowError.Length) ↔ IsTrue (passes K (self.old.count + 1)) }
+        ensures offset { (result ≡ Err GrowError.Offset) ↔ (IsFalse (passes K (self.old.count + 1)) × (item ≡ K * (self.old.count + 1) → ⊥)) }
     {
-        match next_count::<K>(self.count, item) {
-            Ok(next) => {
-                self.count = next;
-                Ok(())
-            }
-            Err(error) => Err(error),
-        }
+        self.count = next_count::<K>(self.count, item)?;
+        Ok(())
     }
 }
 
@@ -141,14 +146,10 @@ impl<'x, const K: u64> Push<&'x u64> for Fixeds<K, u64> {
         ensures ok { OnOk result (Took (fixed_format K) (counted self.old.count) (counted self.new.count) (word_row item.now ∷ [])) }
         ensures err { IfErr result (λ e. Refused (fixed_format K) (counted self.old.count) (counted self.new.count) (word_row item.now ∷ []) e) }
         ensures limit { IfErr result IsLimit }
+        ensures length { (result ≡ Err GrowError.Length) ↔ IsTrue (passes K (self.old.count + 1)) }
+        ensures offset { (result ≡ Err GrowError.Offset) ↔ (IsFalse (passes K (self.old.count + 1)) × (item.now ≡ K * (self.old.count + 1) → ⊥)) }
     {
-        match next_count::<K>(self.count, *item) {
-            Ok(next) => {
-                self.count = next;
-                Ok(())
-            }
-            Err(error) => Err(error),
-        }
+        self.push_ref(item)
     }
 }
 
@@ -159,14 +160,10 @@ impl<const K: u64> PushRef<u64> for Fixeds<K, u64> {
         ensures ok { OnOk result (Took (fixed_format K) (counted self.old.count) (counted self.new.count) (word_row item.now ∷ [])) }
         ensures err { IfErr result (λ e. Refused (fixed_format K) (counted self.old.count) (counted self.new.count) (word_row item.now ∷ []) e) }
         ensures limit { IfErr result IsLimit }
+        ensures length { (result ≡ Err GrowError.Length) ↔ IsTrue (passes K (self.old.count + 1)) }
+        ensures offset { (result ≡ Err GrowError.Offset) ↔ (IsFalse (passes K (self.old.count + 1)) × (item.now ≡ K * (self.old.count + 1) → ⊥)) }
     {
-        match next_count::<K>(self.count, *item) {
-            Ok(next) => {
-                self.count = next;
-                Ok(())
-            }
-            Err(error) => Err(error),
-        }
+        Push::<u64>::push(self, *item)
     }
 }
 
@@ -194,10 +191,7 @@ impl<'x, const K: u64> ExtendFrom<Fixeds<K, View<'x, u64>>> for Fixeds<K, u64> {
         if added == 0 {
             return Ok(());
         }
-        match next_count::<K>(self.count, view.get(range.start)) {
-            Ok(_) => {}
-            Err(error) => return Err(error),
-        }
+        next_count::<K>(self.count, view.get(range.start))?;
         match self.count.checked_add(added as u64) {
             Some(count) => {
                 self.count = count;
@@ -262,10 +256,8 @@ impl<const K: u64, CC: Words> Stored for Fixeds<K, CC> {
     }
 
     fn element_sizes(sizes: &mut Vec<usize>) -> Result<(), GrowError> {
-        match sizes.push(8) {
-            Ok(()) => Ok(()),
-            Err(_) => Err(GrowError::Memory),
-        }
+        sizes.push(8)?;
+        Ok(())
     }
 
     fn judge_tallied<L>(
@@ -370,8 +362,8 @@ impl<const K: u64> TryFrom<Strides<Vec<u64>, [u64; 2]>> for Fixeds<K, u64> {
     }
 }
 
-/// Ok exactly where all offsets follow the stride `K`; else the view is given back as it is, as where it is not well
-/// formed.
+/// Ok exactly where all offsets of a well-formed view follow the stride `K`. Else the view is given back as it is, well
+/// formed or not. A view that is not well formed may become one that is not either.
 impl<'v, const K: u64> TryFrom<Strides<View<'v, u64>, View<'v, u64>>> for Fixeds<K, View<'v, u64>> {
     type Error = Strides<View<'v, u64>, View<'v, u64>>;
 

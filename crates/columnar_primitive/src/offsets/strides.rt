@@ -1,18 +1,20 @@
 //! Offsets that follow a stride as far as they go, and then stand as they are.
-ghost use Rattle.std.specs.Prelude.{◌≡◌, ℕ, ◌+◌, ◌-◌, ◌*◌, ◌/◌, ◌%◌, ◌^◌, ◌<◌, ◌≤◌, ◌∷◌, [], length, slice_get, Some, Err, OnOk, OnErr, IfOk, IfErr, refl};
+ghost use Rattle.std.specs.Prelude.{◌≡◌, ℕ, ◌+◌, ◌-◌, ◌*◌, ◌/◌, ◌%◌, ◌^◌, ◌<◌, ◌≤◌, ◌∷◌, [], length, slice_get, Some, Err, OnOk, OnErr, IfOk, IfErr, IsOk, IsTrue, refl};
 ghost use Rattle.columnar_core.specs.Row.{number};
 ghost use Rattle.columnar_core.specs.Format.{both, slice, first, moved, IsSound};
 ghost use Rattle.columnar_core.specs.Elements.{word_row};
 ghost use Rattle.columnar_core.specs.Faults.{verdict};
 ghost use Rattle.columnar_core.specs.Bounds.{rises, numbers};
 ghost use Rattle.columnar_core.specs.Change.{Refused, Took, WasCut};
-ghost use Rattle.columnar_primitive.specs.Stride.{strides_format, strides_broken, strides_rows, bounds_rows, strided, head_and_bounds, follows, grown, head_pushed, bounds_pushed, head_cut, bounds_cut};
+ghost use Rattle.columnar_primitive.specs.Stride.{strides_format, strides_broken, strides_rows, bounds_rows, strided, head_and_bounds, follows, joins, grown, head_pushed, bounds_pushed, head_cut, bounds_cut};
 ghost use Rattle.columnar_primitive.specs.StrideLaws.{strides_lawful, strides_storable, strides_bounds};
 
 use crate::bools::view_slice;
 use columnar_core::byte_slice::ByteSlice;
 use columnar_core::bytes::{AsBytes, Check, FromBytes, Stored};
-use columnar_core::container::{Borrow, Container, ContainerBytes, ExtendFrom, Reborrow, Storage};
+use columnar_core::container::{
+    Borrow, Container, ContainerBytes, ExtendFrom, Reborrow, Reserve, Storage, Truncate,
+};
 use columnar_core::fault::{GrowError, StoreFault};
 use columnar_core::offsets::{Offsets, StoredOffsets};
 use columnar_core::store::{DecodedStore, word_at};
@@ -99,8 +101,8 @@ impl Strides<Vec<u64>, [u64; 2]> {
     }
 
     /// Adds an offset. Where no bound stands behind the multiples, it joins them if it is the next, or the first, which
-    /// is then the stride; else it goes to the bounds. Length is answered where there are 2^64 - 1 offsets. After a
-    /// refusal nothing has changed.
+    /// is then the stride; else it goes to the bounds. An offset that joins the multiples takes no memory. Length is
+    /// answered where there are 2^64 - 1 offsets. After a refusal nothing has changed.
     pub fn push(&mut self, item: u64) -> Result<(), GrowError>
         requires { IsSound strides_format (head_and_bounds self.old.head self.old.bounds.items) }
         ensures ok { OnOk result (Took strides_format (head_and_bounds self.old.head self.old.bounds.items) (head_and_bounds self.new.head self.new.bounds.items) (word_row item ∷ [])) }
@@ -110,6 +112,7 @@ impl Strides<Vec<u64>, [u64; 2]> {
         ensures head_stays { OnErr result (self.new.head ≡ self.old.head) }
         ensures bounds_stay { OnErr result (self.new.bounds.items ≡ self.old.bounds.items) }
         ensures full { length (strides_rows (head_and_bounds self.old.head self.old.bounds.items)) ≡ 2 ^ 64 - 1 → result ≡ Err GrowError.Length }
+        ensures no_memory { length (strides_rows (head_and_bounds self.old.head self.old.bounds.items)) < 2 ^ 64 - 1 → IsTrue (joins self.old.head self.old.bounds.items item) → IsOk result }
     {
         let stride = self.head[0];
         let length = self.head[1];
@@ -121,10 +124,8 @@ impl Strides<Vec<u64>, [u64; 2]> {
             self.head = grown(stride, length, item);
             return Ok(());
         }
-        match self.bounds.push(item) {
-            Ok(()) => Ok(()),
-            Err(_) => Err(GrowError::Memory),
-        }
+        self.bounds.push(item)?;
+        Ok(())
     }
 
     /// Takes the last offset away: off the bounds, and where there are none off the multiples. Asks that there is one.
@@ -195,70 +196,113 @@ fn grown(stride: u64, length: u64, item: u64) -> [u64; 2]
 }
 
 impl Clear for Strides<Vec<u64>, [u64; 2]> {
-    fn clear(&mut self) {
+    /// As `Strides::clear`.
+    fn clear(&mut self)
+        ensures sound { IsSound strides_format (head_and_bounds self.new.head self.new.bounds.items) }
+        ensures rows { strides_rows (head_and_bounds self.new.head self.new.bounds.items) ≡ [] }
+        ensures head { self.new.head ≡ 0 ∷ 0 ∷ [] }
+        ensures bounds { self.new.bounds.items ≡ [] }
+    {
         Strides::clear(self);
     }
 }
 
-impl Storage for Strides<Vec<u64>, [u64; 2]> {
-    type Room = usize;
-
+impl Truncate for Strides<Vec<u64>, [u64; 2]> {
     ghost lawful = { strides_lawful };
 
-    fn empty(alloc: Global) -> Self {
+    /// As `Strides::truncate`.
+    fn truncate(&mut self, n: usize)
+        requires sound { IsSound strides_format (head_and_bounds self.old.head self.old.bounds.items) }
+        requires in_range { n ≤ length (strides_rows (head_and_bounds self.old.head self.old.bounds.items)) }
+        ensures cut { WasCut strides_format (head_and_bounds self.old.head self.old.bounds.items) (head_and_bounds self.new.head self.new.bounds.items) n }
+        ensures head { self.new.head ≡ head_cut self.old.head n }
+        ensures bounds { self.new.bounds.items ≡ bounds_cut self.old.head self.old.bounds.items n }
+    {
+        Strides::truncate(self, n);
+    }
+}
+
+impl Storage for Strides<Vec<u64>, [u64; 2]> {
+    /// No offsets, and no stride yet.
+    fn empty(alloc: Global) -> Self
+        ensures sound { IsSound strides_format (head_and_bounds result.head result.bounds.items) }
+        ensures rows { strides_rows (head_and_bounds result.head result.bounds.items) ≡ [] }
+        ensures head { result.head ≡ 0 ∷ 0 ∷ [] }
+        ensures bounds { result.bounds.items ≡ [] }
+    {
         Strides::new(alloc, 0, 0)
     }
 
     fn duplicate(&self, alloc: Global) -> Result<Self, GrowError> {
-        match Vec::from_slice(alloc, self.bounds.as_slice()) {
-            Ok(bounds) => Ok(Strides {
-                head: self.head,
-                bounds,
-            }),
-            Err(_) => Err(GrowError::Memory),
-        }
+        let bounds = Vec::from_slice(alloc, self.bounds.as_slice())?;
+        Ok(Strides {
+            head: self.head,
+            bounds,
+        })
     }
+}
 
-    fn truncate(&mut self, n: usize) {
-        Strides::truncate(self, n);
-    }
+impl Reserve for Strides<Vec<u64>, [u64; 2]> {
+    type Room = usize;
 
     fn no_room() -> usize {
         0
     }
 
     fn reserve_room(&mut self, room: usize) -> Result<(), GrowError> {
-        match self.bounds.reserve(room) {
-            Ok(()) => Ok(()),
-            Err(_) => Err(GrowError::Memory),
-        }
+        self.bounds.reserve(room)?;
+        Ok(())
     }
 }
 
 impl Push<u64> for Strides<Vec<u64>, [u64; 2]> {
-    fn push(&mut self, item: u64) -> Result<(), GrowError> {
-        match Strides::push(self, item) {
-            Ok(()) => Ok(()),
-            Err(error) => Err(error),
-        }
+    /// As `Strides::push`.
+    fn push(&mut self, item: u64) -> Result<(), GrowError>
+        requires sound { IsSound strides_format (head_and_bounds self.old.head self.old.bounds.items) }
+        ensures ok { OnOk result (Took strides_format (head_and_bounds self.old.head self.old.bounds.items) (head_and_bounds self.new.head self.new.bounds.items) (word_row item ∷ [])) }
+        ensures err { IfErr result (λ e. Refused strides_format (head_and_bounds self.old.head self.old.bounds.items) (head_and_bounds self.new.head self.new.bounds.items) (word_row item ∷ []) e) }
+        ensures head { OnOk result (self.new.head ≡ head_pushed self.old.head self.old.bounds.items item) }
+        ensures bounds { OnOk result (self.new.bounds.items ≡ bounds_pushed self.old.head self.old.bounds.items item) }
+        ensures head_stays { OnErr result (self.new.head ≡ self.old.head) }
+        ensures bounds_stay { OnErr result (self.new.bounds.items ≡ self.old.bounds.items) }
+        ensures full { length (strides_rows (head_and_bounds self.old.head self.old.bounds.items)) ≡ 2 ^ 64 - 1 → result ≡ Err GrowError.Length }
+        ensures no_memory { length (strides_rows (head_and_bounds self.old.head self.old.bounds.items)) < 2 ^ 64 - 1 → IsTrue (joins self.old.head self.old.bounds.items item) → IsOk result }
+    {
+        Strides::push(self, item)
     }
 }
 
 impl<'x> Push<&'x u64> for Strides<Vec<u64>, [u64; 2]> {
-    fn push(&mut self, item: &'x u64) -> Result<(), GrowError> {
-        match Strides::push(self, *item) {
-            Ok(()) => Ok(()),
-            Err(error) => Err(error),
-        }
+    /// As `Strides::push`.
+    fn push(&mut self, item: &'x u64) -> Result<(), GrowError>
+        requires sound { IsSound strides_format (head_and_bounds self.old.head self.old.bounds.items) }
+        ensures ok { OnOk result (Took strides_format (head_and_bounds self.old.head self.old.bounds.items) (head_and_bounds self.new.head self.new.bounds.items) (word_row item.now ∷ [])) }
+        ensures err { IfErr result (λ e. Refused strides_format (head_and_bounds self.old.head self.old.bounds.items) (head_and_bounds self.new.head self.new.bounds.items) (word_row item.now ∷ []) e) }
+        ensures head { OnOk result (self.new.head ≡ head_pushed self.old.head self.old.bounds.items item.now) }
+        ensures bounds { OnOk result (self.new.bounds.items ≡ bounds_pushed self.old.head self.old.bounds.items item.now) }
+        ensures head_stays { OnErr result (self.new.head ≡ self.old.head) }
+        ensures bounds_stay { OnErr result (self.new.bounds.items ≡ self.old.bounds.items) }
+        ensures full { length (strides_rows (head_and_bounds self.old.head self.old.bounds.items)) ≡ 2 ^ 64 - 1 → result ≡ Err GrowError.Length }
+        ensures no_memory { length (strides_rows (head_and_bounds self.old.head self.old.bounds.items)) < 2 ^ 64 - 1 → IsTrue (joins self.old.head self.old.bounds.items item.now) → IsOk result }
+    {
+        self.push_ref(item)
     }
 }
 
 impl PushRef<u64> for Strides<Vec<u64>, [u64; 2]> {
-    fn push_ref(&mut self, item: &u64) -> Result<(), GrowError> {
-        match Strides::push(self, *item) {
-            Ok(()) => Ok(()),
-            Err(error) => Err(error),
-        }
+    /// As `Strides::push`.
+    fn push_ref(&mut self, item: &u64) -> Result<(), GrowError>
+        requires sound { IsSound strides_format (head_and_bounds self.old.head self.old.bounds.items) }
+        ensures ok { OnOk result (Took strides_format (head_and_bounds self.old.head self.old.bounds.items) (head_and_bounds self.new.head self.new.bounds.items) (word_row item.now ∷ [])) }
+        ensures err { IfErr result (λ e. Refused strides_format (head_and_bounds self.old.head self.old.bounds.items) (head_and_bounds self.new.head self.new.bounds.items) (word_row item.now ∷ []) e) }
+        ensures head { OnOk result (self.new.head ≡ head_pushed self.old.head self.old.bounds.items item.now) }
+        ensures bounds { OnOk result (self.new.bounds.items ≡ bounds_pushed self.old.head self.old.bounds.items item.now) }
+        ensures head_stays { OnErr result (self.new.head ≡ self.old.head) }
+        ensures bounds_stay { OnErr result (self.new.bounds.items ≡ self.old.bounds.items) }
+        ensures full { length (strides_rows (head_and_bounds self.old.head self.old.bounds.items)) ≡ 2 ^ 64 - 1 → result ≡ Err GrowError.Length }
+        ensures no_memory { length (strides_rows (head_and_bounds self.old.head self.old.bounds.items)) < 2 ^ 64 - 1 → IsTrue (joins self.old.head self.old.bounds.items item.now) → IsOk result }
+    {
+        Strides::push(self, *item)
     }
 }
 
@@ -352,10 +396,8 @@ impl<BC: Words, HC: Words> Stored for Strides<BC, HC> {
     }
 
     fn element_sizes(sizes: &mut Vec<usize>) -> Result<(), GrowError> {
-        match sizes.extend_from_slice(&[8, 8]) {
-            Ok(()) => Ok(()),
-            Err(_) => Err(GrowError::Memory),
-        }
+        sizes.extend_from_slice(&[8, 8])?;
+        Ok(())
     }
 
     fn judge_tallied<L>(
@@ -417,10 +459,8 @@ impl ContainerBytes for Strides<Vec<u64>, [u64; 2]> {
         let bytes = store.get(offset);
         ByteSlice::of_bytes(bytes).holds_bytes();
         let head = [word_at(bytes, 0), word_at(bytes, 1)];
-        match Vec::<u64>::load(alloc, store, offset + 1) {
-            Ok(bounds) => Ok(Strides { head, bounds }),
-            Err(error) => Err(error),
-        }
+        let bounds = Vec::<u64>::load(alloc, store, offset + 1)?;
+        Ok(Strides { head, bounds })
     }
 }
 

@@ -14,6 +14,9 @@ use columnar_core::fault::{GrowError, StoreFault};
 use columnar_core::store::DecodedStore;
 use columnar_core::tally::Tally;
 use columnar_core::traits::Len;
+use columnar_core::two::{
+    byte_slice_of_two, check_two, judge_two, load_two, sizes_of_two, slice_of_two,
+};
 use columnar_core::view::View;
 use columnar_core::words::Words;
 use std::alloc::Global;
@@ -32,18 +35,7 @@ impl<TC: Stored, CC: Words, VC: Words, WC: Words> Stored for Options<TC, CC, VC,
     }
 
     fn element_sizes(sizes: &mut Vec<usize>) -> Result<(), GrowError> {
-        let before = sizes.len();
-        match RankSelect::<CC, VC, WC>::element_sizes(sizes) {
-            Ok(()) => {}
-            Err(error) => return Err(error),
-        }
-        match TC::element_sizes(sizes) {
-            Ok(()) => Ok(()),
-            Err(error) => {
-                sizes.truncate(before);
-                Err(error)
-            }
-        }
+        sizes_of_two::<RankSelect<CC, VC, WC>, TC>(sizes)
     }
 
     fn judge_tallied<L>(
@@ -51,11 +43,7 @@ impl<TC: Stored, CC: Words, VC: Words, WC: Words> Stored for Options<TC, CC, VC,
         offset: usize,
         tally: &mut Tally<L>,
     ) -> Result<(), StoreFault> {
-        match RankSelect::<CC, VC, WC>::judge_tallied(store, offset, tally) {
-            Ok(()) => {}
-            Err(fault) => return Err(fault),
-        }
-        match TC::judge_tallied(store, offset + 3, tally) {
+        match judge_two::<RankSelect<CC, VC, WC>, TC, L>(store, offset, tally) {
             Ok(()) => {}
             Err(fault) => return Err(fault),
         }
@@ -74,11 +62,7 @@ impl<TC: Stored, CC: Words, VC: Words, WC: Words> Stored for Options<TC, CC, VC,
 
 impl<TC: Check + Len, CC: Words, VC: Words, WC: Words> Check for Options<TC, CC, VC, WC> {
     fn check_from_tallied<L>(&self, from: usize, tally: &mut Tally<L>) -> Result<(), StoreFault> {
-        match self.indexes.check_from_tallied(from, tally) {
-            Ok(()) => {}
-            Err(fault) => return Err(fault),
-        }
-        match self.somes.check_from_tallied(from + 3, tally) {
+        match check_two(&self.indexes, &self.somes, from, tally) {
             Ok(()) => {}
             Err(fault) => return Err(fault),
         }
@@ -91,7 +75,7 @@ impl<TC: Check + Len, CC: Words, VC: Words, WC: Words> Check for Options<TC, CC,
     }
 }
 
-impl<'s, TC: FromBytes<'s> + Len> FromBytes<'s>
+impl<'s, TC: FromBytes<'s>> FromBytes<'s>
     for Options<TC, View<'s, u64>, View<'s, u64>, View<'s, u64>> {
     fn from_store(store: &DecodedStore<'s>, offset: &mut usize) -> Self {
         let indexes = <RankSelect<View<'s, u64>, View<'s, u64>, View<'s, u64>> as FromBytes<
@@ -104,32 +88,18 @@ impl<'s, TC: FromBytes<'s> + Len> FromBytes<'s>
 
 impl<'s, TC: AsBytes<'s>> AsBytes<'s> for Options<TC, View<'s, u64>, View<'s, u64>, View<'s, u64>> {
     fn get_byte_slice(&self, index: usize) -> (u64, ByteSlice<'s>) {
-        if index < 3 {
-            self.indexes.get_byte_slice(index)
-        } else {
-            self.somes.get_byte_slice(index - 3)
-        }
+        slice_of_two(&self.indexes, &self.somes, index)
     }
 }
 
 /// Where memory is refused for the values, the bits, already loaded, are dropped.
 impl<TC: ContainerBytes> ContainerBytes for Options<TC, Vec<u64>, Vec<u64>, [u64; 2]> {
     fn byte_slice(&self, index: usize) -> ByteSlice<'_> {
-        if index < 3 {
-            self.indexes.byte_slice(index)
-        } else {
-            self.somes.byte_slice(index - 3)
-        }
+        byte_slice_of_two(&self.indexes, &self.somes, index)
     }
 
     fn load(alloc: Global, store: &DecodedStore<'_>, offset: usize) -> Result<Self, GrowError> {
-        let indexes = match <Held as ContainerBytes>::load(alloc, store, offset) {
-            Ok(indexes) => indexes,
-            Err(error) => return Err(error),
-        };
-        match TC::load(alloc, store, offset + 3) {
-            Ok(somes) => Ok(Options { indexes, somes }),
-            Err(error) => Err(error),
-        }
+        let (indexes, somes) = load_two::<Held, TC>(alloc, store, offset)?;
+        Ok(Options { indexes, somes })
     }
 }

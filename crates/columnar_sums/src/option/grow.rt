@@ -4,7 +4,9 @@ ghost use Rattle.columnar_sums.specs.OptionLaws.{options_lawful, same_options};
 
 use super::Options;
 use crate::rank_select::RankSelect;
-use columnar_core::container::{Borrow, Container, ExtendFrom, Reborrow, ReborrowRef, Storage};
+use columnar_core::container::{
+    Borrow, Container, ExtendFrom, Reborrow, ReborrowRef, Reserve, Storage, Truncate,
+};
 use columnar_core::fault::GrowError;
 use columnar_core::traits::{Clear, Index, Item, Len, Push, PushRef};
 use columnar_core::view::View;
@@ -22,11 +24,17 @@ impl<TC: Clear> Clear for Options<TC, Vec<u64>, Vec<u64>, [u64; 2]> {
     }
 }
 
-impl<TC: Storage> Storage for Options<TC, Vec<u64>, Vec<u64>, [u64; 2]> {
-    type Room = (<Held as Storage>::Room, TC::Room);
-
+impl<TC: Truncate> Truncate for Options<TC, Vec<u64>, Vec<u64>, [u64; 2]> {
     ghost lawful = { options_lawful TC.format TC.lawful };
 
+    fn truncate(&mut self, n: usize) {
+        let values = self.indexes.rank(n);
+        self.somes.truncate(values);
+        self.indexes.truncate(n);
+    }
+}
+
+impl<TC: Storage> Storage for Options<TC, Vec<u64>, Vec<u64>, [u64; 2]> {
     fn empty(alloc: Global) -> Self {
         let indexes = <Held as Storage>::empty(alloc);
         let somes = TC::empty(alloc);
@@ -34,40 +42,27 @@ impl<TC: Storage> Storage for Options<TC, Vec<u64>, Vec<u64>, [u64; 2]> {
     }
 
     fn duplicate(&self, alloc: Global) -> Result<Self, GrowError> {
-        let indexes = match self.indexes.duplicate(alloc) {
-            Ok(indexes) => indexes,
-            Err(error) => return Err(error),
-        };
-        match self.somes.duplicate(alloc) {
-            Ok(somes) => Ok(Options { indexes, somes }),
-            Err(error) => Err(error),
-        }
+        let indexes = self.indexes.duplicate(alloc)?;
+        let somes = self.somes.duplicate(alloc)?;
+        Ok(Options { indexes, somes })
+    }
+}
+
+impl<TC: Reserve> Reserve for Options<TC, Vec<u64>, Vec<u64>, [u64; 2]> {
+    type Room = (<Held as Reserve>::Room, TC::Room);
+
+    fn no_room() -> (<Held as Reserve>::Room, TC::Room) {
+        (<Held as Reserve>::no_room(), TC::no_room())
     }
 
-    fn truncate(&mut self, n: usize) {
-        let values = self.indexes.rank(n);
-        self.somes.truncate(values);
-        self.indexes.truncate(n);
-    }
-
-    fn no_room() -> (<Held as Storage>::Room, TC::Room) {
-        (<Held as Storage>::no_room(), TC::no_room())
-    }
-
-    fn reserve_room(&mut self, room: (<Held as Storage>::Room, TC::Room)) -> Result<(), GrowError> {
-        match self.indexes.reserve_room(room.0) {
-            Ok(()) => {}
-            Err(error) => return Err(error),
-        }
-        match self.somes.reserve_room(room.1) {
-            Ok(()) => Ok(()),
-            Err(error) => Err(error),
-        }
+    fn reserve_room(&mut self, room: (<Held as Reserve>::Room, TC::Room)) -> Result<(), GrowError> {
+        self.indexes.reserve_room(room.0)?;
+        self.somes.reserve_room(room.1)
     }
 }
 
 /// A value is pushed first, and then its bit; where the bit is refused, the value is taken back.
-impl<T: Item + Drop, TC: Storage + Push<T>> Push<Option<T>>
+impl<T: Item + Drop, TC: Truncate + Push<T>> Push<Option<T>>
     for Options<TC, Vec<u64>, Vec<u64>, [u64; 2]> {
     fn push(&mut self, item: Option<T>) -> Result<(), GrowError> {
         match item {
@@ -94,17 +89,14 @@ impl<T: Item + Drop, TC: Storage + Push<T>> Push<Option<T>>
 }
 
 /// The value of the item is pushed by reference.
-impl<'x, T: Item, TC: Storage + PushRef<T>> Push<&'x Option<T>>
+impl<'x, T: Item, TC: Truncate + PushRef<T>> Push<&'x Option<T>>
     for Options<TC, Vec<u64>, Vec<u64>, [u64; 2]> {
     fn push(&mut self, item: &'x Option<T>) -> Result<(), GrowError> {
-        match self.push_ref(item) {
-            Ok(()) => Ok(()),
-            Err(error) => Err(error),
-        }
+        self.push_ref(item)
     }
 }
 
-impl<T: Item, TC: Storage + PushRef<T>> PushRef<Option<T>>
+impl<T: Item, TC: Truncate + PushRef<T>> PushRef<Option<T>>
     for Options<TC, Vec<u64>, Vec<u64>, [u64; 2]> {
     fn push_ref(&mut self, item: &Option<T>) -> Result<(), GrowError> {
         match item {
@@ -136,9 +128,9 @@ impl<'x, V: Index + Copy, TC: ExtendFrom<V>> ExtendFrom<
     Options<V, View<'x, u64>, View<'x, u64>, View<'x, u64>>,
 > for Options<TC, Vec<u64>, Vec<u64>, [u64; 2]> {
     fn add_room(
-        room: (<Held as Storage>::Room, TC::Room),
+        room: (<Held as Reserve>::Room, TC::Room),
         view: Options<V, View<'x, u64>, View<'x, u64>, View<'x, u64>>,
-    ) -> (<Held as Storage>::Room, TC::Room) {
+    ) -> (<Held as Reserve>::Room, TC::Room) {
         (
             <Held as ExtendFrom<Viewed<'x>>>::add_room(room.0, view.indexes),
             TC::add_room(room.1, view.somes),

@@ -19,9 +19,10 @@ use columnar_core::fault::{GrowError, StoreFault};
 use columnar_core::metered::word_or_tail;
 use columnar_core::store::DecodedStore;
 use columnar_core::tally::Tally;
+use columnar_core::two::{byte_slice_of_two, load_two, sizes_of_two, slice_of_two};
 use columnar_core::view::View;
 use columnar_core::words::{Words, byte_count, word_at, word_count};
-use columnar_primitive::bools::{Bools, count_bits, judged, view_slice};
+use columnar_primitive::bools::{Bools, count_bits, judged};
 use std::alloc::Global;
 
 // Where word `at` ends a chunk: is the sum the chunk's count?
@@ -107,18 +108,7 @@ impl<CC: Words, VC: Words, WC: Words> Stored for RankSelect<CC, VC, WC> {
     }
 
     fn element_sizes(sizes: &mut Vec<usize>) -> Result<(), GrowError> {
-        let before = sizes.len();
-        match sizes.push(8) {
-            Ok(()) => {}
-            Err(_) => return Err(GrowError::Memory),
-        }
-        match Bools::<VC, WC>::element_sizes(sizes) {
-            Ok(()) => Ok(()),
-            Err(error) => {
-                sizes.truncate(before);
-                Err(error)
-            }
-        }
+        sizes_of_two::<Vec<u64>, Bools<VC, WC>>(sizes)
     }
 
     fn judge_tallied<L>(
@@ -129,10 +119,7 @@ impl<CC: Words, VC: Words, WC: Words> Stored for RankSelect<CC, VC, WC> {
         let counts = View::from_le_bytes(store.get(offset));
         let values = View::from_le_bytes(store.get(offset + 1));
         let tail = View::from_le_bytes(store.get(offset + 2));
-        match judged_ranks(counts, values, tail, offset, tally) {
-            Ok(()) => Ok(()),
-            Err(fault) => Err(fault),
-        }
+        judged_ranks(counts, values, tail, offset, tally)
     }
 
     fn rows_in(store: &DecodedStore<'_>, offset: usize) -> usize {
@@ -144,16 +131,13 @@ impl<CC: Words, VC: Words, WC: Words> Stored for RankSelect<CC, VC, WC> {
 
 impl<CC: Words, VC: Words, WC: Words> Check for RankSelect<CC, VC, WC> {
     fn check_from_tallied<L>(&self, from: usize, tally: &mut Tally<L>) -> Result<(), StoreFault> {
-        match judged_ranks(
+        judged_ranks(
             self.counts.words(),
             self.values.values.words(),
             self.values.tail.words(),
             from,
             tally,
-        ) {
-            Ok(()) => Ok(()),
-            Err(fault) => Err(fault),
-        }
+        )
     }
 }
 
@@ -173,36 +157,20 @@ impl<'s> FromBytes<'s> for RankSelect<View<'s, u64>, View<'s, u64>, View<'s, u64
 
 impl<'s> AsBytes<'s> for RankSelect<View<'s, u64>, View<'s, u64>, View<'s, u64>> {
     fn get_byte_slice(&self, index: usize) -> (u64, ByteSlice<'s>) {
-        let slice = if index == 0 {
-            view_slice(self.counts)
-        } else if index == 1 {
-            view_slice(self.values.values)
-        } else {
-            view_slice(self.values.tail)
-        };
-        (slice.align(), slice)
+        slice_of_two(&self.counts, &self.values, index)
     }
 }
 
+/// Where memory is refused for the bits, the counts, already loaded, are dropped.
 impl ContainerBytes for RankSelect<Vec<u64>, Vec<u64>, [u64; 2]> {
     fn byte_slice(&self, index: usize) -> ByteSlice<'_> {
-        if index == 0 {
-            view_slice(self.counts.words())
-        } else if index == 1 {
-            view_slice(self.values.values.words())
-        } else {
-            view_slice(self.values.tail.words())
-        }
+        byte_slice_of_two(&self.counts, &self.values, index)
     }
 
     fn load(alloc: Global, store: &DecodedStore<'_>, offset: usize) -> Result<Self, GrowError> {
-        let counts = match <Vec<u64> as ContainerBytes>::load(alloc, store, offset) {
-            Ok(counts) => counts,
-            Err(error) => return Err(error),
-        };
-        match <Bools<Vec<u64>, [u64; 2]> as ContainerBytes>::load(alloc, store, offset + 1) {
-            Ok(values) => Ok(RankSelect { counts, values }),
-            Err(error) => Err(error),
-        }
+        let (counts, values) = load_two::<Vec<u64>, Bools<Vec<u64>, [u64; 2]>>(
+            alloc, store, offset,
+        )?;
+        Ok(RankSelect { counts, values })
     }
 }

@@ -36,6 +36,7 @@ fn next_in<L>(words: &MeteredWords<'_, L>, place: &mut Place, tally: &mut Tally<
     ensures forward { place.old.index ≤ place.new.index }
     ensures loads { tally.new.words ≡ tally.old.words ++ range_with_len (place.old.index + 1) (place.new.index - place.old.index) }
     ensures counts { tally.new.counts ≡ tally.old.counts }
+    ensures turns { tally.new.turns + place.old.index ≡ tally.old.turns + place.new.index }
 {
     while place.rest == 0 {
         if place.index + 1 == words.len() {
@@ -68,6 +69,7 @@ fn step_in<L>(words: &MeteredWords<'_, L>, place: &mut Place, tally: &mut Tally<
     ensures forward { place.old.index ≤ place.new.index }
     ensures loads { tally.new.words ≡ tally.old.words ++ range_with_len (place.old.index + 1) (place.new.index - place.old.index) }
     ensures counts { tally.new.counts ≡ tally.old.counts }
+    ensures turns { tally.new.turns ≡ tally.old.turns }
 {
     if place.pos - 64 * place.index == 64 {
         place.index += 1;
@@ -131,6 +133,7 @@ fn place_at<L>(words: &MeteredWords<'_, L>, end: usize, tally: &mut Tally<L>) ->
     ensures index { result.index ≡ end / 64 }
     ensures words { tally.new.words ≡ tally.old.words ++ end / 64 ∷ [] }
     ensures counts { tally.new.counts ≡ tally.old.counts }
+    ensures turns { tally.new.turns ≡ tally.old.turns }
 {
     let index = end / 64;
     let rest = cleared_below(words.read(index, tally), (end % 64) as u64);
@@ -173,6 +176,7 @@ impl<'a, CC: Words, VC: Words, WC: Words> Cursor<'a, CC, VC, WC> {
         ensures stands { result ≡ record { bits = bits_ranked VC.bytes WC.bytes column.now; pos = 0; word = 0; counts = length (words_in (CC.bytes column.now.counts)) } }
         ensures loads { tally.new.words ≡ tally.old.words ++ 0 ∷ [] }
         ensures counts { tally.new.counts ≡ tally.old.counts }
+        ensures turns { tally.new.turns ≡ tally.old.turns }
     {
         let place = place_at(&column.metered_words(), 0, tally);
         Cursor {
@@ -205,7 +209,7 @@ impl<'a, CC: Words, VC: Words, WC: Words> Cursor<'a, CC, VC, WC> {
     }
 
     /// As `next_one`; the words that it loads are added to the tally. They come one after another, from the one after
-    /// that in which it stood up to the one in which it then stands.
+    /// that in which it stood up to the one in which it then stands, each in a turn.
     pub fn next_one_tallied<L>(&mut self, tally: &mut Tally<L>) -> Option<usize>
         ensures bits { (self.new.bits ≡ self.old.bits) × (self.new.counts ≡ self.old.counts) }
         ensures found { IfSome result (λ q. IsNextTrue self.old.bits self.old.pos q × (self.new.pos ≡ q + 1)) }
@@ -213,6 +217,7 @@ impl<'a, CC: Words, VC: Words, WC: Words> Cursor<'a, CC, VC, WC> {
         ensures loads { tally.new.words ≡ tally.old.words ++ range_with_len (self.old.word + 1) (self.new.word - self.old.word) }
         ensures forward { self.old.word ≤ self.new.word }
         ensures counts { tally.new.counts ≡ tally.old.counts }
+        ensures turns { tally.new.turns ≡ tally.old.turns + (self.new.word - self.old.word) }
     {
         let column = self.column;
         let mut place = self.place;
@@ -234,6 +239,7 @@ impl<'a, CC: Words, VC: Words, WC: Words> Cursor<'a, CC, VC, WC> {
         ensures loads { tally.new.words ≡ tally.old.words ++ range_with_len (self.old.word + 1) (self.new.word - self.old.word) }
         ensures forward { self.old.word ≤ self.new.word }
         ensures counts { tally.new.counts ≡ tally.old.counts }
+        ensures turns { tally.new.turns ≡ tally.old.turns }
     {
         let column = self.column;
         let mut place = self.place;
@@ -246,13 +252,14 @@ impl<'a, CC: Words, VC: Words, WC: Words> Cursor<'a, CC, VC, WC> {
         Some(bit)
     }
 
-    /// As `seek_to_pos`; what it reads is added to the tally: at most one count and 17 words.
+    /// As `seek_to_pos`; what it reads is added to the tally: at most one count and 17 words, in at most 16 turns.
     pub fn seek_to_pos_tallied<L>(&mut self, target: usize, tally: &mut Tally<L>) -> bool
         requires { self.old.pos ≤ target }
         ensures bits { (self.new.bits ≡ self.old.bits) × (self.new.counts ≡ self.old.counts) }
         ensures within { IsTrue result ↔ (target < length self.old.bits) }
         ensures pos { self.new.pos ≡ min target (length self.old.bits) }
         ensures reads { Adds 1 17 tally.old tally.new }
+        ensures turns { tally.new.turns ≤ tally.old.turns + 16 }
     {
         let column = self.column;
         let len = column.len();
@@ -269,13 +276,14 @@ impl<'a, CC: Words, VC: Words, WC: Words> Cursor<'a, CC, VC, WC> {
     }
 
     /// As `seek_to_rank`; what it reads is added to the tally: at most 33 words, and two counts more than the number of
-    /// counts has binary digits.
+    /// counts has binary digits. So are its turns: at most 38 more than that number has digits.
     pub fn seek_to_rank_tallied<L>(&mut self, rank: u64, tally: &mut Tally<L>) -> Option<usize>
         requires { ones self.old.bits self.old.pos ≤ rank }
         ensures bits { (self.new.bits ≡ self.old.bits) × (self.new.counts ≡ self.old.counts) }
         ensures answer { result ≡ place self.old.bits rank }
         ensures pos { MatchOption result (self.new.pos ≡ length self.old.bits) (λ q. self.new.pos ≡ q + 1) }
         ensures reads { Adds (digits self.old.counts + 2) 33 tally.old tally.new }
+        ensures turns { tally.new.turns ≤ tally.old.turns + (digits self.old.counts + 38) }
     {
         let column = self.column;
         match column.select_tallied(rank, tally) {

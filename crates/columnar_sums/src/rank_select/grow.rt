@@ -1,7 +1,8 @@
 //! Columns of bits and counts that grow and are cut.
 ghost use Rattle.std.specs.Prelude.{◌≡◌, ℕ, ◌+◌, ◌-◌, ◌*◌, ◌/◌, ◌%◌, ◌^◌, ◌<◌, ◌≤◌, [], ◌∷◌, ◌++◌, length, slice_range, take, drop, OnOk, OnErr, IfErr, IfOk, IsOk, refl};
+ghost use Rattle.columnar_core.specs.Row.{truth};
 ghost use Rattle.columnar_core.specs.Format.{IsSound};
-ghost use Rattle.columnar_core.specs.Change.{Stayed};
+ghost use Rattle.columnar_core.specs.Change.{Refused, Stayed, Took};
 ghost use Rattle.columnar_core.specs.WordViews.{words_in, bit_words, le_bytes, view_bytes, view_words};
 ghost use Rattle.columnar_primitive.specs.BoolColumns.{IsOfGrowth};
 ghost use Rattle.columnar_sums.specs.Counting.{CountWords, count_before};
@@ -10,7 +11,7 @@ ghost use Rattle.columnar_sums.specs.RankLaws.{ranks_lawful};
 
 use super::RankSelect;
 use super::search::one_of;
-use columnar_core::container::{Borrow, ExtendFrom, Reborrow, Storage};
+use columnar_core::container::{Borrow, ExtendFrom, Reborrow, Reserve, Storage, Truncate};
 use columnar_core::fault::GrowError;
 use columnar_core::metered::word_or_tail;
 use columnar_core::tally::Tally;
@@ -159,11 +160,16 @@ impl Clear for Held {
     }
 }
 
-impl Storage for Held {
-    type Room = (usize, usize);
-
+impl Truncate for Held {
     ghost lawful = { ranks_lawful };
 
+    fn truncate(&mut self, n: usize) {
+        self.counts.truncate(n / 1024);
+        self.values.truncate(n);
+    }
+}
+
+impl Storage for Held {
     fn empty(alloc: Global) -> Self {
         RankSelect {
             counts: Vec::new(alloc),
@@ -176,16 +182,13 @@ impl Storage for Held {
             Ok(counts) => counts,
             Err(_) => return Err(GrowError::Memory),
         };
-        match self.values.duplicate(alloc) {
-            Ok(values) => Ok(RankSelect { counts, values }),
-            Err(error) => Err(error),
-        }
+        let values = self.values.duplicate(alloc)?;
+        Ok(RankSelect { counts, values })
     }
+}
 
-    fn truncate(&mut self, n: usize) {
-        self.counts.truncate(n / 1024);
-        self.values.truncate(n);
-    }
+impl Reserve for Held {
+    type Room = (usize, usize);
 
     fn no_room() -> (usize, usize) {
         (0, 0)
@@ -203,8 +206,14 @@ impl Storage for Held {
     }
 }
 
+/// Memory is answered at most where the bit fills a word: where 63 bits stand behind the last full one.
 impl Push<bool> for Held {
-    fn push(&mut self, item: bool) -> Result<(), GrowError> {
+    fn push(&mut self, item: bool) -> Result<(), GrowError>
+        requires sound { IsSound ranks_format (owned_ranks self.old) }
+        ensures ok { OnOk result (Took ranks_format (owned_ranks self.old) (owned_ranks self.new) (truth item ∷ [])) }
+        ensures err { IfErr result (λ e. Refused ranks_format (owned_ranks self.old) (owned_ranks self.new) (truth item ∷ []) e) }
+        ensures memory { result ≡ Err GrowError.Memory → length (ranked_bits self.old) % 64 ≡ 63 }
+    {
         match self.push_bit(item) {
             Ok(()) => Ok(()),
             Err(error) => Err(error),
@@ -212,17 +221,26 @@ impl Push<bool> for Held {
     }
 }
 
+/// As a push of the bit.
 impl<'x> Push<&'x bool> for Held {
-    fn push(&mut self, item: &'x bool) -> Result<(), GrowError> {
-        match self.push_ref(item) {
-            Ok(()) => Ok(()),
-            Err(error) => Err(error),
-        }
+    fn push(&mut self, item: &'x bool) -> Result<(), GrowError>
+        requires sound { IsSound ranks_format (owned_ranks self.old) }
+        ensures ok { OnOk result (Took ranks_format (owned_ranks self.old) (owned_ranks self.new) (truth item.now ∷ [])) }
+        ensures err { IfErr result (λ e. Refused ranks_format (owned_ranks self.old) (owned_ranks self.new) (truth item.now ∷ []) e) }
+        ensures memory { result ≡ Err GrowError.Memory → length (ranked_bits self.old) % 64 ≡ 63 }
+    {
+        self.push_ref(item)
     }
 }
 
+/// As a push of the bit.
 impl PushRef<bool> for Held {
-    fn push_ref(&mut self, item: &bool) -> Result<(), GrowError> {
+    fn push_ref(&mut self, item: &bool) -> Result<(), GrowError>
+        requires sound { IsSound ranks_format (owned_ranks self.old) }
+        ensures ok { OnOk result (Took ranks_format (owned_ranks self.old) (owned_ranks self.new) (truth item.now ∷ [])) }
+        ensures err { IfErr result (λ e. Refused ranks_format (owned_ranks self.old) (owned_ranks self.new) (truth item.now ∷ []) e) }
+        ensures memory { result ≡ Err GrowError.Memory → length (ranked_bits self.old) % 64 ≡ 63 }
+    {
         match self.push_bit(*item) {
             Ok(()) => Ok(()),
             Err(error) => Err(error),

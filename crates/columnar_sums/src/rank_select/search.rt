@@ -57,19 +57,23 @@ pub(crate) fn rank_in<L>(
     sum + ones_in(words.read(block, tally), (index % 64) as u64) as usize
 }
 
-// The place of the set bit of the word before which there are `rank` others, by halving.
+// The place of the set bit of the word before which there are `rank` others, by halving, in six turns.
 #[tactic(auto, using(crate::specs::CountLaws::halves_high, crate::specs::CountLaws::halves_rank, crate::specs::CountLaws::halves_end, crate::specs::CountLaws::halves_start))]
-fn place_in_word(word: u64, rank: u64) -> u64
+fn place_in_word<L>(word: u64, rank: u64, tally: &mut Tally<L>) -> u64
     requires { rank < count_ones word }
     ensures within { result < 64 }
     ensures set { bit_of word result ≡ true }
     ensures before { ones_below (bit_of word) result ≡ rank }
+    ensures turns { tally.new.turns ≡ tally.old.turns + 6 }
+    ensures counts { tally.new.counts ≡ tally.old.counts }
+    ensures words { tally.new.words ≡ tally.old.words }
 {
     let mut rest = word;
     let mut left = rank;
     let mut place = 0;
     let mut level: u32 = 6;
     while level > 0 {
+        tally.tick();
         level -= 1;
         let half = 1 << level;
         let low = ones_in(rest, half);
@@ -91,7 +95,7 @@ pub fn select_in_word(word: u64, rank: u64) -> u64
     ensures none { count_ones word ≤ rank → result ≡ 64 }
 {
     if rank < word.count_ones() as u64 {
-        place_in_word(word, rank)
+        place_in_word(word, rank, &mut Tally::new())
     } else {
         64
     }
@@ -106,6 +110,7 @@ fn find_chunk<L>(counts: &MeteredCounts<'_, L>, rank: u64, tally: &mut Tally<L>)
     ensures cost { tally.new.counts ≤ tally.old.counts + digits (length counts.now) }
     ensures counts { tally.old.counts ≤ tally.new.counts }
     ensures words { tally.new.words ≡ tally.old.words }
+    ensures turns { tally.new.turns ≤ tally.old.turns + digits (length counts.now) }
 {
     let mut low = 0;
     let mut high = counts.len();
@@ -136,6 +141,7 @@ pub(crate) fn select_in<L>(
     ensures value { MatchOption result (ones_below (bit_in words.now) (64 * length words.now) ≤ rank) (λ p. (p < 64 * length words.now) × (bit_in words.now p ≡ true) × (ones_below (bit_in words.now) p ≡ rank)) }
     ensures reads { Adds (digits (length counts.now) + 1) 16 tally.old tally.new }
     ensures some_read { length tally.old.words < length tally.new.words }
+    ensures turns { tally.new.turns ≤ tally.old.turns + (digits (length counts.now) + 22) }
 {
     let chunk = find_chunk(counts, rank, tally);
     let mut sum = ones_before(counts, chunk, tally);
@@ -145,7 +151,7 @@ pub(crate) fn select_in<L>(
         let word = words.read(at, tally);
         let ones = word.count_ones() as u64;
         if rank - sum < ones {
-            return Some(64 * at + place_in_word(word, rank - sum) as usize);
+            return Some(64 * at + place_in_word(word, rank - sum, tally) as usize);
         }
         sum += ones;
     }

@@ -30,8 +30,8 @@ pub returns-in-Err-clause-err : goal.returns-in-Err-clause-err
 returns-in-Err-clause-err g c =
     let h = c.requires.held c.loop-i.i c.offset.result c.loop-i.auto.i c.loop-i-test.true (number_get (g.W.Column.format.rows (g.W.Column.content c.args.view.now)) c.loop-i.i c.offset.result c.offset.ensures) in
     let m = word_end (c.args.start + (c.offset.result - c.args.lower)) refl h.1 in
-    refused_more (shifted c.args.lower c.args.start (numbers (g.W.Column.format.rows (g.W.Column.content c.args.view.now)))) c.args.range.start c.loop-i.i c.args.range.«end» (number (c.args.start + (c.offset.result - c.args.lower))) g.met.BC.Storage.lawful c.loop-i.auto.i c.loop-i-test.true (shifted_get c.args.lower c.args.start (g.W.Column.format.rows (g.W.Column.content c.args.view.now)) c.loop-i.i c.offset.result c.offset.ensures) c.loop-i.invariant (rw m at c.in-Err.ensures.err.cause)
-    (undone {mid = g.BC.Column.content c.push.new.self} g.met.BC.Storage.lawful c.requires.sound (grew_stayed {z = g.BC.Column.content c.push.new.self} c.loop-i.invariant.grew c.in-Err.ensures.err.stayed) (rw c.len-before.ensures at c.truncate.ensures))
+    refused_more (shifted c.args.lower c.args.start (numbers (g.W.Column.format.rows (g.W.Column.content c.args.view.now)))) c.args.range.start c.loop-i.i c.args.range.«end» (number (c.args.start + (c.offset.result - c.args.lower))) g.met.BC.Truncate.lawful c.loop-i.auto.i c.loop-i-test.true (shifted_get c.args.lower c.args.start (g.W.Column.format.rows (g.W.Column.content c.args.view.now)) c.loop-i.i c.offset.result c.offset.ensures) c.loop-i.invariant (rw m at c.in-Err.ensures.err.cause)
+    (undone {mid = g.BC.Column.content c.push.new.self} g.met.BC.Truncate.lawful c.requires.sound (grew_stayed {z = g.BC.Column.content c.push.new.self} c.loop-i.invariant.grew c.in-Err.ensures.err.stayed) (rw c.len-before.ensures at c.truncate.ensures))
 
 pub loop-i-preserved : goal.loop-i-preserved
 loop-i-preserved g c =

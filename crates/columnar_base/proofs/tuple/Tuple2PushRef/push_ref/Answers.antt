@@ -19,4 +19,4 @@ pub returns-in-Ok-push_ref-clause-ok : goal.returns-in-Ok-push_ref-clause-ok
 returns-in-Ok-push_ref-clause-ok g c = pair_took g.A.Column.format g.B.Column.format c.requires.sound refl c.in-Ok.ensures.ok c.in-Ok-push_ref.ensures.ok
 
 pub returns-in-Err-push_ref-clause-err : goal.returns-in-Err-push_ref-clause-err
-returns-in-Err-push_ref-clause-err g c = pair_refused_right g.A.Column.format g.B.Column.format (g.S.Item.meaning c.args.item.now.0 ∷ []) (g.T.Item.meaning c.args.item.now.1 ∷ []) c.requires.sound refl (undone g.met.A.Storage.lawful (pair_parts g.A.Column.format g.B.Column.format c.requires.sound).left c.in-Ok.ensures.ok.grew (rw c.len-rows.ensures at c.truncate.ensures)) c.in-Err-push_ref.ensures.err
+returns-in-Err-push_ref-clause-err g c = pair_refused_right g.A.Column.format g.B.Column.format (g.S.Item.meaning c.args.item.now.0 ∷ []) (g.T.Item.meaning c.args.item.now.1 ∷ []) c.requires.sound refl (undone g.met.A.Truncate.lawful (pair_parts g.A.Column.format g.B.Column.format c.requires.sound).left c.in-Ok.ensures.ok.grew (rw c.len-rows.ensures at c.truncate.ensures)) c.in-Err-push_ref.ensures.err

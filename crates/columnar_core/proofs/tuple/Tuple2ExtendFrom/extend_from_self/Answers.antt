@@ -31,4 +31,4 @@ pub returns-in-Ok-extend_from_self-clause-ok : goal.returns-in-Ok-extend_from_se
 returns-in-Ok-extend_from_self-clause-ok g c = pair_copied_piece g.A.Column.format g.B.Column.format g.V.Column.format g.W.Column.format (g.V.Column.content c.args.view.0) (g.W.Column.content c.args.view.1) c.args.range.start (c.args.range.«end» - c.args.range.start) c.requires.sound c.requires.view_sound c.in-Ok.ensures.ok c.in-Ok-extend_from_self.ensures.ok
 
 pub returns-in-Err-extend_from_self-clause-err : goal.returns-in-Err-extend_from_self-clause-err
-returns-in-Err-extend_from_self-clause-err g c = pair_refused_right_piece g.A.Column.format g.B.Column.format g.V.Column.format g.W.Column.format (g.V.Column.content c.args.view.0) (g.W.Column.content c.args.view.1) c.args.range.start (c.args.range.«end» - c.args.range.start) c.requires.sound c.requires.view_sound (undone g.met.A.Storage.lawful (pair_parts g.A.Column.format g.B.Column.format c.requires.sound).left c.in-Ok.ensures.ok.took.grew (rw c.len-before.ensures at c.truncate.ensures)) c.in-Err-extend_from_self.ensures.err
+returns-in-Err-extend_from_self-clause-err g c = pair_refused_right_piece g.A.Column.format g.B.Column.format g.V.Column.format g.W.Column.format (g.V.Column.content c.args.view.0) (g.W.Column.content c.args.view.1) c.args.range.start (c.args.range.«end» - c.args.range.start) c.requires.sound c.requires.view_sound (undone g.met.A.Truncate.lawful (pair_parts g.A.Column.format g.B.Column.format c.requires.sound).left c.in-Ok.ensures.ok.took.grew (rw c.len-before.ensures at c.truncate.ensures)) c.in-Err-extend_from_self.ensures.err

@@ -14,7 +14,7 @@ elements_between-requires-clause-in_range g c =
 pub returns-in-Ok-clause-ok : goal.returns-in-Ok-clause-ok
 returns-in-Ok-clause-ok g c =
     let n = c.args.range.«end» - c.args.range.start in
-    let P : Content → Type 0 = λ x. Copied (elements_format g.T.Element.size g.T.Element.row_of) (elements g.T.Element.le_bytes c.args.self.now.items) (elements g.T.Element.le_bytes c.append_typed.new.column.items) c.args.range.start (take n (drop c.args.range.start (elements_rows g.T.Element.size g.T.Element.row_of x))) in
+    let P : Content → Type 0 = λ x. Copied (elements_format g.T.Element.size g.T.Element.align g.T.Element.row_of) (elements g.T.Element.le_bytes c.args.self.now.items) (elements g.T.Element.le_bytes c.append_typed.new.column.items) c.args.range.start (take n (drop c.args.range.start (elements_rows g.T.Element.size g.T.Element.row_of x))) in
     subst P c.in-Typed.ensures (rw c.in-Ok.ensures.ok (elements_copied g.met.T.Element.element c.args.self.now.items c.elements_between.result.now c.args.range.start (take n (drop c.args.range.start (elements_rows g.T.Element.size g.T.Element.row_of (elements g.T.Element.le_bytes c.in-Typed.items.now)))) (piece_means g.met.T.Element.element c.in-Typed.items.now c.elements_between.result.now c.args.range.start n c.elements_between.ensures)))
 
 pub returns-in-Ok-append_rows-clause-ok : goal.returns-in-Ok-append_rows-clause-ok

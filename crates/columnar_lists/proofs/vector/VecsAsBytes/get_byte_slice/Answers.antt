@@ -1,21 +1,7 @@
-use Rattle.std.proofs.Common.{◌-◌, arith, refl}
-use Rattle.columnar_base.specs.Format.{slices_of}
-use Rattle.columnar_base.specs.TwoParts.{representable_left, representable_right, flat_left, flat_right}
-use Rattle.columnar_core.specs.Slices.{bytes_in}
+use Rattle.std.proofs.Common.{refl}
+use Rattle.columnar_base.specs.TwoParts.{representable_left, representable_right}
 use Rattle.columnar_lists.specs.ListLaws.{lists_two}
 use Rattle.columnar_lists.proofs.vector.VecsAsBytes.get_byte_slice.Goals as goal
 
-pub slice_count-first-requires : goal.slice_count-first-requires
-slice_count-first-requires g c = representable_left (lists_two g.BC.Column.format g.TC.Column.format) c.requires.representable
-
-pub get_byte_slice-requires : goal.get_byte_slice-requires
-get_byte_slice-requires g c κs = ((refl, tt), (representable_left (lists_two g.BC.Column.format g.TC.Column.format) c.requires.representable, omega (arith, c.slice_count-first.ensures, c.if-index-first.true)))
-
-pub get_byte_slice-requires-else-index-first : goal.get_byte_slice-requires-else-index-first
-get_byte_slice-requires-else-index-first g c κs = ((refl, tt), (representable_right (lists_two g.BC.Column.format g.TC.Column.format) c.requires.representable, omega (arith, c.slice_count-first.ensures, c.if-index-first.false, c.requires.in_range)))
-
-pub returns-then-index-first-clause-slice : goal.returns-then-index-first-clause-slice
-returns-then-index-first-clause-slice g c = flat_left (slices_of (g.BC.Column.content c.args.self.now.bounds)) (slices_of (g.TC.Column.content c.args.self.now.values)) c.args.index (bytes_in c.get_byte_slice.result.1) c.get_byte_slice.ensures.slice
-
-pub returns-else-index-first-clause-slice : goal.returns-else-index-first-clause-slice
-returns-else-index-first-clause-slice g c = flat_right (slices_of (g.BC.Column.content c.args.self.now.bounds)) (slices_of (g.TC.Column.content c.args.self.now.values)) c.args.index (c.args.index - c.slice_count-first.result) (bytes_in c.get_byte_slice-else-index-first.result.1) (omega (arith, c.slice_count-first.ensures, g.met.BC.Stored.counted c.args.self.now.bounds, c.if-index-first.false)) c.get_byte_slice-else-index-first.ensures.slice
+pub slice_of_two-requires : goal.slice_of_two-requires
+slice_of_two-requires g c κs = ((refl, tt), (representable_left (lists_two g.BC.Column.format g.TC.Column.format) c.requires.representable, (representable_right (lists_two g.BC.Column.format g.TC.Column.format) c.requires.representable, c.requires.in_range)))

@@ -68,4 +68,4 @@ returns-in-Ok-push_shifted-clause-ok g c =
 pub returns-in-Err-push_shifted-clause-err : goal.returns-in-Err-push_shifted-clause-err
 returns-in-Err-push_shifted-clause-err g c =
     let r = range_of g.W.Column.format g.V.Column.format c.args.range.start c.args.range.«end» c.requires.view_sound c.requires.ordered c.start_of-lower.ensures c.start_of-upper.ensures in
-    range_refused_bounds g.BC.Column.format g.TC.Column.format c.requires.sound r (rw c.len-before.ensures at c.in-Err-push_shifted.ensures.err) (undone {mid = g.TC.Column.content c.extend_from_self.new.self} g.met.TC.Storage.lawful (lists_parts g.BC.Column.format g.TC.Column.format c.requires.sound).values c.in-Ok.ensures.ok.took.grew (rw c.len-before.ensures at c.truncate.ensures))
+    range_refused_bounds g.BC.Column.format g.TC.Column.format c.requires.sound r (rw c.len-before.ensures at c.in-Err-push_shifted.ensures.err) (undone {mid = g.TC.Column.content c.extend_from_self.new.self} g.met.TC.Truncate.lawful (lists_parts g.BC.Column.format g.TC.Column.format c.requires.sound).values c.in-Ok.ensures.ok.took.grew (rw c.len-before.ensures at c.truncate.ensures))

@@ -37,4 +37,4 @@ pub returns-in-Ok-push-clause-ok : goal.returns-in-Ok-push-clause-ok
 returns-in-Ok-push-clause-ok g c = list_took g.BC.Column.format g.TC.Column.format g.met.BC.Offsets.bounds c.requires.sound c.in-Ok.ensures.ok.took (rw (word_end c.len-end.result c.len-end.ensures (omega arith)) at c.in-Ok-push.ensures.ok)
 
 pub returns-in-Err-push-clause-err : goal.returns-in-Err-push-clause-err
-returns-in-Err-push-clause-err g c = list_refused_bounds g.BC.Column.format g.TC.Column.format c.requires.sound c.in-Ok.ensures.ok.took (rw (word_end c.len-end.result c.len-end.ensures (omega arith)) at c.in-Err-push.ensures.err) (undone g.met.TC.Storage.lawful (lists_parts g.BC.Column.format g.TC.Column.format c.requires.sound).values c.in-Ok.ensures.ok.took.grew (rw c.len-before.ensures at c.truncate.ensures))
+returns-in-Err-push-clause-err g c = list_refused_bounds g.BC.Column.format g.TC.Column.format c.requires.sound c.in-Ok.ensures.ok.took (rw (word_end c.len-end.result c.len-end.ensures (omega arith)) at c.in-Err-push.ensures.err) (undone g.met.TC.Truncate.lawful (lists_parts g.BC.Column.format g.TC.Column.format c.requires.sound).values c.in-Ok.ensures.ok.took.grew (rw c.len-before.ensures at c.truncate.ensures))

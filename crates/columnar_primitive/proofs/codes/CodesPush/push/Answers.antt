@@ -1,7 +1,8 @@
 use Rattle.std.proofs.Common.{refl}
 use Rattle.std.proofs.lemmas.Bool.{and_from}
+use Rattle.std.proofs.lemmas.Result.{on_ok_weaker}
 use Rattle.columnar_primitive.specs.MappedLaws.{mapped_took}
 use Rattle.columnar_primitive.proofs.codes.CodesPush.push.Goals as goal
 
-pub returns-in-Ok-clause-ok : goal.returns-in-Ok-clause-ok
-returns-in-Ok-clause-ok g c = rw c.code.ensures.row at (mapped_took g.CV.Column.format g.T.Coded.row_of g.T.Rule.is_code g.met.CV.Flat.flat c.requires.sound (and_from _ _ c.code.ensures.fits refl) c.in-Ok.ensures.ok)
+pub returns-clause-ok : goal.returns-clause-ok
+returns-clause-ok g c = rw c.code.ensures.row at (on_ok_weaker c.push.result (mapped_took g.CV.Column.format g.T.Coded.row_of g.T.Rule.is_code g.met.CV.Flat.flat c.requires.sound (and_from _ _ c.code.ensures.fits refl)) c.push.ensures.ok)

@@ -1,3 +1,4 @@
+use Rattle.std.proofs.lemmas.Result.{err_from_is_err_and}
 use Rattle.std.proofs.Common.{◌≡◌, ◌%◌, ◌^◌, arith}
 use Rattle.columnar_primitive.specs.DurationLaws.{durations_parts, durations_took, durations_refused_left, durations_refused_right}
 use Rattle.columnar_base.specs.ChangeLaws.{undone, unchanged}
@@ -14,20 +15,20 @@ push-requires-clause-sound g c = (durations_parts g.SC.Column.format g.NC.Column
 pub push-requires-2-clause-sound : goal.push-requires-2-clause-sound
 push-requires-2-clause-sound g c = (durations_parts g.SC.Column.format g.NC.Column.format c.requires.sound).right
 
+pub returns-in_err-push-clause-err : goal.returns-in_err-push-clause-err
+returns-in_err-push-clause-err g c =
+    let e : c.args.seconds % 2 ^ 64 ≡ c.args.seconds = omega (arith, c.ranges.seconds) in
+    let f : c.args.nanoseconds % 2 ^ 32 ≡ c.args.nanoseconds = omega (arith, c.ranges.nanoseconds) in
+    let p = err_from_is_err_and c.from_residual.result c.from_residual.ensures.1 in rw (p.1, p.2) (rw (e, f) at (durations_refused_left g.SC.Column.format g.NC.Column.format (number (c.args.seconds % 2 ^ 64)) (number (c.args.nanoseconds % 2 ^ 32)) g.met.SC.Flat.flat g.met.NC.Flat.flat c.requires.sound c.in_err-push.ensures.err (unchanged (durations_parts g.SC.Column.format g.NC.Column.format c.requires.sound).right)))
+
+pub returns-in-Ok-clause-ok : goal.returns-in-Ok-clause-ok
+returns-in-Ok-clause-ok g c =
+    let e : c.args.seconds % 2 ^ 64 ≡ c.args.seconds = omega (arith, c.ranges.seconds) in
+    let f : c.args.nanoseconds % 2 ^ 32 ≡ c.args.nanoseconds = omega (arith, c.ranges.nanoseconds) in
+    rw (e, f) at (durations_took g.SC.Column.format g.NC.Column.format (number (c.args.seconds % 2 ^ 64)) (number (c.args.nanoseconds % 2 ^ 32)) g.met.SC.Flat.flat g.met.NC.Flat.flat c.requires.sound (lt-ltb (c.args.nanoseconds % 2 ^ 32) 1000000000 (omega (arith, c.requires.short, c.ranges.nanoseconds))) c.in_ok-push.ensures.ok c.in-Ok.ensures.ok)
+
 pub returns-in-Err-clause-err : goal.returns-in-Err-clause-err
 returns-in-Err-clause-err g c =
     let e : c.args.seconds % 2 ^ 64 ≡ c.args.seconds = omega (arith, c.ranges.seconds) in
     let f : c.args.nanoseconds % 2 ^ 32 ≡ c.args.nanoseconds = omega (arith, c.ranges.nanoseconds) in
-    rw (e, f) at (durations_refused_left g.SC.Column.format g.NC.Column.format (number (c.args.seconds % 2 ^ 64)) (number (c.args.nanoseconds % 2 ^ 32)) g.met.SC.Flat.flat g.met.NC.Flat.flat c.requires.sound c.in-Err.ensures.err (unchanged (durations_parts g.SC.Column.format g.NC.Column.format c.requires.sound).right))
-
-pub returns-in-Ok-push-clause-ok : goal.returns-in-Ok-push-clause-ok
-returns-in-Ok-push-clause-ok g c =
-    let e : c.args.seconds % 2 ^ 64 ≡ c.args.seconds = omega (arith, c.ranges.seconds) in
-    let f : c.args.nanoseconds % 2 ^ 32 ≡ c.args.nanoseconds = omega (arith, c.ranges.nanoseconds) in
-    rw (e, f) at (durations_took g.SC.Column.format g.NC.Column.format (number (c.args.seconds % 2 ^ 64)) (number (c.args.nanoseconds % 2 ^ 32)) g.met.SC.Flat.flat g.met.NC.Flat.flat c.requires.sound (lt-ltb (c.args.nanoseconds % 2 ^ 32) 1000000000 (omega (arith, c.requires.short, c.ranges.nanoseconds))) c.in-Ok.ensures.ok c.in-Ok-push.ensures.ok)
-
-pub returns-in-Err-push-clause-err : goal.returns-in-Err-push-clause-err
-returns-in-Err-push-clause-err g c =
-    let e : c.args.seconds % 2 ^ 64 ≡ c.args.seconds = omega (arith, c.ranges.seconds) in
-    let f : c.args.nanoseconds % 2 ^ 32 ≡ c.args.nanoseconds = omega (arith, c.ranges.nanoseconds) in
-    rw (e, f) at (durations_refused_right g.SC.Column.format g.NC.Column.format (number (c.args.seconds % 2 ^ 64)) (number (c.args.nanoseconds % 2 ^ 32)) g.met.SC.Flat.flat g.met.NC.Flat.flat c.requires.sound (undone g.met.SC.Storage.lawful (durations_parts g.SC.Column.format g.NC.Column.format c.requires.sound).left c.in-Ok.ensures.ok.grew (rw c.len-before.ensures at c.truncate.ensures)) c.in-Err-push.ensures.err)
+    rw (e, f) at (durations_refused_right g.SC.Column.format g.NC.Column.format (number (c.args.seconds % 2 ^ 64)) (number (c.args.nanoseconds % 2 ^ 32)) g.met.SC.Flat.flat g.met.NC.Flat.flat c.requires.sound (undone g.met.SC.Truncate.lawful (durations_parts g.SC.Column.format g.NC.Column.format c.requires.sound).left c.in_ok-push.ensures.ok.grew (rw c.len-before.ensures at c.truncate.ensures)) c.in-Err.ensures.err)

@@ -1,3 +1,4 @@
+use Rattle.std.proofs.lemmas.Result.{err_from_is_err_and}
 use Rattle.std.proofs.Common.{◌-◌}
 use Rattle.columnar_primitive.specs.DurationLaws.{durations_parts, durations_top, durations_copied, durations_refused_left_piece, durations_refused_right_piece}
 use Rattle.columnar_base.specs.ChangeLaws.{undone, unchanged}
@@ -15,8 +16,8 @@ extend_from_self-requires-clause-view_sound g c = (durations_parts g.V.Column.fo
 pub extend_from_self-requires-clause-in_range : goal.extend_from_self-requires-clause-in_range
 extend_from_self-requires-clause-in_range g c = (durations_top g.V.Column.format g.W.Column.format c.args.range.«end» c.requires.view_sound c.requires.in_range).0
 
-pub returns-in-Err-clause-err : goal.returns-in-Err-clause-err
-returns-in-Err-clause-err g c = durations_refused_left_piece g.SC.Column.format g.NC.Column.format g.V.Column.format g.W.Column.format (g.V.Column.content c.args.view.seconds) (g.W.Column.content c.args.view.nanoseconds) c.args.range.start (c.args.range.«end» - c.args.range.start) g.met.SC.Flat.flat g.met.NC.Flat.flat c.requires.sound c.requires.view_sound c.in-Err.ensures.err (unchanged (durations_parts g.SC.Column.format g.NC.Column.format c.requires.sound).right)
+pub returns-in_err-extend_from_self-clause-err : goal.returns-in_err-extend_from_self-clause-err
+returns-in_err-extend_from_self-clause-err g c = let p = err_from_is_err_and c.from_residual.result c.from_residual.ensures.1 in rw (p.1, p.2) (durations_refused_left_piece g.SC.Column.format g.NC.Column.format g.V.Column.format g.W.Column.format (g.V.Column.content c.args.view.seconds) (g.W.Column.content c.args.view.nanoseconds) c.args.range.start (c.args.range.«end» - c.args.range.start) g.met.SC.Flat.flat g.met.NC.Flat.flat c.requires.sound c.requires.view_sound c.in_err-extend_from_self.ensures.err (unchanged (durations_parts g.SC.Column.format g.NC.Column.format c.requires.sound).right))
 
 pub extend_from_self-requires-2-clause-sound : goal.extend_from_self-requires-2-clause-sound
 extend_from_self-requires-2-clause-sound g c = (durations_parts g.SC.Column.format g.NC.Column.format c.requires.sound).right
@@ -27,8 +28,8 @@ extend_from_self-requires-2-clause-view_sound g c = (durations_parts g.V.Column.
 pub extend_from_self-requires-2-clause-in_range : goal.extend_from_self-requires-2-clause-in_range
 extend_from_self-requires-2-clause-in_range g c = (durations_top g.V.Column.format g.W.Column.format c.args.range.«end» c.requires.view_sound c.requires.in_range).1
 
-pub returns-in-Ok-extend_from_self-clause-ok : goal.returns-in-Ok-extend_from_self-clause-ok
-returns-in-Ok-extend_from_self-clause-ok g c = durations_copied g.SC.Column.format g.NC.Column.format g.V.Column.format g.W.Column.format (g.V.Column.content c.args.view.seconds) (g.W.Column.content c.args.view.nanoseconds) c.args.range.start (c.args.range.«end» - c.args.range.start) g.met.SC.Flat.flat g.met.NC.Flat.flat c.requires.sound c.requires.view_sound c.in-Ok.ensures.ok c.in-Ok-extend_from_self.ensures.ok
+pub returns-in-Ok-clause-ok : goal.returns-in-Ok-clause-ok
+returns-in-Ok-clause-ok g c = durations_copied g.SC.Column.format g.NC.Column.format g.V.Column.format g.W.Column.format (g.V.Column.content c.args.view.seconds) (g.W.Column.content c.args.view.nanoseconds) c.args.range.start (c.args.range.«end» - c.args.range.start) g.met.SC.Flat.flat g.met.NC.Flat.flat c.requires.sound c.requires.view_sound c.in_ok-extend_from_self.ensures.ok c.in-Ok.ensures.ok
 
-pub returns-in-Err-extend_from_self-clause-err : goal.returns-in-Err-extend_from_self-clause-err
-returns-in-Err-extend_from_self-clause-err g c = durations_refused_right_piece g.SC.Column.format g.NC.Column.format g.V.Column.format g.W.Column.format (g.V.Column.content c.args.view.seconds) (g.W.Column.content c.args.view.nanoseconds) c.args.range.start (c.args.range.«end» - c.args.range.start) g.met.SC.Flat.flat g.met.NC.Flat.flat c.requires.sound c.requires.view_sound (undone g.met.SC.Storage.lawful (durations_parts g.SC.Column.format g.NC.Column.format c.requires.sound).left c.in-Ok.ensures.ok.took.grew (rw c.len-rows.ensures at c.truncate.ensures)) c.in-Err-extend_from_self.ensures.err
+pub returns-in-Err-clause-err : goal.returns-in-Err-clause-err
+returns-in-Err-clause-err g c = durations_refused_right_piece g.SC.Column.format g.NC.Column.format g.V.Column.format g.W.Column.format (g.V.Column.content c.args.view.seconds) (g.W.Column.content c.args.view.nanoseconds) c.args.range.start (c.args.range.«end» - c.args.range.start) g.met.SC.Flat.flat g.met.NC.Flat.flat c.requires.sound c.requires.view_sound (undone g.met.SC.Truncate.lawful (durations_parts g.SC.Column.format g.NC.Column.format c.requires.sound).left c.in_ok-extend_from_self.ensures.ok.took.grew (rw c.len-rows.ensures at c.truncate.ensures)) c.in-Err.ensures.err

@@ -1,62 +1,50 @@
-use Rattle.std.proofs.Common.{◌≡◌, ◌+◌, length, drop, sym, ◌∙◌, arith}
-use Rattle.columnar_base.specs.TwoParts.{representable_left, representable_right, two_right_at}
+use Rattle.std.proofs.lemmas.Result.{err_from_is_err_and}
+use Rattle.std.proofs.Common.{◌≡◌, ◌+◌, length, drop, sym, ◌∙◌}
+use Rattle.columnar_base.specs.TwoParts.{representable_left, representable_right, judged_part_at}
 use Rattle.columnar_base.specs.TupleLaws.{pair_two}
-use Rattle.columnar_primitive.specs.DurationLaws.{durations_fine_at, durations_own_at, durations_turns_at}
-use Rattle.columnar_primitive.specs.MappedLaws.{mapped_broken}
-use Rattle.columnar_primitive.specs.Durations.{as_duration, is_duration}
 use Rattle.columnar_base.specs.Tuples.{pair_format}
-use Rattle.columnar_base.specs.FaultLaws.{fits_from}
-use Rattle.columnar_base.specs.Format.{Fits}
 use Rattle.columnar_base.specs.Faults.{fault_of}
 use Rattle.columnar_core.specs.Store.{slices_in}
+use Rattle.columnar_primitive.specs.Durations.{as_duration, is_duration}
+use Rattle.columnar_primitive.specs.DurationLaws.{durations_fine_at, durations_own_at, durations_turns_at}
+use Rattle.columnar_primitive.specs.MappedLaws.{mapped_broken}
 use Rattle.columnar_primitive.proofs.durations.DurationsStored.judge_tallied.Goals as goal
 
-pub judge_tallied-requires-clause-representable : goal.judge_tallied-requires-clause-representable
-judge_tallied-requires-clause-representable g c = representable_left (pair_two g.SC.Column.format g.NC.Column.format) c.requires.representable
+pub judge_two-requires-clause-left : goal.judge_two-requires-clause-left
+judge_two-requires-clause-left g c = representable_left (pair_two g.SC.Column.format g.NC.Column.format) c.requires.representable
+
+pub judge_two-requires-clause-right : goal.judge_two-requires-clause-right
+judge_two-requires-clause-right g c = representable_right (pair_two g.SC.Column.format g.NC.Column.format) c.requires.representable
+
+pub returns-in_err-judge_two-clause-exact : goal.returns-in_err-judge_two-clause-exact
+returns-in_err-judge_two-clause-exact g c = let p = err_from_is_err_and c.from_residual.result c.from_residual.ensures.1 in rw (p.1, p.2) (mapped_broken (pair_format g.SC.Column.format g.NC.Column.format) as_duration is_duration ((pair_format g.SC.Column.format g.NC.Column.format).build (drop c.args.offset (slices_in c.args.store.now))) c.args.offset (fault_of c.in_err-judge_two.field-0.0) (judged_part_at (pair_two g.SC.Column.format g.NC.Column.format) (slices_in c.args.store.now) c.args.offset (fault_of c.in_err-judge_two.field-0.0) c.in_err-judge_two.ensures.exact))
 
 pub slice_count-requires : goal.slice_count-requires
 slice_count-requires g c = representable_left (pair_two g.SC.Column.format g.NC.Column.format) c.requires.representable
 
-pub judge_tallied-requires-2-clause-representable : goal.judge_tallied-requires-2-clause-representable
-judge_tallied-requires-2-clause-representable g c = representable_right (pair_two g.SC.Column.format g.NC.Column.format) c.requires.representable
-
-pub returns-in-Err-judge_tallied-clause-exact : goal.returns-in-Err-judge_tallied-clause-exact
-returns-in-Err-judge_tallied-clause-exact g c = mapped_broken (pair_format g.SC.Column.format g.NC.Column.format) as_duration is_duration ((pair_format g.SC.Column.format g.NC.Column.format).build (drop c.args.offset (slices_in c.args.store.now))) c.args.offset (fault_of c.in-Err-judge_tallied.fault) (two_right_at (pair_two g.SC.Column.format g.NC.Column.format) (slices_in c.args.store.now) c.args.offset (fault_of c.in-Err-judge_tallied.fault) c.in-Ok.ensures.exact (rw c.slice_count.ensures at c.in-Err-judge_tallied.ensures.exact))
-
 pub rows_in-rows-requires-clause-representable : goal.rows_in-rows-requires-clause-representable
 rows_in-rows-requires-clause-representable g c = representable_left (pair_two g.SC.Column.format g.NC.Column.format) c.requires.representable
-
-pub rows_in-rows-requires-clause-fits : goal.rows_in-rows-requires-clause-fits
-rows_in-rows-requires-clause-fits g c = fits_from g.SC.Column.format c.args.offset (slices_in c.args.store.now) (omega (arith, c.requires.room)) c.in-Ok.ensures.exact
 
 pub rows_in-requires-clause-representable : goal.rows_in-requires-clause-representable
 rows_in-requires-clause-representable g c = representable_right (pair_two g.SC.Column.format g.NC.Column.format) c.requires.representable
 
-pub rows_in-requires-clause-fits : goal.rows_in-requires-clause-fits
-rows_in-requires-clause-fits g c = fits_from g.NC.Column.format (c.args.offset + c.slice_count.result) (slices_in c.args.store.now) (omega (arith, c.requires.room, c.slice_count.ensures)) c.in-Ok-judge_tallied.ensures.exact
-
 pub all_fit_in-requires-clause-representable : goal.all_fit_in-requires-clause-representable
 all_fit_in-requires-clause-representable g c = representable_right (pair_two g.SC.Column.format g.NC.Column.format) c.requires.representable
-
-pub all_fit_in-requires-clause-fits : goal.all_fit_in-requires-clause-fits
-all_fit_in-requires-clause-fits g c = fits_from g.NC.Column.format (c.args.offset + c.slice_count.result) (slices_in c.args.store.now) (omega (arith, c.requires.room, c.slice_count.ensures)) c.in-Ok-judge_tallied.ensures.exact
 
 pub returns-then-all_fit_in-clause-exact : goal.returns-then-all_fit_in-clause-exact
 returns-then-all_fit_in-clause-exact g c =
     let l : length (g.SC.Column.format.rows (g.SC.Column.format.build (drop c.args.offset (slices_in c.args.store.now)))) ≡ length (g.NC.Column.format.rows (g.NC.Column.format.build (drop (c.args.offset + g.SC.Column.format.count) (slices_in c.args.store.now)))) = sym c.rows_in-rows.ensures ∙ (c.if-rows-rows_in.false ∙ (rw c.slice_count.ensures at c.rows_in.ensures)) in
-    durations_fine_at g.SC.Column.format g.NC.Column.format (slices_in c.args.store.now) c.args.offset c.in-Ok.ensures.exact (rw c.slice_count.ensures at c.in-Ok-judge_tallied.ensures.exact) l (sym (rw c.slice_count.ensures at c.all_fit_in.ensures.value) ∙ c.if-all_fit_in.true)
+    durations_fine_at g.SC.Column.format g.NC.Column.format (slices_in c.args.store.now) c.args.offset c.in_ok-judge_two.ensures.exact l (sym (rw c.slice_count.ensures at c.all_fit_in.ensures.value) ∙ c.if-all_fit_in.true)
 
 pub returns-else-all_fit_in-clause-exact : goal.returns-else-all_fit_in-clause-exact
 returns-else-all_fit_in-clause-exact g c =
     let l : length (g.SC.Column.format.rows (g.SC.Column.format.build (drop c.args.offset (slices_in c.args.store.now)))) ≡ length (g.NC.Column.format.rows (g.NC.Column.format.build (drop (c.args.offset + g.SC.Column.format.count) (slices_in c.args.store.now)))) = sym c.rows_in-rows.ensures ∙ (c.if-rows-rows_in.false ∙ (rw c.slice_count.ensures at c.rows_in.ensures)) in
-    durations_own_at g.SC.Column.format g.NC.Column.format (slices_in c.args.store.now) c.args.offset c.in-Ok.ensures.exact (rw c.slice_count.ensures at c.in-Ok-judge_tallied.ensures.exact) l (sym (rw c.slice_count.ensures at c.all_fit_in.ensures.value) ∙ c.if-all_fit_in.false)
+    durations_own_at g.SC.Column.format g.NC.Column.format (slices_in c.args.store.now) c.args.offset c.in_ok-judge_two.ensures.exact l (sym (rw c.slice_count.ensures at c.all_fit_in.ensures.value) ∙ c.if-all_fit_in.false)
 
 pub returns-then-all_fit_in-clause-turns : goal.returns-then-all_fit_in-clause-turns
 returns-then-all_fit_in-clause-turns g c =
-    let s : Fits g.NC.Column.format (c.args.offset + c.slice_count.result) (slices_in c.args.store.now) = fits_from g.NC.Column.format (c.args.offset + c.slice_count.result) (slices_in c.args.store.now) (omega (arith, c.requires.room, c.slice_count.ensures)) c.in-Ok-judge_tallied.ensures.exact in
-    durations_turns_at g.SC.Column.format g.NC.Column.format (slices_in c.args.store.now) c.args.offset c.args.tally.now.turns c.judge_tallied.new.tally.turns c.judge_tallied-2.new.tally.turns c.all_fit_in.new.tally.turns g.met.SC.Flat.still g.met.NC.Flat.still c.judge_tallied.ensures.turns (rw c.slice_count.ensures at c.judge_tallied-2.ensures.turns) (rw c.slice_count.ensures at c.all_fit_in.ensures.turns) (rw c.slice_count.ensures at (g.met.NC.Flat.flat.short (g.NC.Column.format.build (drop (c.args.offset + c.slice_count.result) (slices_in c.args.store.now))) s.sound))
+    durations_turns_at g.SC.Column.format g.NC.Column.format (slices_in c.args.store.now) c.args.offset c.args.tally.now.turns c.judge_two.new.tally.turns c.all_fit_in.new.tally.turns g.met.SC.Flat.still g.met.NC.Flat.still c.judge_two.ensures.turns (rw c.slice_count.ensures at c.all_fit_in.ensures.turns) (g.met.NC.Flat.flat.short (g.NC.Column.format.build (drop (c.args.offset + g.SC.Column.format.count) (slices_in c.args.store.now))) c.in_ok-judge_two.ensures.right_fits.sound)
 
 pub returns-else-all_fit_in-clause-turns : goal.returns-else-all_fit_in-clause-turns
 returns-else-all_fit_in-clause-turns g c =
-    let s : Fits g.NC.Column.format (c.args.offset + c.slice_count.result) (slices_in c.args.store.now) = fits_from g.NC.Column.format (c.args.offset + c.slice_count.result) (slices_in c.args.store.now) (omega (arith, c.requires.room, c.slice_count.ensures)) c.in-Ok-judge_tallied.ensures.exact in
-    durations_turns_at g.SC.Column.format g.NC.Column.format (slices_in c.args.store.now) c.args.offset c.args.tally.now.turns c.judge_tallied.new.tally.turns c.judge_tallied-2.new.tally.turns c.all_fit_in.new.tally.turns g.met.SC.Flat.still g.met.NC.Flat.still c.judge_tallied.ensures.turns (rw c.slice_count.ensures at c.judge_tallied-2.ensures.turns) (rw c.slice_count.ensures at c.all_fit_in.ensures.turns) (rw c.slice_count.ensures at (g.met.NC.Flat.flat.short (g.NC.Column.format.build (drop (c.args.offset + c.slice_count.result) (slices_in c.args.store.now))) s.sound))
+    durations_turns_at g.SC.Column.format g.NC.Column.format (slices_in c.args.store.now) c.args.offset c.args.tally.now.turns c.judge_two.new.tally.turns c.all_fit_in.new.tally.turns g.met.SC.Flat.still g.met.NC.Flat.still c.judge_two.ensures.turns (rw c.slice_count.ensures at c.all_fit_in.ensures.turns) (g.met.NC.Flat.flat.short (g.NC.Column.format.build (drop (c.args.offset + g.SC.Column.format.count) (slices_in c.args.store.now))) c.in_ok-judge_two.ensures.right_fits.sound)

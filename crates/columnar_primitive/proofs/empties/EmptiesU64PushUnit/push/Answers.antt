@@ -1,8 +1,6 @@
-use Rattle.columnar_primitive.specs.UnitLaws.{number_took, number_refused}
+use Rattle.std.proofs.lemmas.Result.{on_ok_weaker}
+use Rattle.columnar_primitive.specs.UnitLaws.{number_took}
 use Rattle.columnar_primitive.proofs.empties.EmptiesU64PushUnit.push.Goals as goal
 
-pub returns-in-Ok-clause-ok : goal.returns-in-Ok-clause-ok
-returns-in-Ok-clause-ok c = number_took c.args.self.now.count c.add.new.self.count 1 c.in-Ok.ensures.held c.in-Ok.ensures.ok
-
-pub returns-in-Err-clause-err : goal.returns-in-Err-clause-err
-returns-in-Err-clause-err c = number_refused c.args.self.now.count c.add.new.self.count 1 c.in-Err.error c.in-Err.ensures.held c.in-Err.ensures.err c.in-Err.ensures.length.0 c.in-Err.ensures.length.1
+pub returns-clause-ok : goal.returns-clause-ok
+returns-clause-ok c = on_ok_weaker c.add.result (λ e. number_took c.args.self.now.count c.add.new.self.count 1 c.add.ensures.held e) c.add.ensures.ok

@@ -19,6 +19,7 @@ loop-place-preserved g c =
       forward = omega arith;
       loads = load_more c.read-place.new.tally.words c.tick.new.self.words c.args.tally.now.words c.args.place.now.index c.loop-place.place.index (c.tick.ensures.words ∙ i.loads) i.forward c.read-place.ensures.words;
       counts = c.read-place.ensures.counts ∙ c.tick.ensures.counts ∙ i.counts;
+      turns = omega arith;
     }
 
 pub overflow_add-place-2 : goal.overflow_add-place-2

@@ -11,6 +11,7 @@ invariant-loop-place g l =
       forward : l.fn.place.index ≤ l.place.index;
       loads : l.tally.words ≡ l.fn.tally.words ++ range_with_len (l.fn.place.index + 1) (l.place.index - l.fn.place.index);
       counts : l.tally.counts ≡ l.fn.tally.counts;
+      turns : l.tally.turns + l.fn.place.index ≡ l.fn.tally.turns + l.place.index;
     }
 
 abbrev pub decreases-loop-place : goal.decreases-loop-place

@@ -14,6 +14,7 @@ loop-low-init g c =
       shrinks = rw same (omega arith);
       cost = rw same (omega arith);
       words = refl;
+      turns = omega arith;
     }
 
 pub loop-low-preserved-then-read-rank : goal.loop-low-preserved-then-read-rank
@@ -30,6 +31,7 @@ loop-low-preserved-then-read-rank g c =
       shrinks = s.0;
       cost = s.1;
       words = c.read.ensures.words ∙ c.tick.ensures.words ∙ i.words;
+      turns = omega arith;
     }
 
 pub loop-low-preserved : goal.loop-low-preserved
@@ -46,4 +48,5 @@ loop-low-preserved g c =
       shrinks = s.0;
       cost = s.1;
       words = c.read.ensures.words ∙ c.tick.ensures.words ∙ i.words;
+      turns = omega arith;
     }

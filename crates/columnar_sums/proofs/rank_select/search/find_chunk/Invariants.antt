@@ -14,6 +14,7 @@ invariant-loop-low g l =
       shrinks : 2 ^ (l.tally.counts - l.fn.tally.counts) * (l.high - l.low) ≤ length l.counts;
       cost : 2 ^ (l.tally.counts - l.fn.tally.counts) ≤ 2 * length l.counts + 1;
       words : l.tally.words ≡ l.fn.tally.words;
+      turns : l.tally.turns + l.fn.tally.counts ≡ l.fn.tally.turns + l.tally.counts;
     }
 
 abbrev pub decreases-loop-low : goal.decreases-loop-low

@@ -13,6 +13,7 @@ loop-at-init g c =
       below = omega arith;
       counts = omega arith;
       words = omega (arith, ap length c.ones_before-sum.ensures.words, ap length c.find_chunk-chunk.ensures.words);
+      turns = omega arith;
       kept = ap (take (length c.args.tally.now.words)) (c.ones_before-sum.ensures.words ∙ c.find_chunk-chunk.ensures.words) ∙ take_all _ _ (omega arith);
     }
 

@@ -11,5 +11,6 @@ invariant-loop-at g l =
       below : l.sum ≤ l.rank;
       counts : l.tally.counts ≤ l.fn.tally.counts + (digits (length l.counts) + 1);
       words : length l.tally.words + 16 * l.chunk ≡ length l.fn.tally.words + l.at;
+      turns : l.tally.turns + 16 * l.chunk ≤ l.fn.tally.turns + digits (length l.counts) + l.at;
       kept : take (length l.fn.tally.words) l.tally.words ≡ l.fn.tally.words;
     }

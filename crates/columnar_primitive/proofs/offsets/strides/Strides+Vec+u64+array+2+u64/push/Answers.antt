@@ -19,13 +19,16 @@ returns-then-follows-clause-ok c =
 pub returns-then-follows-clause-full : goal.returns-then-follows-clause-full
 returns-then-follows-clause-full c = λ e. absurd (omega (arith, e, length-held (slice_index c.args.self.now.head 0) (slice_index c.args.self.now.head 1) c.args.self.now.bounds.items (head_of c.args.self.now.head (omega arith) (omega arith) (omega arith)), c.if-length-count.false, c.len-count.ensures))
 
-pub returns-in-Ok-clause-ok : goal.returns-in-Ok-clause-ok
-returns-in-Ok-clause-ok c =
+pub returns-clause-ok : goal.returns-clause-ok
+returns-clause-ok c =
     let p = owned_limits (slice_index c.args.self.now.head 0) (slice_index c.args.self.now.head 1) c.args.self.now.bounds.items (head_of c.args.self.now.head (omega arith) (omega arith) (omega arith)) c.requires in
-    rw c.in-Ok.ensures.items (took_bound (slice_index c.args.self.now.head 0) (slice_index c.args.self.now.head 1) c.args.self.now.bounds.items c.args.item (head_of c.args.self.now.head (omega arith) (omega arith) (omega arith)) p (omega (arith, p.few, c.if-length-count.false, c.len-count.ensures)))
+    rw c.in_ok-push.ensures.items (took_bound (slice_index c.args.self.now.head 0) (slice_index c.args.self.now.head 1) c.args.self.now.bounds.items c.args.item (head_of c.args.self.now.head (omega arith) (omega arith) (omega arith)) p (omega (arith, p.few, c.if-length-count.false, c.len-count.ensures)))
 
-pub returns-in-Ok-clause-full : goal.returns-in-Ok-clause-full
-returns-in-Ok-clause-full c = λ e. absurd (omega (arith, e, length-held (slice_index c.args.self.now.head 0) (slice_index c.args.self.now.head 1) c.args.self.now.bounds.items (head_of c.args.self.now.head (omega arith) (omega arith) (omega arith)), c.if-length-count.false, c.len-count.ensures))
+pub returns-clause-full : goal.returns-clause-full
+returns-clause-full c = λ e. absurd (omega (arith, e, length-held (slice_index c.args.self.now.head 0) (slice_index c.args.self.now.head 1) c.args.self.now.bounds.items (head_of c.args.self.now.head (omega arith) (omega arith) (omega arith)), c.if-length-count.false, c.len-count.ensures))
 
-pub returns-in-Err-clause-full : goal.returns-in-Err-clause-full
-returns-in-Err-clause-full c = λ e. absurd (omega (arith, e, length-held (slice_index c.args.self.now.head 0) (slice_index c.args.self.now.head 1) c.args.self.now.bounds.items (head_of c.args.self.now.head (omega arith) (omega arith) (omega arith)), c.if-length-count.false, c.len-count.ensures))
+pub returns-in_err-push-clause-full : goal.returns-in_err-push-clause-full
+returns-in_err-push-clause-full c = λ e. absurd (omega (arith, e, length-held (slice_index c.args.self.now.head 0) (slice_index c.args.self.now.head 1) c.args.self.now.bounds.items (head_of c.args.self.now.head (omega arith) (omega arith) (omega arith)), c.if-length-count.false, c.len-count.ensures))
+
+pub returns-then-length-count-clause-no_memory : goal.returns-then-length-count-clause-no_memory
+returns-then-length-count-clause-no_memory c = λ l j. absurd (omega (arith, l, length-held (slice_index c.args.self.now.head 0) (slice_index c.args.self.now.head 1) c.args.self.now.bounds.items (head_of c.args.self.now.head (omega arith) (omega arith) (omega arith)), c.if-length-count.true, c.len-count.ensures))

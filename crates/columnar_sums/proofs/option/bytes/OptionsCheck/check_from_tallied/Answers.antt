@@ -1,27 +1,26 @@
-use Rattle.std.proofs.Common.{◌+◌, sym, ◌∙◌}
-use Rattle.columnar_sums.specs.OptionLaws.{options_two, options_turns, ranks_bytes}
-use Rattle.columnar_sums.specs.RankColumns.{ranks_content, ranks_format}
-use Rattle.columnar_core.specs.TwoParts.{two_right, two_fine, two_own}
-use Rattle.columnar_core.specs.FaultLaws.{sound_from}
+use Rattle.std.proofs.Common.{sym, ◌∙◌}
+use Rattle.std.proofs.lemmas.Bool.{eq-eqb, ne_eqb}
 use Rattle.columnar_core.specs.Faults.{fault_of}
 use Rattle.columnar_core.specs.Format.{bytes_held}
-use Rattle.std.proofs.lemmas.Bool.{eq-eqb, ne_eqb}
+use Rattle.columnar_core.specs.TwoParts.{representable_right, judged_part, judged_fine, judged_own}
+use Rattle.columnar_sums.specs.OptionLaws.{options_two, options_turns, ranks_bytes}
+use Rattle.columnar_sums.specs.RankColumns.{ranks_content}
 use Rattle.columnar_sums.proofs.option.bytes.OptionsCheck.check_from_tallied.Goals as goal
 
-pub returns-in-Err-check_from_tallied-clause-exact : goal.returns-in-Err-check_from_tallied-clause-exact
-returns-in-Err-check_from_tallied-clause-exact g c = two_right (options_two g.TC.Column.format) (ranks_content g.CC.Words.bytes g.VC.Words.bytes g.WC.Words.bytes c.args.self.now.indexes) (g.TC.Column.content c.args.self.now.somes) c.args.from (fault_of c.in-Err-check_from_tallied.fault) c.in-Ok.ensures.exact c.in-Err-check_from_tallied.ensures.exact
+pub check_two-requires-clause-right : goal.check_two-requires-clause-right
+check_two-requires-clause-right g c = representable_right (options_two g.TC.Column.format) c.requires.representable
 
-pub len-values-requires : goal.len-values-requires
-len-values-requires g c = sound_from g.TC.Column.format (g.TC.Column.content c.args.self.now.somes) (c.args.from + 3) c.in-Ok-check_from_tallied.ensures.exact
+pub returns-in-Err-clause-exact : goal.returns-in-Err-clause-exact
+returns-in-Err-clause-exact g c = judged_part (options_two g.TC.Column.format) (ranks_content g.CC.Words.bytes g.VC.Words.bytes g.WC.Words.bytes c.args.self.now.indexes) (g.TC.Column.content c.args.self.now.somes) c.args.from (fault_of c.in-Err.fault) c.in-Err.ensures.exact
 
 pub returns-then-trues_tallied-values-clause-exact : goal.returns-then-trues_tallied-values-clause-exact
-returns-then-trues_tallied-values-clause-exact g c = two_fine (options_two g.TC.Column.format) (ranks_content g.CC.Words.bytes g.VC.Words.bytes g.WC.Words.bytes c.args.self.now.indexes) (g.TC.Column.content c.args.self.now.somes) c.args.from c.in-Ok.ensures.exact c.in-Ok-check_from_tallied.ensures.exact (eq-eqb _ _ (sym c.trues_tallied.ensures.value ∙ (c.if-trues_tallied-values.true ∙ c.len-values.ensures)))
+returns-then-trues_tallied-values-clause-exact g c = judged_fine (options_two g.TC.Column.format) (ranks_content g.CC.Words.bytes g.VC.Words.bytes g.WC.Words.bytes c.args.self.now.indexes) (g.TC.Column.content c.args.self.now.somes) c.args.from c.in-Ok.ensures.exact (eq-eqb _ _ (sym c.trues_tallied.ensures.value ∙ (c.if-trues_tallied-values.true ∙ c.len-values.ensures)))
 
 pub returns-then-trues_tallied-values-clause-turns : goal.returns-then-trues_tallied-values-clause-turns
-returns-then-trues_tallied-values-clause-turns g c = options_turns _ _ _ _ g.TC.Column.format.turns (bytes_held (ranks_content g.CC.Words.bytes g.VC.Words.bytes g.WC.Words.bytes c.args.self.now.indexes)) (bytes_held (g.TC.Column.content c.args.self.now.somes)) c.in-Ok.ensures.turns c.in-Ok-check_from_tallied.ensures.turns c.trues_tallied.ensures.turns g.met.TC.Stored.storable.swift (ranks_bytes (ranks_content g.CC.Words.bytes g.VC.Words.bytes g.WC.Words.bytes c.args.self.now.indexes) (sound_from ranks_format (ranks_content g.CC.Words.bytes g.VC.Words.bytes g.WC.Words.bytes c.args.self.now.indexes) c.args.from c.in-Ok.ensures.exact))
+returns-then-trues_tallied-values-clause-turns g c = options_turns _ _ _ g.TC.Column.format.turns (bytes_held (ranks_content g.CC.Words.bytes g.VC.Words.bytes g.WC.Words.bytes c.args.self.now.indexes)) (bytes_held (g.TC.Column.content c.args.self.now.somes)) c.in-Ok.ensures.turns c.trues_tallied.ensures.turns g.met.TC.Stored.storable.swift (ranks_bytes (ranks_content g.CC.Words.bytes g.VC.Words.bytes g.WC.Words.bytes c.args.self.now.indexes) c.in-Ok.ensures.left_sound)
 
 pub returns-else-trues_tallied-values-clause-exact : goal.returns-else-trues_tallied-values-clause-exact
-returns-else-trues_tallied-values-clause-exact g c = two_own (options_two g.TC.Column.format) (ranks_content g.CC.Words.bytes g.VC.Words.bytes g.WC.Words.bytes c.args.self.now.indexes) (g.TC.Column.content c.args.self.now.somes) c.args.from c.in-Ok.ensures.exact c.in-Ok-check_from_tallied.ensures.exact (ne_eqb _ _ (λ h. c.if-trues_tallied-values.false (c.trues_tallied.ensures.value ∙ (h ∙ sym c.len-values.ensures))))
+returns-else-trues_tallied-values-clause-exact g c = judged_own (options_two g.TC.Column.format) (ranks_content g.CC.Words.bytes g.VC.Words.bytes g.WC.Words.bytes c.args.self.now.indexes) (g.TC.Column.content c.args.self.now.somes) c.args.from c.in-Ok.ensures.exact (ne_eqb _ _ (λ h. c.if-trues_tallied-values.false (c.trues_tallied.ensures.value ∙ (h ∙ sym c.len-values.ensures))))
 
 pub returns-else-trues_tallied-values-clause-turns : goal.returns-else-trues_tallied-values-clause-turns
-returns-else-trues_tallied-values-clause-turns g c = options_turns _ _ _ _ g.TC.Column.format.turns (bytes_held (ranks_content g.CC.Words.bytes g.VC.Words.bytes g.WC.Words.bytes c.args.self.now.indexes)) (bytes_held (g.TC.Column.content c.args.self.now.somes)) c.in-Ok.ensures.turns c.in-Ok-check_from_tallied.ensures.turns c.trues_tallied.ensures.turns g.met.TC.Stored.storable.swift (ranks_bytes (ranks_content g.CC.Words.bytes g.VC.Words.bytes g.WC.Words.bytes c.args.self.now.indexes) (sound_from ranks_format (ranks_content g.CC.Words.bytes g.VC.Words.bytes g.WC.Words.bytes c.args.self.now.indexes) c.args.from c.in-Ok.ensures.exact))
+returns-else-trues_tallied-values-clause-turns g c = options_turns _ _ _ g.TC.Column.format.turns (bytes_held (ranks_content g.CC.Words.bytes g.VC.Words.bytes g.WC.Words.bytes c.args.self.now.indexes)) (bytes_held (g.TC.Column.content c.args.self.now.somes)) c.in-Ok.ensures.turns c.trues_tallied.ensures.turns g.met.TC.Stored.storable.swift (ranks_bytes (ranks_content g.CC.Words.bytes g.VC.Words.bytes g.WC.Words.bytes c.args.self.now.indexes) c.in-Ok.ensures.left_sound)

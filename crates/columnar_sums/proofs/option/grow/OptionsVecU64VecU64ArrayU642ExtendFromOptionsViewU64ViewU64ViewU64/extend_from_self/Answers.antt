@@ -37,7 +37,7 @@ pub extend_from_self-requires-2-clause-in_range : goal.extend_from_self-requires
 extend_from_self-requires-2-clause-in_range g c = omega (arith, length-map (ranks_bits (ranks_content view_bytes view_bytes view_bytes c.args.view.indexes)) truth, options_within g.V.Column.format (ranks_content view_bytes view_bytes view_bytes c.args.view.indexes) (g.V.Column.content c.args.view.somes) c.args.range.«end» c.requires.in_range)
 
 pub returns-in-Ok-extend_from_self-clause-ok : goal.returns-in-Ok-extend_from_self-clause-ok
-returns-in-Ok-extend_from_self-clause-ok g c = options_copied_range g.TC.Column.format g.V.Column.format (ranks_content view_bytes view_bytes view_bytes c.args.view.indexes) (g.V.Column.content c.args.view.somes) c.args.range.start c.args.range.«end» g.met.TC.Storage.lawful.same c.requires.sound c.requires.view_sound c.requires.ordered c.requires.in_range c.in-Ok-extend_from_self.ensures.ok (rw (c.rank-first.ensures.value, c.rank-last.ensures.value) at c.in-Ok.ensures.ok)
+returns-in-Ok-extend_from_self-clause-ok g c = options_copied_range g.TC.Column.format g.V.Column.format (ranks_content view_bytes view_bytes view_bytes c.args.view.indexes) (g.V.Column.content c.args.view.somes) c.args.range.start c.args.range.«end» g.met.TC.Truncate.lawful.same c.requires.sound c.requires.view_sound c.requires.ordered c.requires.in_range c.in-Ok-extend_from_self.ensures.ok (rw (c.rank-first.ensures.value, c.rank-last.ensures.value) at c.in-Ok.ensures.ok)
 
 pub returns-in-Err-extend_from_self-clause-err : goal.returns-in-Err-extend_from_self-clause-err
-returns-in-Err-extend_from_self-clause-err g c = options_refused_bits_range g.TC.Column.format g.V.Column.format (ranks_content view_bytes view_bytes view_bytes c.args.view.indexes) (g.V.Column.content c.args.view.somes) c.args.range.start c.args.range.«end» c.requires.sound c.requires.ordered c.in-Err-extend_from_self.ensures.err (undone g.met.TC.Storage.lawful (options_parts g.TC.Column.format c.requires.sound).values c.in-Ok.ensures.ok.took.grew (rw c.len-taken.ensures at c.truncate.ensures))
+returns-in-Err-extend_from_self-clause-err g c = options_refused_bits_range g.TC.Column.format g.V.Column.format (ranks_content view_bytes view_bytes view_bytes c.args.view.indexes) (g.V.Column.content c.args.view.somes) c.args.range.start c.args.range.«end» c.requires.sound c.requires.ordered c.in-Err-extend_from_self.ensures.err (undone g.met.TC.Truncate.lawful (options_parts g.TC.Column.format c.requires.sound).values c.in-Ok.ensures.ok.took.grew (rw c.len-taken.ensures at c.truncate.ensures))

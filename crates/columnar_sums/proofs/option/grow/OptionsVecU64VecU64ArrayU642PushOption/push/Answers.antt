@@ -12,13 +12,13 @@ pub returns-in-Err-clause-err : goal.returns-in-Err-clause-err
 returns-in-Err-clause-err g c = rw c.in-Some.is (options_refused_value g.TC.Column.format (g.T.Item.meaning c.in-Some.value) c.requires.sound c.in-Err.ensures.err)
 
 pub returns-in-Ok-push-clause-ok : goal.returns-in-Ok-push-clause-ok
-returns-in-Ok-push-clause-ok g c = rw c.in-Some.is (options_took_some g.TC.Column.format g.met.TC.Storage.lawful.same c.requires.sound c.in-Ok.ensures.ok c.in-Ok-push.ensures.ok)
+returns-in-Ok-push-clause-ok g c = rw c.in-Some.is (options_took_some g.TC.Column.format g.met.TC.Truncate.lawful.same c.requires.sound c.in-Ok.ensures.ok c.in-Ok-push.ensures.ok)
 
 pub returns-in-Err-push-clause-err : goal.returns-in-Err-push-clause-err
-returns-in-Err-push-clause-err g c = rw c.in-Some.is (options_refused_true g.TC.Column.format (g.T.Item.meaning c.in-Some.value) c.requires.sound c.in-Err-push.ensures.err (undone g.met.TC.Storage.lawful (options_parts g.TC.Column.format c.requires.sound).values c.in-Ok.ensures.ok.grew (rw c.len-before.ensures at c.truncate.ensures)))
+returns-in-Err-push-clause-err g c = rw c.in-Some.is (options_refused_true g.TC.Column.format (g.T.Item.meaning c.in-Some.value) c.requires.sound c.in-Err-push.ensures.err (undone g.met.TC.Truncate.lawful (options_parts g.TC.Column.format c.requires.sound).values c.in-Ok.ensures.ok.grew (rw c.len-before.ensures at c.truncate.ensures)))
 
 pub returns-in-Ok-push-2-clause-ok : goal.returns-in-Ok-push-2-clause-ok
-returns-in-Ok-push-2-clause-ok g c = rw c.in-None.is (options_took_none g.TC.Column.format g.met.TC.Storage.lawful.same c.requires.sound c.in-Ok-push-2.ensures.ok)
+returns-in-Ok-push-2-clause-ok g c = rw c.in-None.is (options_took_none g.TC.Column.format g.met.TC.Truncate.lawful.same c.requires.sound c.in-Ok-push-2.ensures.ok)
 
 pub returns-in-Err-push-2-clause-err : goal.returns-in-Err-push-2-clause-err
 returns-in-Err-push-2-clause-err g c = rw c.in-None.is (options_refused_false g.TC.Column.format c.requires.sound c.in-Err-push-2.ensures.err)

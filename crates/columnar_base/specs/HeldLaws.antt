@@ -1,0 +1,24 @@
+-- How many bytes a content holds, by its slices.
+use Rattle.std.proofs.Common.{◌≡◌, ℕ, zero, suc, ◌+◌, ◌≤◌, List, [], ◌∷◌, ◌++◌, length, take, drop, refl, sym, ◌∙◌, ap, arith}
+use Rattle.columnar_base.specs.Format.{Format, Content, slice, both, part, plain, IsStorable, slices_of, bytes_held, bytes_of_all}
+
+bytes-append : (xs ys : List (List ℕ)) → bytes_of_all (xs ++ ys) ≡ bytes_of_all xs + bytes_of_all ys
+bytes-append [] ys = omega arith
+bytes-append (x ∷ xs) ys = let h = bytes-append xs ys in omega (arith, h)
+
+-- the bytes of its slices
+pub held_slices : (c : Content) → bytes_held c ≡ bytes_of_all (slices_of c)
+held_slices (slice bs) = omega arith
+held_slices (both x y) = let h = bytes-append (slices_of x) (slices_of y) in omega (arith, h, held_slices x, held_slices y)
+held_slices (part l u x) = refl
+held_slices (plain rs) = refl
+
+-- What slices make, well formed or not, has just their bytes.
+pub held_built : (f : Format) (ss : List (List ℕ)) → IsStorable f → f.count ≤ length ss → bytes_held (f.build ss) ≡ bytes_of_all (take f.count ss)
+held_built f ss law l = held_slices (f.build ss) ∙ ap bytes_of_all (law.built ss l)
+
+-- some of the slices have no more bytes than all of them
+pub bytes_of_some : (n : ℕ) (ss : List (List ℕ)) → bytes_of_all (take n ss) ≤ bytes_of_all ss
+bytes_of_some zero ss = omega arith
+bytes_of_some (suc n) [] = omega arith
+bytes_of_some (suc n) (s ∷ ss) = let h = bytes_of_some n ss in omega (arith, h)

@@ -1,5 +1,0 @@
-use Rattle.columnar_primitive.specs.BoolLaws.{bools_parts, bools_took}
-use Rattle.columnar_primitive.proofs.bools.BoolsVecU64ArrayU642PushRefBoolImpl4a90872f.push.Goals as goal
-
-pub returns-in-Ok-clause-ok : goal.returns-in-Ok-clause-ok
-returns-in-Ok-clause-ok c = bools_took (record { sound = bools_parts c.push_bit.ensures.sound; bits = c.in-Ok.ensures.ok })

@@ -1,0 +1,15 @@
+use Rattle.columnar_primitive.specs.DurationLaws.{durations_parts, durations_stayed}
+use Rattle.columnar_base.specs.ChangeLaws.{unchanged}
+use Rattle.columnar_primitive.proofs.durations.DurationsReserve.reserve_room.Goals as goal
+
+pub reserve_room-requires : goal.reserve_room-requires
+reserve_room-requires g c = (durations_parts g.SC.Column.format g.NC.Column.format c.requires).left
+
+pub reserve_room-requires-2 : goal.reserve_room-requires-2
+reserve_room-requires-2 g c = (durations_parts g.SC.Column.format g.NC.Column.format c.requires).right
+
+pub returns-in_err-reserve_room-clause-stayed : goal.returns-in_err-reserve_room-clause-stayed
+returns-in_err-reserve_room-clause-stayed g c = durations_stayed g.SC.Column.format g.NC.Column.format c.requires c.reserve_room.ensures.stayed (unchanged (durations_parts g.SC.Column.format g.NC.Column.format c.requires).right)
+
+pub returns-clause-stayed : goal.returns-clause-stayed
+returns-clause-stayed g c = durations_stayed g.SC.Column.format g.NC.Column.format c.requires c.reserve_room.ensures.stayed c.reserve_room-2.ensures.stayed

@@ -1,6 +1,0 @@
-use Rattle.std.proofs.Common.{arith}
-use Rattle.columnar_primitive.specs.UnitLaws.{number_cut}
-use Rattle.columnar_primitive.proofs.empties.EmptiesU64Storage.truncate.Goals as goal
-
-pub returns : goal.returns
-returns c = number_cut c.args.self.now.count c.args.n (omega (arith, c.ranges.n)) c.requires.in_range

@@ -1,5 +1,0 @@
-use Rattle.columnar_sums.specs.RankChanges.{held_cut}
-use Rattle.columnar_sums.proofs.rank_select.grow.HeldStorage.truncate.Goals as goal
-
-pub returns : goal.returns
-returns c = held_cut c.args.self.now.counts.items c.truncate.new.self.items c.requires.sound c.truncate.ensures.items c.truncate-2.ensures c.requires.in_range

@@ -9,6 +9,7 @@ mod options;
 mod records;
 mod refused;
 mod stash;
+mod stores;
 mod values;
 mod worked;
 

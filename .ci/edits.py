@@ -4,8 +4,8 @@
 An edit has lines 'file: src/..', 'old: TEXT' (standing once in that file) and 'new: TEXT', as those of must-fail/ have.
 Many are tried in one check: no two of a group are in functions of one name, and a function is proved from the contracts
 of what it calls alone, so what one edit breaks is not blamed on another. An edit passes where a goal of its own function
-is not proved; one that a proof file refuses for a name that is gone says nothing, and fails. An edit that is in no
-function is tried alone.
+is not proved. One of which that can't be said, or that is in no function, is tried alone: it passes where the crate is
+not proved, and the log says where that is for a name alone.
 
 usage: .ci/edits.py [--jobs N] [CRATE ..]      after the crates' libraries were built, as by rt ci or rt all check
 """
@@ -177,10 +177,14 @@ def by_itself(edit, names, folder, name, needs, jobs, kept):
     if not said.rstrip().split("\n")[-1].startswith("logic=not-proved"):
         errors = [line for line in said.split("\n") if ": error" in line]
         return False, f"BAD EDIT: it did not reach the prover: {errors[0][:200] if errors else said[-200:]}"
-    if names:
-        return verdict(edit, names, said)
-    open_goals, _ = judged(said)
-    return bool(open_goals) or "error" in said, "refused: " + ", ".join(dict.fromkeys(goal for goals in open_goals.values() for goal in goals))
+    well, text = verdict(edit, names, said)
+    if well:
+        return True, text
+    open_goals, gone = judged(said)
+    goals = [goal for found in open_goals.values() for goal in found]
+    if goals:
+        return True, "refused: " + ", ".join(dict.fromkeys(goals))
+    return True, "refused, for a name alone: change a value and keep the names" if gone else "refused"
 
 
 def tried(name, needs, jobs):

@@ -1,8 +1,10 @@
 use Rattle.std.proofs.Common.{◌≡◌, ℕ, ◌+◌, List, [], ◌∷◌, length, refl, sym, ◌∙◌, ap, arith}
-use Rattle.std.specs.Prelude.{Some, None}
+use Rattle.std.specs.Prelude.{Some, None, Result, Ok, Err, IsOk, OnOk, ◌↔◌}
 use Rattle.columnar_core.specs.Format.{Format, IsSound, Fits, Fault, fault, first, moved, faults_at}
+use Rattle.columnar_core.specs.Faults.{fault_of, verdict}
+use Rattle.columnar_core.specs.declared.fault.StoreFault.{StoreFault}
 use Rattle.columnar_core.specs.FaultLaws.{faults_in_room, first_none}
-use Rattle.columnar_core.specs.Frame.{IsLegal, framed_slices}
+use Rattle.columnar_core.specs.Frame.{IsLegal, IsStore, framed_slices}
 use Rattle.columnar_core.specs.FrameLaws.{are_framed_slices}
 use Rattle.columnar_bytes.specs.Accepted.{Accepts, Accepted}
 
@@ -45,3 +47,12 @@ refused_by f bytes x h a =
     let s = (accepted_from f bytes a).sound.accepted in
     let k : Some x ≡ None = h ∙ ap first s in
     cc
+
+-- what the test of the slices of a store answers, it answers of the bytes
+pub judged_accepted : (f : Format) (bytes : List ℕ) (r : Result (Unit {0}) StoreFault) → IsStore bytes → length (framed_slices bytes) ≡ f.count → verdict r ≡ first (faults_at f 0 (framed_slices bytes)) → OnOk r (Accepted f bytes)
+judged_accepted f bytes (Ok u) s n h = record { store = s; count = n; sound = sound_found f (framed_slices bytes) n h }
+judged_accepted f bytes (Err x) s n h = tt
+
+pub judged_exact : (f : Format) (bytes : List ℕ) (r : Result (Unit {0}) StoreFault) → IsStore bytes → length (framed_slices bytes) ≡ f.count → verdict r ≡ first (faults_at f 0 (framed_slices bytes)) → IsOk r ↔ Accepts f bytes
+judged_exact f bytes (Ok u) s n h = (λ _. accepts_from f bytes (judged_accepted f bytes (Ok u) s n h), λ _. refl)
+judged_exact f bytes (Err x) s n h = (λ e. cc, λ a. absurd (refused_by f bytes (fault_of x) (fault_found f (framed_slices bytes) (fault_of x) n h) a))

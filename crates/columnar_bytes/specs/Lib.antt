@@ -6,6 +6,7 @@ pub mod TightLaws
 pub mod Written
 pub mod Accepted
 pub mod AcceptedLaws
+pub mod AlignedBytes
 pub mod Stashes
 pub mod FramedContent
 pub mod StashLaws

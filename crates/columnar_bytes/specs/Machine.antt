@@ -1,10 +1,12 @@
 -- The list machine: what commands mean, and what replies say of them.
-use Rattle.std.specs.Prelude.{ℕ, Bool, true, false, List, [], ◌∷◌, ◌++◌, take, drop, ◌-◌, ◌*◌, ◌^◌, ◌≤◌, ◌≡◌, length, ◌&&◌, nat_le}
+use Rattle.std.specs.Prelude.{ℕ, Bool, true, false, List, [], ◌∷◌, ◌++◌, take, drop, ◌-◌, ◌*◌, ◌^◌, ◌<◌, ◌≤◌, ◌≡◌, ◌≢◌, length, ◌&&◌, nat_le}
 use Rattle.columnar_core.specs.Row.{Row}
 use Rattle.columnar_core.specs.Format.{Format, Content, IsSound, all_alike, slices_of}
-use Rattle.columnar_core.specs.Change.{IsTrueOf}
-use Rattle.columnar_core.specs.Words.{words}
+use Rattle.columnar_core.specs.Change.{Took, Copied, WasCut, Stayed, IsTrueOf}
+use Rattle.columnar_core.specs.Frame.{framed_slices}
+use Rattle.columnar_core.specs.Words.{words, store_bytes}
 use Rattle.columnar_core.specs.declared.fault.GrowError.{GrowError}
+use Rattle.columnar_core.specs.declared.fault.GrowError.TheVariants.{Memory}
 use Rattle.columnar_core.specs.declared.fault.EncodeError.{EncodeError}
 use Rattle.columnar_core.specs.declared.fault.EncodeError.TheVariants.{Memory as NoMemory, Length as TooLong}
 use Rattle.columnar_bytes.specs.declared.stash.commands.Command.{Command}
@@ -84,50 +86,84 @@ can_refuse aligned make_typed = true
 can_refuse v make_aligned = false
 can_refuse v reopen = false
 
+-- the order adds rows of its own
+abbrev pub adds : Order → Bool
+adds (push r) = true
+adds (copy from to) = true
+adds _ = false
+
 -- the order makes an encoding; aligned bytes are one already
 abbrev pub encodes : Variant → Order → Bool
+encodes v reopen = true
 encodes typed make_aligned = true
 encodes bytes make_aligned = true
 encodes aligned make_aligned = false
-encodes v reopen = true
 encodes v _ = false
 
--- what a stash holds, and as which variant
+-- what a stash holds, as which variant, and the bytes that it writes
 pub record State : Type 0 where
   pub variant : Variant
   pub content : Content
+  pub written : List ℕ
 
--- The order was in range, and the machine's step was taken, up to alike; the variant is the order's.
+-- A well-formed column is held. Bytes hold what their slices make; all but bytes as they came write the encoding.
+pub record IsHeld (f : Format) (s : State) : Type 0 where
+  pub sound : IsSound f s.content
+  pub framed : s.variant ≢ typed → s.content ≡ f.build (framed_slices s.written)
+  pub encoded : s.variant ≢ bytes → s.written ≡ store_bytes (slices_of s.content)
+
+-- how a content becomes another by an order
+abbrev pub IsChange : Format → List Row → Content → Content → Order → Type 0
+IsChange f source old new (push r) = Took f old new (r ∷ [])
+IsChange f source old new clear = f.rows new ≡ []
+IsChange f source old new (copy from to) = Copied f old new from (take (to - from) (drop from source))
+IsChange f source old new (truncate n) = WasCut f old new n
+IsChange f source old new _ = new ≡ old
+
+-- The bytes of the content's encoding can be counted in 64 bits.
+abbrev pub IsCounted : Content → Type 0
+IsCounted c = 8 * length (words (slices_of c)) < 2 ^ 64
+
+-- The order was in range, and the machine's step was taken: the rows are the machine's up to alike, the content is
+-- what the order makes of it, the variant is the order's, and what is then written is the encoding.
 pub record IsStep (f : Format) (source : List Row) (old new : State) (order : Order) : Type 0 where
   pub within : in_range (length source) (length (f.rows old.content)) order ≡ true
   pub alike : all_alike f.alike (f.rows new.content) (act source (f.rows old.content) order) ≡ true
+  pub change : IsChange f source old.content new.content order
   pub variant : new.variant ≡ variant_after order
+  pub written : new.written ≡ store_bytes (slices_of new.content)
+  pub counted : encodes old.variant order ≡ true → IsCounted old.content
 
--- No row changed, nor the variant.
+-- Rows, lengths of all parts and variant are as before; bytes stay wholly as they were.
 pub record IsUnchanged (f : Format) (old new : State) : Type 0 where
-  pub rows : f.rows new.content ≡ f.rows old.content
+  pub stayed : Stayed f old.content new.content
   pub variant : new.variant ≡ old.variant
+  pub bytes : old.variant ≢ typed → new ≡ old
 
--- The order was in range, it is one that grows or loads a column, and the error is true of the rows.
+-- The order was in range, it is one that grows or loads a column, and the error is true of the rows; where no row
+-- would be added, it is want of memory, and all is as it was.
 pub record IsRefusedGrowth (f : Format) (source : List Row) (old new : State) (order : Order) (error : GrowError) : Type 0 where
   pub within : in_range (length source) (length (f.rows old.content)) order ≡ true
   pub unchanged : IsUnchanged f old new
   pub can : can_refuse old.variant order ≡ true
   pub cause : IsTrueOf error f old.content (added source order)
+  pub loads : adds order ≡ false → (error ≡ Memory) × (new ≡ old)
 
--- Length is true of an encoding whose bytes pass 2^64 - 1.
-abbrev pub IsTooLong : EncodeError → Content → Type 0
-IsTooLong NoMemory c = Unit {0}
-IsTooLong TooLong c = 2 ^ 64 ≤ 8 * length (words (slices_of c))
+-- Length stands for an encoding whose bytes pass 2^64 - 1, Memory for one that can be counted.
+abbrev pub IsCauseOf : EncodeError → Content → Type 0
+IsCauseOf NoMemory c = IsCounted c
+IsCauseOf TooLong c = 2 ^ 64 ≤ 8 * length (words (slices_of c))
 
+-- The order makes an encoding, the error is true of it, and all is as it was.
 pub record IsRefusedEncoding (f : Format) (old new : State) (order : Order) (error : EncodeError) : Type 0 where
-  pub unchanged : IsUnchanged f old new
+  pub same : new ≡ old
   pub can : encodes old.variant order ≡ true
-  pub cause : IsTooLong error old.content
+  pub cause : IsCauseOf error old.content
 
+-- The order was out of range, and all is as it was.
 pub record IsOutOfRange (f : Format) (source : List Row) (old new : State) (order : Order) : Type 0 where
   pub without : in_range (length source) (length (f.rows old.content)) order ≡ false
-  pub unchanged : IsUnchanged f old new
+  pub same : new ≡ old
 
 -- what a reply says of an order
 abbrev pub Answers : Format → List Row → State → State → Order → Reply → Type 0
@@ -139,6 +175,6 @@ Answers f source old new order (Refused (Encode e)) = IsRefusedEncoding f old ne
 -- One reply for each order, one after the other, each true of the well-formed column that was held then.
 abbrev pub Ran : Format → List Row → State → List Order → List Reply → State → Type 0
 Ran f source old [] [] new = new ≡ old
-Ran f source old (o ∷ os) (r ∷ rs) new = (mid : State) × (IsSound f mid.content × Answers f source old mid o r × Ran f source mid os rs new)
+Ran f source old (o ∷ os) (r ∷ rs) new = (mid : State) × (IsHeld f mid × Answers f source old mid o r × Ran f source mid os rs new)
 Ran f source old [] (r ∷ rs) new = ⊥
 Ran f source old (o ∷ os) [] new = ⊥

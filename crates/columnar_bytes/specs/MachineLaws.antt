@@ -4,10 +4,10 @@ use Rattle.std.proofs.lemmas.Option.{slice_get-map, slice_get_read}
 use Rattle.columnar_core.specs.ChangeLaws.{take-suc_get}
 use Rattle.columnar_bytes.specs.declared.stash.commands.Command.{Command}
 use Rattle.columnar_bytes.specs.declared.stash.commands.Reply.{Reply}
-use Rattle.columnar_bytes.specs.Machine.{State, Order, order_of, Answers, Ran}
+use Rattle.columnar_bytes.specs.Machine.{State, IsHeld, Order, order_of, Answers, Ran}
 use Rattle.std.proofs.lemmas.Bool.{and_parts, leb-true}
 use Rattle.columnar_core.specs.Row.{Row}
-use Rattle.columnar_core.specs.Format.{Format, Content, IsSound, IsLawful, all_alike}
+use Rattle.columnar_core.specs.Format.{Format, Content, IsLawful, all_alike}
 use Rattle.columnar_core.specs.Change.{Took}
 use Rattle.columnar_core.specs.AlikeLaws.{alike_all, all_alike-append}
 
@@ -25,13 +25,13 @@ pub same_alike : {f : Format} (rs ss : List Row) → IsLawful f → rs ≡ ss �
 same_alike {f} rs ss law e = rw e (alike_all f.alike law.same ss)
 
 -- one more command
-pub ran_more : (f : Format) (source : List Row) (old mid new : State) (os : List Order) (rs : List Reply) (o : Order) (r : Reply) → Ran f source old os rs mid → IsSound f new.content → Answers f source mid new o r → Ran f source old (os ++ o ∷ []) (rs ++ r ∷ []) new
+pub ran_more : (f : Format) (source : List Row) (old mid new : State) (os : List Order) (rs : List Reply) (o : Order) (r : Reply) → Ran f source old os rs mid → IsHeld f new → Answers f source mid new o r → Ran f source old (os ++ o ∷ []) (rs ++ r ∷ []) new
 ran_more f source old mid new [] [] o r p s a = (new, (s, rw p at a, refl))
 ran_more f source old mid new [] (x ∷ rs) o r p s a = absurd p
 ran_more f source old mid new (x ∷ os) [] o r p s a = absurd p
 ran_more f source old mid new (x ∷ os) (y ∷ rs) o r p s a = (p.0, (p.1.0, p.1.1, ran_more f source p.0 mid new os rs o r p.1.2 s a))
 
-pub run_more : {T : Type 0} (f : Format) (meaning : T → Row) (source : List Row) (old mid new : State) (cs : List (Command T)) (rs ss : List Reply) (i : ℕ) (c : Command T) (r : Reply) → i < length cs → c ≡ get_or cs i c → Ran f source old (take i (map (order_of meaning) cs)) rs mid → IsSound f new.content → Answers f source mid new (order_of meaning c) r → ss ≡ rs ++ r ∷ [] → Ran f source old (take (i + 1) (map (order_of meaning) cs)) ss new
+pub run_more : {T : Type 0} (f : Format) (meaning : T → Row) (source : List Row) (old mid new : State) (cs : List (Command T)) (rs ss : List Reply) (i : ℕ) (c : Command T) (r : Reply) → i < length cs → c ≡ get_or cs i c → Ran f source old (take i (map (order_of meaning) cs)) rs mid → IsHeld f new → Answers f source mid new (order_of meaning c) r → ss ≡ rs ++ r ∷ [] → Ran f source old (take (i + 1) (map (order_of meaning) cs)) ss new
 run_more f meaning source old mid new cs rs ss i c r l h p s a e =
     let g : slice_get cs i ≡ Some c = slice_get_read cs (length cs) i c refl l h in
     let m : slice_get (map (order_of meaning) cs) i ≡ Some (order_of meaning c) = rw (slice_get-map, g) refl in

@@ -11,12 +11,7 @@ abbrev pub IsLeftBy : {E : Type 0} → Option (List ℕ) → Option (List ℕ) �
 IsLeftBy old new slices Length = (2 ^ 64 ≤ 8 * length (words slices)) × Keeps old new
 IsLeftBy old new slices (Writer e) = (8 * length (words slices) < 2 ^ 64) × AppendsBeginning old new (store_bytes slices)
 
--- The same of any bytes.
+-- the same of any bytes
 abbrev pub IsLeftOf : {E : Type 0} → Option (List ℕ) → Option (List ℕ) → List ℕ → WriteFault E → Type 0
 IsLeftOf old new bytes Length = (2 ^ 64 ≤ length bytes) × Keeps old new
-IsLeftOf old new bytes (Writer e) = AppendsBeginning old new bytes
-
--- `Length` stands for bytes that can't be counted in 64 bits, `Writer` for a fault of the writer alone
-abbrev pub IsCause : {E : Type 0} → List (List ℕ) → WriteFault E → Type 0
-IsCause slices Length = 2 ^ 64 ≤ 8 * length (words slices)
-IsCause slices (Writer e) = 8 * length (words slices) < 2 ^ 64
+IsLeftOf old new bytes (Writer e) = (length bytes < 2 ^ 64) × AppendsBeginning old new bytes

@@ -9,7 +9,6 @@ mod decoding;
 mod encoding;
 pub mod laws;
 mod lengths;
-pub mod reopen;
 mod slices;
 mod structure;
 mod validation;

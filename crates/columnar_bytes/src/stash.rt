@@ -4,6 +4,7 @@ ghost use Rattle.columnar_core.specs.Format.{representable};
 ghost use Rattle.columnar_core.specs.Frame.{framed_slices};
 ghost use Rattle.columnar_bytes.specs.Accepted.{Accepted};
 
+mod aligned;
 mod clone;
 mod commands;
 mod convert;
@@ -11,6 +12,7 @@ mod framed;
 mod grow;
 mod read;
 
+pub use aligned::AlignedBytes;
 use columnar_core::bytes::Stored;
 use columnar_core::store::DecodedStore;
 use columnar_core::traits::{Column, Len};
@@ -108,7 +110,7 @@ pub enum Stash<C: Stored, B: ByteStore> {
     /// Bytes that were accepted.
     Bytes(Checked<C, B>),
     /// The bytes of an encoding: zeros between the slices, and nothing behind them.
-    Align(Checked<C, RcSlice<u8>>),
+    Align(Checked<C, AlignedBytes>),
 }
 
 impl<C: Stored, B: ByteStore> Column for Stash<C, B> {

@@ -1,15 +1,29 @@
 //! Laws of stores that frame slices. Each call does nothing when it runs; its contract is the law.
-ghost use Rattle.std.specs.Prelude.{ℕ, List, [], ◌≡◌, ◌<◌, ◌*◌, ◌^◌, length, slice_index_or};
+ghost use Rattle.std.specs.Prelude.{ℕ, List, [], ◌≡◌, ◌<◌, ◌*◌, ◌^◌, length, slice_index_or, IsTrue};
 ghost use Rattle.columnar_core.specs.Bytes.{AreBytes, le_bytes};
+ghost use Rattle.columnar_core.specs.Format.{representable, slices_of};
 ghost use Rattle.columnar_core.specs.Frame.{Frame, IsLegal, IsStore, framed_slices};
 ghost use Rattle.columnar_bytes.specs.Tight.{FramesTightly};
 ghost use Rattle.columnar_core.specs.Words.{words, store_bytes};
+
+use super::slices::{byte_slice, slice_count};
+use columnar_core::bytes::AsBytes;
 
 /// A store frames at most one list of slices.
 #[tactic(auto, using(columnar_core::specs::FrameLaws::frames_one))]
 pub fn frames_once()
     ensures { (bytes : List ℕ) (xs ys : List (List ℕ)) → Frame bytes xs → Frame bytes ys → xs ≡ ys }
 {}
+
+/// Each number in a column's slices is a byte. Asks that the type is representable.
+pub fn holds_bytes<'a, S: AsBytes<'a>>(item: &S)
+    requires { IsTrue (representable S.format) }
+    ensures { (i : ℕ) → AreBytes (slice_index_or (slices_of (S.content item.now)) i []) }
+{
+    for i in 0..slice_count(item) {
+        byte_slice(item, i).holds_bytes();
+    }
+}
 
 /// The words that are encoded, as bytes, frame the slices and nothing else.
 pub fn words_are_framed()

@@ -15,10 +15,7 @@ pub fn validate_structure(bytes: &[u8], expected: usize) -> Result<(), StoreFaul
     ensures store { OnOk result (IsStore bytes.now) }
     ensures count { OnOk result (length (framed_slices bytes.now) ≡ expected) }
 {
-    match validate_structure_tallied(bytes, expected, &mut Tally::new()) {
-        Ok(()) => Ok(()),
-        Err(fault) => Err(fault),
-    }
+    validate_structure_tallied(bytes, expected, &mut Tally::new())
 }
 
 /// As `validate_structure`; the turns that it takes are added to the tally: fewer than the bytes have words, whatever

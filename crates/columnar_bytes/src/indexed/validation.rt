@@ -19,10 +19,7 @@ pub fn validate<T: Stored>(bytes: &[u8]) -> Result<(), StoreFault>
     ensures fault { IfErr result (IsFirstFault T.format bytes.now) }
     ensures accepted { OnOk result (Accepted T.format bytes.now) }
 {
-    match validate_tallied::<T, Plain>(bytes, &mut Tally::new()) {
-        Ok(()) => Ok(()),
-        Err(fault) => Err(fault),
-    }
+    validate_tallied::<T, Plain>(bytes, &mut Tally::new())
 }
 
 /// As `validate`; the turns that it takes are added to the tally: at most one for each word of the bytes, and 16 for
@@ -34,13 +31,7 @@ pub fn validate_tallied<T: Stored, L>(bytes: &[u8], tally: &mut Tally<L>) -> Res
     ensures accepted { OnOk result (Accepted T.format bytes.now) }
     ensures turns { tally.new.turns ≤ tally.old.turns + (length bytes.now / 8 + 16 * bytes_of_all (framed_slices bytes.now)) }
 {
-    match validate_structure_tallied(bytes, T::slice_count(), tally) {
-        Ok(()) => {}
-        Err(fault) => return Err(fault),
-    }
+    validate_structure_tallied(bytes, T::slice_count(), tally)?;
     let mut offset = 0;
-    match T::validate_tallied(&DecodedStore::new(bytes), &mut offset, tally) {
-        Ok(()) => Ok(()),
-        Err(fault) => Err(fault),
-    }
+    T::validate_tallied(&DecodedStore::new(bytes), &mut offset, tally)
 }

@@ -49,10 +49,8 @@ fn write_all_slices<'a, W: WriteBytes, S: AsBytes<'a>>(
     ensures ok { OnOk result (Appends (W.contents writer.old) (W.contents writer.new) (store_bytes (slices_of (S.content item.now)))) }
     ensures err { OnErr result (AppendsBeginning (W.contents writer.old) (W.contents writer.new) (store_bytes (slices_of (S.content item.now)))) }
 {
-    match write_table(writer, item) {
-        Ok(()) => write_slices(writer, item),
-        Err(fault) => Err(fault),
-    }
+    write_table(writer, item)?;
+    write_slices(writer, item)
 }
 
 fn write_table<'a, W: WriteBytes, S: AsBytes<'a>>(writer: &mut W, item: &S) -> Result<(), W::Error>
@@ -63,16 +61,10 @@ fn write_table<'a, W: WriteBytes, S: AsBytes<'a>>(writer: &mut W, item: &S) -> R
 {
     let count = slice_count(item);
     let mut start = 8 * (count + 1);
-    match write_word(writer, start as u64) {
-        Ok(()) => {}
-        Err(fault) => return Err(fault),
-    }
+    write_word(writer, start as u64)?;
     for i in 0..count {
         let end = start + byte_slice(item, i).len();
-        match write_word(writer, end as u64) {
-            Ok(()) => {}
-            Err(fault) => return Err(fault),
-        }
+        write_word(writer, end as u64)?;
         start = round_up(end);
     }
     Ok(())
@@ -91,10 +83,7 @@ fn write_slices<'a, W: WriteBytes, S: AsBytes<'a>>(writer: &mut W, item: &S) -> 
     ensures err { OnErr result (AppendsBeginning (W.contents writer.old) (W.contents writer.new) (flat_map padded (slices_of (S.content item.now)))) }
 {
     for i in 0..slice_count(item) {
-        match write_padded(writer, byte_slice(item, i)) {
-            Ok(()) => {}
-            Err(fault) => return Err(fault),
-        }
+        write_padded(writer, byte_slice(item, i))?;
     }
     Ok(())
 }
@@ -103,10 +92,7 @@ fn write_padded<W: WriteBytes>(writer: &mut W, slice: ByteSlice<'_>) -> Result<(
     ensures ok { OnOk result (Appends (W.contents writer.old) (W.contents writer.new) (padded (bytes_in slice.entry))) }
     ensures err { OnErr result (AppendsBeginning (W.contents writer.old) (W.contents writer.new) (padded (bytes_in slice.entry))) }
 {
-    match slice.write(writer) {
-        Ok(()) => {}
-        Err(fault) => return Err(fault),
-    }
+    slice.write(writer)?;
     write_zeros(writer, (8 - slice.len() % 8) % 8)
 }
 

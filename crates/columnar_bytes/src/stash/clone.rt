@@ -14,14 +14,12 @@ impl<C: Stored, B: ByteStore> Clone for Checked<C, B> {
     ghost is_clone = { λ k l. checked_bytes l ≡ checked_bytes k };
 
     fn clone(&self) -> Result<Self, AllocError> {
-        match self.store.clone_store() {
-            Ok(store) => Ok(Checked {
-                alloc: self.alloc,
-                store,
-                of: PhantomData,
-            }),
-            Err(error) => Err(error),
-        }
+        let store = self.store.clone_store()?;
+        Ok(Checked {
+            alloc: self.alloc,
+            store,
+            of: PhantomData,
+        })
     }
 }
 
@@ -32,37 +30,26 @@ impl<C: Stored + Clone, B: ByteStore> Clone for Stash<C, B> {
 
     fn clone(&self) -> Result<Self, AllocError> {
         match self {
-            Stash::Typed(column) => match column.clone() {
-                Ok(copy) => Ok(Stash::Typed(copy)),
-                Err(error) => Err(error),
-            },
-            Stash::Bytes(checked) => match checked.clone() {
-                Ok(copy) => Ok(Stash::Bytes(copy)),
-                Err(error) => Err(error),
-            },
-            Stash::Align(checked) => match checked.clone() {
-                Ok(copy) => Ok(Stash::Align(copy)),
-                Err(error) => Err(error),
-            },
+            Stash::Typed(column) => Ok(Stash::Typed(column.clone()?)),
+            Stash::Bytes(checked) => Ok(Stash::Bytes(checked.clone()?)),
+            Stash::Align(checked) => Ok(Stash::Align(checked.clone()?)),
         }
     }
 }
 
 impl<C: Stored + Storage, B: ByteStore> Stash<C, B> {
-    ghost use Rattle.columnar_bytes.specs.Stashes.{stash_content, variant_of};
+    ghost use Rattle.columnar_bytes.specs.Stashes.{stash_content, variant_of, written_bytes};
 
-    /// A stash of the same variant, with the same rows and slices; want of memory alone refuses it. What a clone keeps
-    /// of a column is what the column's `clone` says.
+    /// A stash of the same variant, with the same rows and slices, that writes the same bytes; want of memory alone
+    /// refuses it. What a clone keeps of a column is what the column's `clone` says.
     pub fn duplicate(&self, alloc: Global) -> Result<Self, GrowError>
         ensures variant { IfOk result (λ s. variant_of s ≡ variant_of self.now) }
         ensures content { IfOk result (λ s. stash_content s ≡ stash_content self.now) }
+        ensures written { IfOk result (λ s. written_bytes s ≡ written_bytes self.now) }
         ensures memory { IfErr result (λ e. e ≡ GrowError.Memory) }
     {
         match self {
-            Stash::Typed(column) => match column.duplicate(alloc) {
-                Ok(same) => Ok(Stash::Typed(same)),
-                Err(error) => Err(error),
-            },
+            Stash::Typed(column) => Ok(Stash::Typed(column.duplicate(alloc)?)),
             Stash::Bytes(checked) => match checked.clone() {
                 Ok(same) => Ok(Stash::Bytes(same)),
                 Err(_) => Err(GrowError::Memory),

@@ -5,7 +5,7 @@ ghost use Rattle.columnar_core.specs.Frame.{framed_slices};
 ghost use Rattle.columnar_core.specs.Words.{words, store_bytes};
 ghost use Rattle.columnar_bytes.specs.Accepted.{Accepted};
 
-use super::{ByteStore, Checked, Stash};
+use super::{AlignedBytes, ByteStore, Checked, Stash};
 use crate::indexed::{length_in_bytes, write};
 use columnar_core::bytes::{AsBytes, Stored};
 use columnar_core::container::{ContainerBytes, Storage};
@@ -14,7 +14,6 @@ use columnar_core::owned::Owned;
 use columnar_core::store::DecodedStore;
 use std::alloc::Global;
 use std::marker::PhantomData;
-use std::rc::RcSlice;
 
 impl<C: ContainerBytes, B: ByteStore> Checked<C, B> {
     ghost use Rattle.columnar_bytes.specs.Stashes.{checked_bytes};
@@ -26,6 +25,24 @@ impl<C: ContainerBytes, B: ByteStore> Checked<C, B> {
         ensures memory { IfErr result (λ e. e ≡ GrowError.Memory) }
     {
         C::load(alloc, &DecodedStore::new(self.bytes()), 0)
+    }
+}
+
+impl<C: ContainerBytes, B: ByteStore> Stash<C, B> {
+    ghost use Rattle.columnar_bytes.specs.Stashes.{stash_content, variant_of, typed};
+
+    // The column in the bytes, loaded aside.
+    pub(super) fn aside(&self) -> Result<C, GrowError>
+        requires bytes { variant_of self.now ≢ typed }
+        ensures content { IfOk result (λ c. C.content c ≡ stash_content self.now) }
+        ensures sound { IfOk result (λ c. IsSound C.format (C.content c)) }
+        ensures memory { IfErr result (λ e. e ≡ GrowError.Memory) }
+    {
+        match self {
+            Stash::Bytes(checked) => checked.load(checked.alloc),
+            Stash::Align(checked) => checked.load(checked.alloc),
+            Stash::Typed(_) => unreachable!(),
+        }
     }
 }
 
@@ -60,10 +77,10 @@ fn encoding<'a, S: AsBytes<'a>>(alloc: Global, item: &S) -> Result<Vec<u8>, Enco
     if bytes.reserve(count).is_err() {
         return Err(EncodeError::Memory);
     }
-    match write(&mut bytes, item) {
-        Ok(()) => Ok(bytes),
-        Err(_) => Err(EncodeError::Memory),
+    if write(&mut bytes, item).is_err() {
+        return Err(EncodeError::Memory);
     }
+    Ok(bytes)
 }
 
 impl<C: ContainerBytes + Storage, B: ByteStore> Stash<C, B> {
@@ -75,10 +92,8 @@ impl<C: ContainerBytes + Storage, B: ByteStore> Stash<C, B> {
         ensures content { IfOk result (λ s. stash_content s ≡ stash_content self.now) }
         ensures memory { IfErr result (λ e. e ≡ GrowError.Memory) }
     {
-        match self.loaded(alloc) {
-            Ok(column) => Ok(Stash::Typed(column)),
-            Err(error) => Err(error),
-        }
+        let column = self.loaded(alloc)?;
+        Ok(Stash::Typed(column))
     }
 
     // A column with the same rows and slices.
@@ -87,18 +102,9 @@ impl<C: ContainerBytes + Storage, B: ByteStore> Stash<C, B> {
         ensures memory { IfErr result (λ e. e ≡ GrowError.Memory) }
     {
         match self {
-            Stash::Typed(column) => match column.duplicate(alloc) {
-                Ok(column) => Ok(column),
-                Err(error) => Err(error),
-            },
-            Stash::Bytes(checked) => match checked.load(alloc) {
-                Ok(column) => Ok(column),
-                Err(error) => Err(error),
-            },
-            Stash::Align(checked) => match checked.load(alloc) {
-                Ok(column) => Ok(column),
-                Err(error) => Err(error),
-            },
+            Stash::Typed(column) => column.duplicate(alloc),
+            Stash::Bytes(checked) => checked.load(alloc),
+            Stash::Align(checked) => checked.load(alloc),
         }
     }
 }
@@ -115,10 +121,7 @@ impl<C: ContainerBytes + Drop, B: ByteStore> Stash<C, B> {
         ensures content { IfOk result (λ c. C.content c.now ≡ stash_content self.old) }
         ensures memory { IfErr result (λ e. e ≡ GrowError.Memory) }
     {
-        match self.load_in_place() {
-            Ok(()) => {}
-            Err(error) => return Err(error),
-        }
+        self.load_in_place()?;
         match self {
             Stash::Typed(column) => Ok(column),
             Stash::Bytes(_) => unreachable!(),
@@ -134,18 +137,12 @@ impl<C: ContainerBytes + Drop, B: ByteStore> Stash<C, B> {
         ensures bytes { OnErr result (variant_of self.old ≢ typed) }
         ensures memory { IfErr result (λ e. e ≡ GrowError.Memory) }
     {
-        let loaded = match self {
-            Stash::Typed(_) => return Ok(()),
-            Stash::Bytes(checked) => checked.load(checked.alloc),
-            Stash::Align(checked) => checked.load(checked.alloc),
-        };
-        match loaded {
-            Ok(column) => {
-                *self = Stash::Typed(column);
-                Ok(())
-            }
-            Err(error) => Err(error),
+        if let Stash::Typed(_) = self {
+            return Ok(());
         }
+        let column = self.aside()?;
+        *self = Stash::Typed(column);
+        Ok(())
     }
 }
 
@@ -176,25 +173,21 @@ impl<C: ContainerBytes, B: ByteStore> Stash<C, B> {
         ensures content { IfOk result (λ s. stash_content s ≡ stash_content self.now) }
         ensures length { (result ≡ Err EncodeError.Length) ↔ (2 ^ 64 ≤ 8 * length (words (slices_of (stash_content self.now)))) }
     {
-        match self.aligned(alloc) {
-            Ok(checked) => Ok(Stash::Align(checked)),
-            Err(error) => Err(error),
-        }
+        let checked = self.aligned(alloc)?;
+        Ok(Stash::Align(checked))
     }
 
     // The bytes of the encoding, shared.
-    fn aligned(&self, alloc: Global) -> Result<Checked<C, RcSlice<u8>>, EncodeError>
+    fn aligned(&self, alloc: Global) -> Result<Checked<C, AlignedBytes>, EncodeError>
         requires representable { IsTrue (representable C.format) }
         requires sound { IsSound C.format (stash_content self.now) }
         ensures bytes { IfOk result (λ k. checked_bytes k ≡ store_bytes (slices_of (stash_content self.now))) }
         ensures content { IfOk result (λ k. C.format.build (framed_slices (checked_bytes k)) ≡ stash_content self.now) }
+        ensures counted { OnOk result (8 * length (words (slices_of (stash_content self.now))) < 2 ^ 64) }
         ensures length { (result ≡ Err EncodeError.Length) ↔ (2 ^ 64 ≤ 8 * length (words (slices_of (stash_content self.now)))) }
     {
-        let bytes = match self.encoded(alloc) {
-            Ok(bytes) => bytes,
-            Err(error) => return Err(error),
-        };
-        match RcSlice::from_vec(bytes) {
+        let bytes = self.encoded(alloc)?;
+        match AlignedBytes::share(bytes) {
             Ok(store) => Ok(Checked::accept(alloc, store)),
             Err(_) => Err(EncodeError::Memory),
         }
@@ -208,22 +201,19 @@ impl<C: ContainerBytes + Drop, B: ByteStore> Stash<C, B> {
     ghost use Rattle.columnar_bytes.specs.declared.stash.Stash.TheVariants.{Align};
 
     /// The bytes of the encoding, with zeros between the slices and nothing behind them, which the stash then holds: bytes
-    /// of the same rows. Where it is of the variant `Align` already, they are its bytes as they are. Refused with `Length`
-    /// exactly where these bytes would be made and would pass 2^64 - 1; a refusal leaves the stash as it was.
-    pub fn make_aligned(&mut self, alloc: Global) -> Result<&Checked<C, RcSlice<u8>>, EncodeError>
+    /// of the same rows. Where it is of the variant `Align` it holds them already, and is never refused. Refused with
+    /// `Length` exactly where these bytes would pass 2^64 - 1; a refusal leaves the stash as it was.
+    pub fn make_aligned(&mut self, alloc: Global) -> Result<&Checked<C, AlignedBytes>, EncodeError>
         requires representable { IsTrue (representable C.format) }
         requires sound { IsSound C.format (stash_content self.old) }
         ensures* held { sem 𝓛 (ends_as C.row B.row C.Column B.ByteStore self.entry (λ n. MatchResult result (λ r. n ≡ Align r.now) (λ _. n ≡ self.old))) }
-        ensures bytes { IfOk result (λ r. variant_of self.old ≢ aligned → checked_bytes r.now ≡ store_bytes (slices_of (stash_content self.old))) }
+        ensures bytes { IfOk result (λ r. checked_bytes r.now ≡ store_bytes (slices_of (stash_content self.old))) }
         ensures kept { IfOk result (λ r. variant_of self.old ≡ aligned → self.old ≡ Align r.now) }
         ensures content { IfOk result (λ r. C.format.build (framed_slices (checked_bytes r.now)) ≡ stash_content self.old) }
         ensures done { OnErr result (variant_of self.old ≢ aligned) }
-        ensures length { (result ≡ Err EncodeError.Length) ↔ ((variant_of self.old ≢ aligned) × (2 ^ 64 ≤ 8 * length (words (slices_of (stash_content self.old))))) }
+        ensures length { (result ≡ Err EncodeError.Length) ↔ (2 ^ 64 ≤ 8 * length (words (slices_of (stash_content self.old)))) }
     {
-        match self.align_in_place(alloc) {
-            Ok(()) => {}
-            Err(error) => return Err(error),
-        }
+        self.align_in_place(alloc)?;
         match self {
             Stash::Align(checked) => Ok(checked),
             Stash::Typed(_) => unreachable!(),
@@ -236,47 +226,40 @@ impl<C: ContainerBytes + Drop, B: ByteStore> Stash<C, B> {
         requires representable { IsTrue (representable C.format) }
         requires sound { IsSound C.format (stash_content self.old) }
         ensures variant { OnOk result (variant_of self.new ≡ aligned) }
-        ensures bytes { OnOk result (variant_of self.old ≢ aligned → HoldsBytes self.new (store_bytes (slices_of (stash_content self.old)))) }
+        ensures bytes { OnOk result (HoldsBytes self.new (store_bytes (slices_of (stash_content self.old)))) }
+        ensures counted { OnOk result (8 * length (words (slices_of (stash_content self.old))) < 2 ^ 64) }
         ensures kept { variant_of self.old ≡ aligned → self.new ≡ self.old }
         ensures content { stash_content self.new ≡ stash_content self.old }
         ensures stays { OnErr result (self.new ≡ self.old) }
         ensures done { OnErr result (variant_of self.old ≢ aligned) }
-        ensures length { (result ≡ Err EncodeError.Length) ↔ ((variant_of self.old ≢ aligned) × (2 ^ 64 ≤ 8 * length (words (slices_of (stash_content self.old))))) }
+        ensures length { (result ≡ Err EncodeError.Length) ↔ (2 ^ 64 ≤ 8 * length (words (slices_of (stash_content self.old)))) }
     {
-        let made = match self {
-            Stash::Align(_) => return Ok(()),
-            Stash::Typed(_) => self.aligned(alloc),
-            Stash::Bytes(_) => self.aligned(alloc),
-        };
-        match made {
-            Ok(checked) => {
-                *self = Stash::Align(checked);
-                Ok(())
-            }
-            Err(error) => Err(error),
+        if let Stash::Align(_) = self {
+            return Ok(());
         }
+        let checked = self.aligned(alloc)?;
+        *self = Stash::Align(checked);
+        Ok(())
     }
 }
 
 impl<C: ContainerBytes + Drop> Stash<C, Vec<u8>> {
-    ghost use Rattle.columnar_bytes.specs.Stashes.{stash_content, variant_of, bytes};
+    ghost use Rattle.columnar_bytes.specs.Stashes.{stash_content, variant_of, bytes, HoldsBytes};
 
     // The stash, written to new bytes and opened.
     pub(super) fn reopen(&mut self, alloc: Global) -> Result<(), EncodeError>
         requires representable { IsTrue (representable C.format) }
         requires sound { IsSound C.format (stash_content self.old) }
         ensures variant { OnOk result (variant_of self.new ≡ bytes) }
+        ensures bytes { OnOk result (HoldsBytes self.new (store_bytes (slices_of (stash_content self.old)))) }
+        ensures counted { OnOk result (8 * length (words (slices_of (stash_content self.old))) < 2 ^ 64) }
         ensures content { stash_content self.new ≡ stash_content self.old }
         ensures stays { OnErr result (self.new ≡ self.old) }
-        ensures length { result ≡ Err EncodeError.Length → 2 ^ 64 ≤ 8 * length (words (slices_of (stash_content self.old))) }
+        ensures length { (result ≡ Err EncodeError.Length) ↔ (2 ^ 64 ≤ 8 * length (words (slices_of (stash_content self.old)))) }
     {
-        match self.encoded(alloc) {
-            Ok(store) => {
-                let checked = Checked::accept(alloc, store);
-                *self = Stash::Bytes(checked);
-                Ok(())
-            }
-            Err(error) => Err(error),
-        }
+        let store = self.encoded(alloc)?;
+        let checked = Checked::accept(alloc, store);
+        *self = Stash::Bytes(checked);
+        Ok(())
     }
 }

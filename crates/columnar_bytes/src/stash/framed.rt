@@ -66,10 +66,7 @@ impl<'v, C: Stored> Stored for Framed<'v, C> {
         ensures err { OnErr result (sizes.new.items ≡ sizes.old.items) }
         ensures memory { IfErr result (λ e. e ≡ GrowError.Memory) }
     {
-        match C::element_sizes(sizes) {
-            Ok(()) => Ok(()),
-            Err(error) => Err(error),
-        }
+        C::element_sizes(sizes)
     }
 
     fn judge_tallied<L>(
@@ -82,10 +79,7 @@ impl<'v, C: Stored> Stored for Framed<'v, C> {
         ensures exact { verdict result ≡ first (moved offset (C.format.broken (C.format.build (drop offset (slices_in store.now))))) }
         ensures turns { tally.new.turns ≤ tally.old.turns + C.format.turns * bytes_held (C.format.build (drop offset (slices_in store.now))) }
     {
-        match C::judge_tallied(store, offset, tally) {
-            Ok(()) => Ok(()),
-            Err(fault) => Err(fault),
-        }
+        C::judge_tallied(store, offset, tally)
     }
 
     fn rows_in(store: &DecodedStore<'_>, offset: usize) -> usize

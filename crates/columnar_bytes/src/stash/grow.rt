@@ -38,7 +38,8 @@ impl<C: Stored + Storage, B: ByteStore> Clear for Stash<C, B> {
 impl<T: Item + Drop, C: ContainerBytes + Drop + Push<T>, B: ByteStore> Push<T> for Stash<C, B> {
     ghost use Rattle.columnar_bytes.specs.Stashes.{stash_content, variant_of, typed};
 
-    /// Pushes into the column; want of memory for the loaded column refuses too. A refusal leaves the variant.
+    /// Pushes into the column; want of memory for the loaded column refuses too. A refusal leaves the variant, and bytes
+    /// as they were.
     fn push(&mut self, item: T) -> Result<(), GrowError>
         requires sound { IsSound C.format (stash_content self.old) }
         requires valid { T.valid item }
@@ -46,28 +47,15 @@ impl<T: Item + Drop, C: ContainerBytes + Drop + Push<T>, B: ByteStore> Push<T> f
         ensures err { IfErr result (λ e. Refused C.format (stash_content self.old) (stash_content self.new) (T.meaning item ∷ []) e) }
         ensures typed { OnOk result (variant_of self.new ≡ typed) }
         ensures variant { OnErr result (variant_of self.new ≡ variant_of self.old) }
+        ensures bytes { OnErr result (variant_of self.old ≢ typed → self.new ≡ self.old) }
     {
-        let loaded = match self {
-            Stash::Typed(column) => {
-                return match column.push(item) {
-                    Ok(()) => Ok(()),
-                    Err(error) => Err(error),
-                };
-            }
-            Stash::Bytes(checked) => checked.load(checked.alloc),
-            Stash::Align(checked) => checked.load(checked.alloc),
-        };
-        let mut column = match loaded {
-            Ok(column) => column,
-            Err(error) => return Err(error),
-        };
-        match column.push(item) {
-            Ok(()) => {
-                *self = Stash::Typed(column);
-                Ok(())
-            }
-            Err(error) => Err(error),
+        if let Stash::Typed(column) = self {
+            return column.push(item);
         }
+        let mut column = self.aside()?;
+        column.push(item)?;
+        *self = Stash::Typed(column);
+        Ok(())
     }
 }
 
@@ -82,28 +70,15 @@ impl<T: Item, C: ContainerBytes + Drop + PushRef<T>, B: ByteStore> PushRef<T> fo
         ensures err { IfErr result (λ e. Refused C.format (stash_content self.old) (stash_content self.new) (T.meaning item.now ∷ []) e) }
         ensures typed { OnOk result (variant_of self.new ≡ typed) }
         ensures variant { OnErr result (variant_of self.new ≡ variant_of self.old) }
+        ensures bytes { OnErr result (variant_of self.old ≢ typed → self.new ≡ self.old) }
     {
-        let loaded = match self {
-            Stash::Typed(column) => {
-                return match column.push_ref(item) {
-                    Ok(()) => Ok(()),
-                    Err(error) => Err(error),
-                };
-            }
-            Stash::Bytes(checked) => checked.load(checked.alloc),
-            Stash::Align(checked) => checked.load(checked.alloc),
-        };
-        let mut column = match loaded {
-            Ok(column) => column,
-            Err(error) => return Err(error),
-        };
-        match column.push_ref(item) {
-            Ok(()) => {
-                *self = Stash::Typed(column);
-                Ok(())
-            }
-            Err(error) => Err(error),
+        if let Stash::Typed(column) = self {
+            return column.push_ref(item);
         }
+        let mut column = self.aside()?;
+        column.push_ref(item)?;
+        *self = Stash::Typed(column);
+        Ok(())
     }
 }
 
@@ -124,14 +99,12 @@ impl<C: ContainerBytes, B: ByteStore> Stash<C, B> {
         ensures rows { IfOk result (λ s. C.format.rows (stash_content s) ≡ []) }
         ensures memory { IfErr result (λ e. e ≡ GrowError.Memory) }
     {
-        match C::with_capacity_for(alloc, views) {
-            Ok(column) => Ok(Stash::Typed(column)),
-            Err(error) => Err(error),
-        }
+        let column = C::with_capacity_for(alloc, views)?;
+        Ok(Stash::Typed(column))
     }
 
     /// Makes room for the rows of the views in the column; the rows stay. Want of memory alone refuses it, and leaves
-    /// the variant.
+    /// the variant, and bytes as they were.
     pub fn reserve_for<V: Column + Copy, I: Iterator<Item = V> + Drop>(
         &mut self,
         views: I,
@@ -144,33 +117,20 @@ impl<C: ContainerBytes, B: ByteStore> Stash<C, B> {
         ensures stayed { Stayed C.format (stash_content self.old) (stash_content self.new) }
         ensures typed { OnOk result (variant_of self.new ≡ typed) }
         ensures variant { OnErr result (variant_of self.new ≡ variant_of self.old) }
+        ensures bytes { OnErr result (variant_of self.old ≢ typed → self.new ≡ self.old) }
         ensures memory { IfErr result (λ e. e ≡ GrowError.Memory) }
     {
-        let loaded = match self {
-            Stash::Typed(column) => {
-                return match column.reserve_for(views) {
-                    Ok(()) => Ok(()),
-                    Err(error) => Err(error),
-                };
-            }
-            Stash::Bytes(checked) => checked.load(checked.alloc),
-            Stash::Align(checked) => checked.load(checked.alloc),
-        };
-        let mut column = match loaded {
-            Ok(column) => column,
-            Err(error) => return Err(error),
-        };
-        match column.reserve_for(views) {
-            Ok(()) => {
-                *self = Stash::Typed(column);
-                Ok(())
-            }
-            Err(error) => Err(error),
+        if let Stash::Typed(column) = self {
+            return column.reserve_for(views);
         }
+        let mut column = self.aside()?;
+        column.reserve_for(views)?;
+        *self = Stash::Typed(column);
+        Ok(())
     }
 
     /// Adds rows that are alike to the rows of the range, or none of them, as the column's own call; a refusal leaves
-    /// the variant.
+    /// the variant, and bytes as they were.
     pub fn extend_from_self<V: Column + Copy>(
         &mut self,
         view: V,
@@ -186,28 +146,15 @@ impl<C: ContainerBytes, B: ByteStore> Stash<C, B> {
         ensures err { IfErr result (λ e. Refused C.format (stash_content self.old) (stash_content self.new) (take (range.«end» - range.start) (drop range.start (V.format.rows (V.content view)))) e) }
         ensures typed { OnOk result (variant_of self.new ≡ typed) }
         ensures variant { OnErr result (variant_of self.new ≡ variant_of self.old) }
+        ensures bytes { OnErr result (variant_of self.old ≢ typed → self.new ≡ self.old) }
     {
-        let loaded = match self {
-            Stash::Typed(column) => {
-                return match column.extend_from_self(view, range) {
-                    Ok(()) => Ok(()),
-                    Err(error) => Err(error),
-                };
-            }
-            Stash::Bytes(checked) => checked.load(checked.alloc),
-            Stash::Align(checked) => checked.load(checked.alloc),
-        };
-        let mut column = match loaded {
-            Ok(column) => column,
-            Err(error) => return Err(error),
-        };
-        match column.extend_from_self(view, range) {
-            Ok(()) => {
-                *self = Stash::Typed(column);
-                Ok(())
-            }
-            Err(error) => Err(error),
+        if let Stash::Typed(column) = self {
+            return column.extend_from_self(view, range);
         }
+        let mut column = self.aside()?;
+        column.extend_from_self(view, range)?;
+        *self = Stash::Typed(column);
+        Ok(())
     }
 }
 
@@ -225,22 +172,13 @@ impl<C: ContainerBytes + Truncate + Drop, B: ByteStore> Stash<C, B> {
         ensures bytes { OnErr result (variant_of self.old ≢ typed) }
         ensures memory { IfErr result (λ e. e ≡ GrowError.Memory) }
     {
-        let loaded = match self {
-            Stash::Typed(column) => {
-                column.truncate(n);
-                return Ok(());
-            }
-            Stash::Bytes(checked) => checked.load(checked.alloc),
-            Stash::Align(checked) => checked.load(checked.alloc),
-        };
-        match loaded {
-            Ok(column) => {
-                let mut column = column;
-                column.truncate(n);
-                *self = Stash::Typed(column);
-                Ok(())
-            }
-            Err(error) => Err(error),
+        if let Stash::Typed(column) = self {
+            column.truncate(n);
+            return Ok(());
         }
+        let mut column = self.aside()?;
+        column.truncate(n);
+        *self = Stash::Typed(column);
+        Ok(())
     }
 }

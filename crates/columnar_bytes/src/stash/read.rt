@@ -1,9 +1,9 @@
 //! How a stash is opened, read and written.
-ghost use Rattle.std.specs.Prelude.{◌≡◌, ◌↔◌, ◌*◌, ◌^◌, ◌≤◌, length, IsTrue, IsNone, IsOk, IfOk, IfSome, IfErr, OnOk, []};
+ghost use Rattle.std.specs.Prelude.{◌≡◌, ◌≢◌, ◌↔◌, ◌*◌, ◌^◌, ◌<◌, ◌≤◌, length, IsTrue, IsNone, IsOk, IfOk, IfSome, IfErr, OnOk, []};
 ghost use Rattle.std.specs.Io.KnownBytes.{Appends};
 ghost use Rattle.columnar_core.specs.Format.{IsSound, representable, slices_of};
 ghost use Rattle.columnar_core.specs.Frame.{framed_slices};
-ghost use Rattle.columnar_core.specs.Words.{words};
+ghost use Rattle.columnar_core.specs.Words.{words, store_bytes};
 ghost use Rattle.columnar_bytes.specs.Accepted.{Accepts, IsFirstFault};
 ghost use Rattle.columnar_bytes.specs.Written.{IsLeftOf};
 
@@ -58,10 +58,7 @@ impl<C: Stored, B: ByteStore> Stash<C, B> {
         ensures bytes { IfOk result (λ s. HoldsBytes s (B.bytes store)) }
         ensures sound { IfOk result (λ s. IsSound C.format (stash_content s)) }
     {
-        match validate::<C>(store.as_slice()) {
-            Ok(()) => {}
-            Err(fault) => return Err(fault),
-        }
+        validate::<C>(store.as_slice())?;
         Ok(Stash::Bytes(Checked {
             alloc,
             store,
@@ -84,8 +81,22 @@ impl<C: Stored, B: ByteStore> Stash<C, B> {
     }
 }
 
+// Writes the bytes as they are.
+fn send<W: WriteBytes>(writer: &mut W, bytes: &[u8]) -> Result<(), WriteFault<W::Error>>
+where
+    W::Error: Drop,
+    ensures ok { OnOk result (Appends (W.contents writer.old) (W.contents writer.new) bytes.now) }
+    ensures counted { OnOk result (length bytes.now < 2 ^ 64) }
+    ensures err { IfErr result (IsLeftOf (W.contents writer.old) (W.contents writer.new) bytes.now) }
+{
+    match writer.write_all(bytes) {
+        Ok(()) => Ok(()),
+        Err(error) => Err(WriteFault::Writer(error)),
+    }
+}
+
 impl<C: ContainerBytes, B: ByteStore> Stash<C, B> {
-    ghost use Rattle.columnar_bytes.specs.Stashes.{stash_content, written_bytes};
+    ghost use Rattle.columnar_bytes.specs.Stashes.{stash_content, variant_of, bytes, written_bytes};
 
     /// How many bytes the encoding of the view takes; None where they pass 64 bits.
     pub fn length_in_bytes(&self) -> Option<usize>
@@ -100,7 +111,7 @@ impl<C: ContainerBytes, B: ByteStore> Stash<C, B> {
         }
     }
 
-    /// Writes the column's encoding, or the bytes as they are. Refused with `Length` only where the encoding's bytes
+    /// Writes the column's encoding, or the bytes as they are. Refused with `Length` exactly where the encoding's bytes
     /// would pass 2^64 - 1, before any byte; ended with `Writer` where the writer failed, after a beginning of the
     /// bytes.
     pub fn write_bytes<W: WriteBytes>(&self, writer: &mut W) -> Result<(), WriteFault<W::Error>>
@@ -108,23 +119,16 @@ impl<C: ContainerBytes, B: ByteStore> Stash<C, B> {
         W::Error: Drop,
         requires { IsTrue (representable C.format) }
         ensures ok { OnOk result (Appends (W.contents writer.old) (W.contents writer.new) (written_bytes self.now)) }
+        ensures counted { OnOk result (length (written_bytes self.now) < 2 ^ 64) }
+        ensures encoded { variant_of self.now ≢ bytes → written_bytes self.now ≡ store_bytes (slices_of (stash_content self.now)) }
         ensures err { IfErr result (IsLeftOf (W.contents writer.old) (W.contents writer.new) (written_bytes self.now)) }
         ensures accepted { OnOk result (IsSound C.format (stash_content self.now) → Accepts C.format (written_bytes self.now)) }
         ensures content { OnOk result (IsSound C.format (stash_content self.now) → C.format.build (framed_slices (written_bytes self.now)) ≡ stash_content self.now) }
     {
         match self {
-            Stash::Typed(column) => match write(writer, &Owned(column)) {
-                Ok(()) => Ok(()),
-                Err(fault) => Err(fault),
-            },
-            Stash::Bytes(checked) => match writer.write_all(checked.bytes()) {
-                Ok(()) => Ok(()),
-                Err(error) => Err(WriteFault::Writer(error)),
-            },
-            Stash::Align(checked) => match writer.write_all(checked.bytes()) {
-                Ok(()) => Ok(()),
-                Err(error) => Err(WriteFault::Writer(error)),
-            },
+            Stash::Typed(column) => write(writer, &Owned(column)),
+            Stash::Bytes(checked) => send(writer, checked.bytes()),
+            Stash::Align(checked) => send(writer, checked.bytes()),
         }
     }
 }

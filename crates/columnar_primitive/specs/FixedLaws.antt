@@ -1,6 +1,6 @@
-use Rattle.std.proofs.Common.{◌≡◌, ℕ, zero, suc, ◌+◌, ◌-◌, ◌*◌, ◌^◌, ◌<◌, ◌≤◌, Bool, true, false, List, [], ◌∷◌, ◌++◌, length, take, drop, refl, sym, ◌∙◌, ap, arith, length-append, ◌⊎◌, ⊎_elim}
+use Rattle.std.proofs.Common.{◌≡◌, ℕ, zero, suc, ◌+◌, ◌-◌, ◌*◌, ◌^◌, ◌<◌, ◌≤◌, Bool, true, false, List, [], ◌∷◌, ◌++◌, length, take, drop, refl, sym, ◌∙◌, ap, arith, length-append, append-nil, ◌⊎◌, ⊎_elim}
 use Rattle.std.specs.Prelude.{slice_get, Some, None, not, cond, nat_eq, nat_lt, nat_le}
-use Rattle.std.proofs.lemmas.Bool.{eqb-true, eq-eqb, ne_eqb, leb-true, le-leb, lt-leb, lt-ltb, ltb-true, or_cases, or_left, or_right, not_from_true, not_from_false}
+use Rattle.std.proofs.lemmas.Bool.{eqb-true, eq-eqb, ne_eqb, leb-true, le-leb, lt-leb, lt-ltb, le-ltb, ltb-true, or_cases, or_left, or_right, not_from_true, not_from_false}
 use Rattle.std.proofs.Math.Nat.{mul-le-mul_left}
 use Rattle.columnar_core.specs.Row.{Row, number, row_eq}
 use Rattle.columnar_core.specs.Format.{Content, slice, both, part, plain, IsSound, IsLawful, IsStorable, lengths, slices_of, Fault, fault, unless, first, moved, Excess, too_many, misplaced}
@@ -266,19 +266,32 @@ piece_first k start m top x l h g =
     let d : k * suc start ≡ x = cc in
     (d, multiples-piece k start (suc m) top l ∙ multiples-more k start m ∙ (rw (d, w) refl))
 
-pub fixed_copy_refused : (k n start added top x : ℕ) (error : GrowError) → n < 2 ^ 64 → x < 2 ^ 64 → start + added ≤ top → 0 < added → IsSound (fixed_format k) (counted n) → slice_get (multiples k 0 top) start ≡ Some (word_row x) → ((rs : List Row) → IsCauseOf k error n (number x ∷ rs)) → Refused (fixed_format k) (counted n) (counted n) (take added (drop start (multiples k 0 top))) error
+pub fixed_copy_refused : (k n start added top x : ℕ) (error : GrowError) → n < 2 ^ 64 → x < 2 ^ 64 → start + added ≤ top → 0 < added → IsSound (fixed_format k) (counted n) → slice_get (multiples k 0 top) start ≡ Some (word_row x) → ((rs : List Row) → added ≤ length rs + 1 → IsCauseOf k error n (number x ∷ rs)) → Refused (fixed_format k) (counted n) (counted n) (take added (drop start (multiples k 0 top))) error
 fixed_copy_refused k n start zero top x error l h m pos s g cause = absurd (omega arith)
 fixed_copy_refused k n start (suc added) top x error l h m pos s g cause =
-    rw (piece_first k start added top x m h g).1 (fixed_refused k n x (multiples k (suc start) added) error l h s (cause (multiples k (suc start) added)))
+    rw (piece_first k start added top x m h g).1 (fixed_refused k n x (multiples k (suc start) added) error l h s (cause (multiples k (suc start) added) (omega (arith, length-multiples k (suc start) added))))
 
--- so many rows are too many
-pub fixed_copy_past : (k n start added top : ℕ) → n < 2 ^ 64 → start + added ≤ top → 2 ^ 64 - 1 < n + added → IsSound (fixed_format k) (counted n) → Refused (fixed_format k) (counted n) (counted n) (take added (drop start (multiples k 0 top))) Length
-fixed_copy_past k n start added top l m past s = record {
-  stayed = unchanged s;
-  cause = fixed_true k (le_bytes (n ∷ [])) n (take added (drop start (multiples k 0 top))) Length (count-word n l)
-      (let e : length (take added (drop start (multiples k 0 top))) ≡ added = rw (multiples-piece k start added top m) (length-multiples k start added) in
-      or_left (nat_lt (2 ^ 64 - 1) (n + length (take added (drop start (multiples k 0 top))))) (nat_lt (2 ^ 64 - 1) (k * (n + length (take added (drop start (multiples k 0 top)))))) (lt-ltb (2 ^ 64 - 1) (n + length (take added (drop start (multiples k 0 top)))) (omega arith)));
-}
+-- a range of which the first is the next multiple, and where it isn't
+pub first_next : (k n start added top x : ℕ) → x < 2 ^ 64 → start + added ≤ top → 0 < added → slice_get (multiples k 0 top) start ≡ Some (word_row x) → x ≡ k * (n + 1) → strays k n (take added (drop start (multiples k 0 top))) ≡ false
+first_next k n start zero top x h t pos g e = absurd (omega arith)
+first_next k n start (suc added) top x h t pos g e =
+    let p = piece_first k start added top x t h g in
+    let r : k * suc start ≡ k * suc n = p.0 ∙ omega (arith, e) in
+    rw (fixed_piece k start n (suc added) top t r) (rw append-nil at (strays-behind k n (suc added) []))
+
+pub first_stray : (k n start added top x : ℕ) → x < 2 ^ 64 → start + added ≤ top → 0 < added → slice_get (multiples k 0 top) start ≡ Some (word_row x) → (x ≡ k * (n + 1) → ⊥) → strays k n (take added (drop start (multiples k 0 top))) ≡ true
+first_stray k n start zero top x h t pos g e = absurd (omega arith)
+first_stray k n start (suc added) top x h t pos g e =
+    let p = (piece_first k start added top x t h g).1 ∙ ap (λ r. r ∷ multiples k (suc start) added) (word_number x h) in
+    rw p (fixed_stray k n x (multiples k (suc start) added) e)
+
+-- what it holds does not pass
+pub fixed_within : (k n added : ℕ) → n < 2 ^ 64 → added ≡ 0 → IsSound (fixed_format k) (counted n) → passes k (n + added) ≡ false
+fixed_within k n added l e s =
+    let m : n + added ≡ n = omega arith in
+    let a : nat_lt (2 ^ 64 - 1) n ≡ false = le-ltb (2 ^ 64 - 1) n (omega arith) in
+    let b : nat_lt (2 ^ 64 - 1) (k * n) ≡ false = le-ltb (2 ^ 64 - 1) (k * n) (count_fits k n l s) in
+    rw (m, a, b) refl
 
 pub fixed_copy : (k n start added m x : ℕ) {from : List ℕ} → n < 2 ^ 64 → x < 2 ^ 64 → n + added < 2 ^ 64 → start + added ≤ word from 0 → 0 < added → IsSound (fixed_format k) (slice from) → slice_get (multiples k 0 (word from 0)) start ≡ Some (word_row x) → m ≡ n + 1 → x ≡ k * m → Copied (fixed_format k) (counted n) (counted (n + added)) start (take added (drop start (multiples k 0 (word from 0))))
 fixed_copy k n start zero m x l h b t pos s g e f = absurd (omega arith)

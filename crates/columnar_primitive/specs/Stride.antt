@@ -1,10 +1,11 @@
 -- Columns of offsets that follow a stride as far as they go, and then stand as they are.
-use Rattle.std.specs.Prelude.{ℕ, Bool, List, [], ◌∷◌, ◌++◌, length, take, drop, ◌+◌, ◌-◌, ◌*◌, ◌^◌, ◌&&◌, ◌||◌, cond, nat_eq, nat_le, Option, Some, None, slice_index}
+use Rattle.std.specs.Prelude.{ℕ, Bool, true, List, [], ◌∷◌, ◌++◌, length, take, drop, ◌+◌, ◌-◌, ◌*◌, ◌^◌, ◌&&◌, ◌||◌, cond, nat_eq, nat_le, Option, Some, None, slice_index}
 use Rattle.columnar_core.specs.Row.{Row, row_eq}
 use Rattle.columnar_core.specs.Format.{Format, Content, slice, both, part, plain, Fault, fault, moved, unless, misfit}
 use Rattle.columnar_core.specs.Elements.{elements_broken, elements_rows, first_slice, past_count, word_row_of}
 use Rattle.columnar_core.specs.Bytes.{word, le_bytes}
 use Rattle.columnar_core.specs.WordViews.{bytes_of}
+use Rattle.columnar_core.specs.Bounds.{numbers}
 use Rattle.columnar_primitive.specs.Multiples.{multiples}
 
 -- a head is two words, the stride and how many offsets follow it
@@ -94,6 +95,24 @@ head_pushed head bounds x = cond (joins head bounds x) (grown (slice_index head 
 
 abbrev pub bounds_pushed : List ℕ → List ℕ → ℕ → List ℕ
 bounds_pushed head bounds x = cond (joins head bounds x) bounds (bounds ++ x ∷ [])
+
+-- the offsets of a range of rows
+abbrev pub offsets_in : Content → ℕ → ℕ → List ℕ
+offsets_in c from to = numbers (take (to - from) (drop from (strides_rows c)))
+
+-- the head, and then the bounds, after the pushes of offsets in turn
+abbrev pub head_extended : List ℕ → List ℕ → List ℕ → List ℕ
+head_extended head bounds [] = head
+head_extended head bounds (x ∷ xs) = head_extended (head_pushed head bounds x) (bounds_pushed head bounds x) xs
+
+abbrev pub bounds_extended : List ℕ → List ℕ → List ℕ → List ℕ
+bounds_extended head bounds [] = bounds
+bounds_extended head bounds (x ∷ xs) = bounds_extended (head_pushed head bounds x) (bounds_pushed head bounds x) xs
+
+-- do all of these offsets, pushed in turn, join the multiples
+abbrev pub all_join : List ℕ → List ℕ → List ℕ → Bool
+all_join head bounds [] = true
+all_join head bounds (x ∷ xs) = joins head bounds x && all_join (head_pushed head bounds x) (bounds_pushed head bounds x) xs
 
 -- the head, and then the bounds, of the first n offsets
 abbrev pub head_cut : List ℕ → ℕ → List ℕ

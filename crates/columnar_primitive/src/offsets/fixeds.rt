@@ -1,5 +1,5 @@
 //! Offsets that are the multiples of a constant, of which the count alone is kept.
-ghost use Rattle.std.specs.Prelude.{◌≡◌, ℕ, ◌+◌, ◌-◌, ◌*◌, ◌<◌, ◌≤◌, ◌^◌, ◌∷◌, [], List, length, take, drop, OnOk, IfOk, IfErr, IsTrue, IsFalse, Err, ◌↔◌, true, false, refl};
+ghost use Rattle.std.specs.Prelude.{◌≡◌, ℕ, ◌+◌, ◌-◌, ◌*◌, ◌<◌, ◌≤◌, ◌^◌, ◌∷◌, [], List, length, take, drop, OnOk, OnErr, IfOk, IfErr, IsTrue, IsFalse, Err, ◌↔◌, true, false, refl};
 ghost use Rattle.columnar_core.specs.Row.{Row, number};
 ghost use Rattle.columnar_core.specs.Format.{slice, first, moved, IsSound};
 ghost use Rattle.columnar_core.specs.Bytes.{word};
@@ -7,7 +7,7 @@ ghost use Rattle.columnar_core.specs.Elements.{word_row};
 ghost use Rattle.columnar_core.specs.Faults.{verdict};
 ghost use Rattle.columnar_core.specs.Change.{Copied, Refused, Took};
 ghost use Rattle.columnar_primitive.specs.Held.{counted};
-ghost use Rattle.columnar_primitive.specs.Fixed.{fixed_broken, fixed_format, fixed_rows, passes, IsCauseOf, IsLimit};
+ghost use Rattle.columnar_primitive.specs.Fixed.{fixed_broken, fixed_format, fixed_rows, passes, strays, IsCauseOf, IsLimit};
 ghost use Rattle.columnar_primitive.specs.Tried.{Tried};
 ghost use Rattle.columnar_primitive.specs.FixedLaws.{fixed_lawful, fixed_storable, fixed_bounds};
 
@@ -100,23 +100,24 @@ impl<const K: u64> Reserve for Fixeds<K, u64> {
     }
 }
 
-// The count with one more offset, where `item` is the one that comes next.
-fn next_count<const K: u64>(count: u64, item: u64) -> Result<u64, GrowError>
-    ensures ok { IfOk result (λ n. (n ≡ count + 1) × (item ≡ K * n)) }
+// The count with `added` offsets more, of which `item` is the first: where that one comes next, all of them do.
+fn count_with<const K: u64>(count: u64, added: u64, item: u64) -> Result<u64, GrowError>
+    requires { 0 < added }
+    ensures ok { IfOk result (λ n. (n ≡ count + added) × (item ≡ K * (count + 1))) }
     ensures fits { IfOk result (λ n. K * n < 2 ^ 64) }
     ensures limit { IfErr result IsLimit }
-    ensures length { (result ≡ Err GrowError.Length) ↔ IsTrue (passes K (count + 1)) }
-    ensures offset { (result ≡ Err GrowError.Offset) ↔ (IsFalse (passes K (count + 1)) × (item ≡ K * (count + 1) → ⊥)) }
-    ensures err { IfErr result (λ e. (rs : List Row) → IsCauseOf K e count (number item ∷ rs)) }
+    ensures length { (result ≡ Err GrowError.Length) ↔ IsTrue (passes K (count + added)) }
+    ensures offset { (result ≡ Err GrowError.Offset) ↔ (IsFalse (passes K (count + added)) × (item ≡ K * (count + 1) → ⊥)) }
+    ensures err { IfErr result (λ e. (rs : List Row) → added ≤ length rs + 1 → IsCauseOf K e count (number item ∷ rs)) }
 {
-    let next = match count.checked_add(1) {
-        Some(next) => next,
+    let sum = match count.checked_add(added) {
+        Some(sum) => sum,
         None => return Err(GrowError::Length),
     };
-    match K.checked_mul(next) {
+    match K.checked_mul(sum) {
         None => Err(GrowError::Length),
-        Some(offset) => if offset == item {
-            Ok(next)
+        Some(_) => if K * (count + 1) == item {
+            Ok(sum)
         } else {
             Err(GrowError::Offset)
         },
@@ -134,7 +135,7 @@ impl<const K: u64> Push<u64> for Fixeds<K, u64> {
         ensures length { (result ≡ Err GrowError.Length) ↔ IsTrue (passes K (self.old.count + 1)) }
         ensures offset { (result ≡ Err GrowError.Offset) ↔ (IsFalse (passes K (self.old.count + 1)) × (item ≡ K * (self.old.count + 1) → ⊥)) }
     {
-        self.count = next_count::<K>(self.count, item)?;
+        self.count = count_with::<K>(self.count, 1, item)?;
         Ok(())
     }
 }
@@ -172,8 +173,9 @@ impl<'x, const K: u64> ExtendFrom<Fixeds<K, View<'x, u64>>> for Fixeds<K, u64> {
         ()
     }
 
-    /// Adds the offsets of the range where each comes to its place, as pushes of them in turn would, or none of them.
-    /// It takes no memory, and wants none.
+    /// Adds the offsets of the range where each comes to its place, or none of them. Length is answered where with them
+    /// there would be more than 2^64 - 1 offsets, or the last would pass that, and else Offset where one of them is not
+    /// the next multiple. It takes no memory, and wants none.
     fn extend_from_self(
         &mut self,
         view: Fixeds<K, View<'x, u64>>,
@@ -186,19 +188,18 @@ impl<'x, const K: u64> ExtendFrom<Fixeds<K, View<'x, u64>>> for Fixeds<K, u64> {
         ensures ok { OnOk result (Copied (fixed_format K) (counted self.old.count) (counted self.new.count) range.start (take (range.«end» - range.start) (drop range.start (fixed_rows K (⟦<Fixeds<K, View<'x, u64>> as Column>⟧.content view.entry))))) }
         ensures err { IfErr result (λ e. Refused (fixed_format K) (counted self.old.count) (counted self.new.count) (take (range.«end» - range.start) (drop range.start (fixed_rows K (⟦<Fixeds<K, View<'x, u64>> as Column>⟧.content view.entry)))) e) }
         ensures limit { IfErr result IsLimit }
+        ensures count { OnOk result (self.new.count ≡ self.old.count + (range.«end» - range.start)) }
+        ensures count_stays { OnErr result (self.new.count ≡ self.old.count) }
+        ensures length { (result ≡ Err GrowError.Length) ↔ IsTrue (passes K (self.old.count + (range.«end» - range.start))) }
+        ensures offset { (result ≡ Err GrowError.Offset) ↔ (IsFalse (passes K (self.old.count + (range.«end» - range.start))) × IsTrue (strays K self.old.count (take (range.«end» - range.start) (drop range.start (fixed_rows K (⟦<Fixeds<K, View<'x, u64>> as Column>⟧.content view.entry)))))) }
     {
+        let count = self.count;
         let added = range.end - range.start;
         if added == 0 {
             return Ok(());
         }
-        next_count::<K>(self.count, view.get(range.start))?;
-        match self.count.checked_add(added as u64) {
-            Some(count) => {
-                self.count = count;
-                Ok(())
-            }
-            None => Err(GrowError::Length),
-        }
+        self.count = count_with::<K>(count, added as u64, view.get(range.start))?;
+        Ok(())
     }
 }
 

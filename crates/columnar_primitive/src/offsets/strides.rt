@@ -1,12 +1,12 @@
 //! Offsets that follow a stride as far as they go, and then stand as they are.
-ghost use Rattle.std.specs.Prelude.{◌≡◌, ℕ, ◌+◌, ◌-◌, ◌*◌, ◌/◌, ◌%◌, ◌^◌, ◌<◌, ◌≤◌, ◌∷◌, [], length, slice_get, Some, Err, OnOk, OnErr, IfOk, IfErr, IsOk, IsTrue, refl};
+ghost use Rattle.std.specs.Prelude.{◌≡◌, ℕ, ◌+◌, ◌-◌, ◌*◌, ◌/◌, ◌%◌, ◌^◌, ◌<◌, ◌≤◌, ◌∷◌, [], length, take, drop, slice_get, Some, Err, OnOk, OnErr, IfOk, IfErr, IsOk, IsTrue, refl};
 ghost use Rattle.columnar_core.specs.Row.{number};
 ghost use Rattle.columnar_core.specs.Format.{both, slice, first, moved, IsSound};
 ghost use Rattle.columnar_core.specs.Elements.{word_row};
 ghost use Rattle.columnar_core.specs.Faults.{verdict};
 ghost use Rattle.columnar_core.specs.Bounds.{rises, numbers};
-ghost use Rattle.columnar_core.specs.Change.{Refused, Took, WasCut};
-ghost use Rattle.columnar_primitive.specs.Stride.{strides_format, strides_broken, strides_rows, bounds_rows, strided, head_and_bounds, follows, joins, grown, head_pushed, bounds_pushed, head_cut, bounds_cut};
+ghost use Rattle.columnar_core.specs.Change.{Copied, Refused, Took, WasCut};
+ghost use Rattle.columnar_primitive.specs.Stride.{strides_format, strides_broken, strides_rows, bounds_rows, strided, head_and_bounds, follows, joins, grown, head_pushed, bounds_pushed, offsets_in, head_extended, bounds_extended, all_join, head_cut, bounds_cut};
 ghost use Rattle.columnar_primitive.specs.StrideLaws.{strides_lawful, strides_storable, strides_bounds};
 
 use crate::bools::view_slice;
@@ -311,11 +311,27 @@ impl<'x> ExtendFrom<Strides<View<'x, u64>, View<'x, u64>>> for Strides<Vec<u64>,
         room.saturating_add(view.bounds.size() / 8)
     }
 
+    /// Pushes the offsets of the range in turn, or none of them. Where each of them joins the multiples that takes no
+    /// memory, and Length is answered where there would be more than 2^64 - 1 offsets. After a refusal nothing has
+    /// changed.
     fn extend_from_self(
         &mut self,
         view: Strides<View<'x, u64>, View<'x, u64>>,
         range: Range<usize>,
-    ) -> Result<(), GrowError> {
+    ) -> Result<(), GrowError>
+        requires sound { IsSound strides_format (head_and_bounds self.old.head self.old.bounds.items) }
+        requires view_sound { IsSound strides_format (⟦<Strides<View<'x, u64>, View<'x, u64>> as Column>⟧.content view) }
+        requires ordered { range.start ≤ range.«end» }
+        requires in_range { range.«end» ≤ length (strides_rows (⟦<Strides<View<'x, u64>, View<'x, u64>> as Column>⟧.content view)) }
+        ensures ok { OnOk result (Copied strides_format (head_and_bounds self.old.head self.old.bounds.items) (head_and_bounds self.new.head self.new.bounds.items) range.start (take (range.«end» - range.start) (drop range.start (strides_rows (⟦<Strides<View<'x, u64>, View<'x, u64>> as Column>⟧.content view.entry))))) }
+        ensures err { IfErr result (λ e. Refused strides_format (head_and_bounds self.old.head self.old.bounds.items) (head_and_bounds self.new.head self.new.bounds.items) (take (range.«end» - range.start) (drop range.start (strides_rows (⟦<Strides<View<'x, u64>, View<'x, u64>> as Column>⟧.content view.entry)))) e) }
+        ensures head { OnOk result (self.new.head ≡ head_extended self.old.head self.old.bounds.items (offsets_in (⟦<Strides<View<'x, u64>, View<'x, u64>> as Column>⟧.content view.entry) range.start range.«end»)) }
+        ensures bounds { OnOk result (self.new.bounds.items ≡ bounds_extended self.old.head self.old.bounds.items (offsets_in (⟦<Strides<View<'x, u64>, View<'x, u64>> as Column>⟧.content view.entry) range.start range.«end»)) }
+        ensures head_stays { OnErr result (self.new.head ≡ self.old.head) }
+        ensures bounds_stay { OnErr result (self.new.bounds.items ≡ self.old.bounds.items) }
+        ensures full { 2 ^ 64 - 1 < length (strides_rows (head_and_bounds self.old.head self.old.bounds.items)) + (range.«end» - range.start) → IsTrue (all_join self.old.head self.old.bounds.items (offsets_in (⟦<Strides<View<'x, u64>, View<'x, u64>> as Column>⟧.content view.entry) range.start range.«end»)) → result ≡ Err GrowError.Length }
+        ensures no_memory { length (strides_rows (head_and_bounds self.old.head self.old.bounds.items)) + (range.«end» - range.start) ≤ 2 ^ 64 - 1 → IsTrue (all_join self.old.head self.old.bounds.items (offsets_in (⟦<Strides<View<'x, u64>, View<'x, u64>> as Column>⟧.content view.entry) range.start range.«end»)) → IsOk result }
+    {
         let head = self.head;
         let count = self.bounds.len();
         for i in range.start..range.end {

@@ -4,8 +4,8 @@
 An edit has lines 'file: src/..', 'old: TEXT' (standing once in that file) and 'new: TEXT', as those of must-fail/ have.
 Many are tried in one check: no two of a group are in functions of one name, and a function is proved from the contracts
 of what it calls alone, so what one edit breaks is not blamed on another. An edit passes where a goal of its own function
-is not proved. One of which that can't be said, or that is in no function, is tried alone: it passes where the crate is
-not proved, and the log says where that is for a name alone.
+is not proved. One of which that can't be said, or that is in no function, is tried alone: it passes where a goal of any
+function or a lemma is not proved. One that is refused for a name that it took away, or for no goal, fails.
 
 usage: .ci/edits.py [--jobs N] [CRATE ..]      after the crates' libraries were built, as by rt ci or rt all check
 """
@@ -137,6 +137,22 @@ def judged(said):
     return open_goals, gone
 
 
+def lemmas(said, texts, folder):
+    """The lemmas, by file and name, that the check does not prove. What a definition is refused for is none of them."""
+    found = []
+    for line in said.split("\n"):
+        at = re.match(r"(?:\./)?((?:specs|proofs)/\S+\.antt):\d+:\d+: error: `([^`]*)`: (.*)", line)
+        if not at or re.search(GONE, at[3]):
+            continue
+        text = texts.get(at[1])
+        if text is None:
+            with open(f"{folder}/{at[1]}", encoding="utf-8") as it:
+                text = it.read()
+        if re.search(rf"(?m)^(?:pub )?{re.escape(at[2])} : ", text):
+            found.append(f"{at[2]} of {at[1]}")
+    return found
+
+
 def verdict(edit, names, said):
     """Whether the edit is refused for what its function has to show, and what to say."""
     open_goals, gone = judged(said)
@@ -181,10 +197,13 @@ def by_itself(edit, names, folder, name, needs, jobs, kept):
     if well:
         return True, text
     open_goals, gone = judged(said)
-    goals = [goal for found in open_goals.values() for goal in found]
+    goals = [goal for found in open_goals.values() for goal in found] + lemmas(said, texts, folder)
     if goals:
         return True, "refused: " + ", ".join(dict.fromkeys(goals))
-    return True, "refused, for a name alone: change a value and keep the names" if gone else "refused"
+    if gone:
+        return False, f"REFUSED FOR A NAME ALONE: {', '.join(goal for found in gone.values() for goal in found)}"
+    reasons = [line for line in said.split("\n") if ": error" in line or re.match(r"fn \S+: (?:no proof|not proved)", line)]
+    return False, f"REFUSED FOR NO GOAL: {reasons[0][:300] if reasons else said[-300:]}"
 
 
 def tried(name, needs, jobs):

@@ -1,12 +1,18 @@
-use Rattle.std.specs.Prelude.{slice_get, Some}
+use Rattle.std.specs.Prelude.{slice_get, Some, Result, Err}
+use Rattle.std.specs.Result.{IsErrAnd}
 use Rattle.std.proofs.Common.{◌≡◌, ℕ, zero, suc, ◌+◌, ◌-◌, ◌<◌, ◌≤◌, true, List, [], ◌∷◌, ◌++◌, length, take, drop, refl, append-nil, sym, ◌∙◌, ap, arith, length-append, append_assoc}
 use Rattle.std.proofs.Math.Seq.{take-append_seam}
+use Rattle.std.proofs.lemmas.Result.{err_from_is_err_and}
 use Rattle.columnar_base.specs.Row.{Row}
 use Rattle.columnar_base.specs.Format.{Format, Content, IsSound, IsLawful, IsExact, Excess, too_many, misplaced, refuses_more}
 use Rattle.columnar_base.specs.AlikeLaws.{alike_is, all_alike-append}
 use Rattle.columnar_base.specs.declared.fault.GrowError.{GrowError}
 use Rattle.columnar_base.specs.declared.fault.GrowError.TheVariants.{Memory, Length, Offset, Format as FormatError}
 use Rattle.columnar_base.specs.Change.{Keeps, Grew, Stayed, WasCut, Took, IsTrueOf, Refused}
+
+-- what the exit of a `?` returns: the error that it was handed
+pub passed_on : {T E : Type 0} {e : E} (r : Result T E) → IsErrAnd r (λ y. y ≡ e) → r ≡ Err e
+passed_on r h = let p = err_from_is_err_and r h in p.1 ∙ ap Err p.2
 
 pub keeps_all : {f : Format} {c : Content} {n : ℕ} → Keeps f c c n
 keeps_all = record { extents = λ n l. refl; limits = λ n l e rs. refl }

@@ -1,5 +1,6 @@
 -- How many bytes a content holds, by its slices.
-use Rattle.std.proofs.Common.{◌≡◌, ℕ, zero, suc, ◌+◌, ◌≤◌, List, [], ◌∷◌, ◌++◌, length, take, drop, refl, sym, ◌∙◌, ap, arith}
+use Rattle.std.proofs.Common.{◌≡◌, ℕ, zero, suc, ◌+◌, ◌*◌, ◌≤◌, List, [], ◌∷◌, ◌++◌, length, take, drop, refl, sym, ◌∙◌, ap, arith}
+use Rattle.std.proofs.Math.Nat.{mul-le-mul_right}
 use Rattle.columnar_base.specs.Format.{Format, Content, slice, both, part, plain, IsStorable, slices_of, bytes_held, bytes_of_all}
 
 bytes-append : (xs ys : List (List ℕ)) → bytes_of_all (xs ++ ys) ≡ bytes_of_all xs + bytes_of_all ys
@@ -16,6 +17,10 @@ held_slices (plain rs) = refl
 -- What slices make, well formed or not, has just their bytes.
 pub held_built : (f : Format) (ss : List (List ℕ)) → IsStorable f → f.count ≤ length ss → bytes_held (f.build ss) ≡ bytes_of_all (take f.count ss)
 held_built f ss law l = held_slices (f.build ss) ∙ ap bytes_of_all (law.built ss l)
+
+-- a test of what slices make takes at most 16 turns for each of their bytes
+pub turns_held : (f : Format) (ss : List (List ℕ)) (old new : ℕ) → IsStorable f → f.count ≤ length ss → new ≤ old + f.turns * bytes_held (f.build ss) → new ≤ old + 16 * bytes_of_all (take f.count ss)
+turns_held f ss old new law l t = omega (arith, held_built f ss law l, mul-le-mul_right (bytes_held (f.build ss)) law.swift, t)
 
 -- some of the slices have no more bytes than all of them
 pub bytes_of_some : (n : ℕ) (ss : List (List ℕ)) → bytes_of_all (take n ss) ≤ bytes_of_all ss

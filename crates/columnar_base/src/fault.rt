@@ -74,29 +74,29 @@ pub enum SumError {
 /// a rule of the store as a whole is broken at 0, a rule of a column at its first slice.
 #[derive(Clone, Copy, Debug, PartialEq, Eq, Error)]
 pub enum StoreFault {
-    /// The length is no multiple of eight.
-    #[error("the length is no multiple of eight, slice {0}")]
+    /// The store is not made of whole words of eight bytes.
+    #[error("the store is not made of whole words, slice {0}")]
     NotWords(usize),
-    /// There is no word.
-    #[error("there is no word, slice {0}")]
+    /// The store has no bytes at all.
+    #[error("the store has no bytes, slice {0}")]
     Empty(usize),
-    /// Word 0 is below 8 or no multiple of 8.
-    #[error("the first offset is below 8 or no multiple of 8, slice {0}")]
+    /// The first offset points into its own word, or not to the start of a word.
+    #[error("the first offset points to no word behind it, slice {0}")]
     FirstOffset(usize),
-    /// The table of offsets is longer than the store.
-    #[error("the table is longer than the store, slice {0}")]
+    /// The table of offsets does not fit in the store.
+    #[error("the table of offsets does not fit in the store, slice {0}")]
     Table(usize),
-    /// Another number of slices than the type has.
-    #[error("another number of slices than the type has, slice {0}")]
+    /// The store has more or fewer slices than the type.
+    #[error("more or fewer slices than the type has, slice {0}")]
     SliceCount(usize),
-    /// The slice ends past the store.
-    #[error("slice {0} ends past the store")]
+    /// The slice reaches beyond the store.
+    #[error("slice {0} reaches beyond the store")]
     PastEnd(usize),
-    /// The slice ends before its start.
-    #[error("slice {0} ends before its start")]
+    /// The slice's end is below its start.
+    #[error("the end of slice {0} is below its start")]
     Backwards(usize),
-    /// The slice's length is no multiple of its element's size.
-    #[error("the length of slice {0} is no multiple of its element's size")]
+    /// The slice does not divide into whole elements.
+    #[error("slice {0} does not divide into whole elements")]
     ElementSize(usize),
     /// A head or a tail that is not two words, or a count that is not one.
     #[error("slice {0} is a head, tail or count of another size")]

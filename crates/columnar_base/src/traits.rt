@@ -71,10 +71,7 @@ pub trait Push<T: Item>: Column {
         ensures err { IfErr result (λ e. (xs : List T) × (rest : I) × (Yields I.next_gives items xs rest × StoppedAt Self.format (Self.content self.old) (Self.content self.new) (map T.meaning xs) e)) }
     {
         for item in items {
-            match self.push(item) {
-                Ok(()) => {}
-                Err(error) => return Err(error),
-            }
+            self.push(item)?;
         }
         Ok(())
     }

@@ -65,14 +65,9 @@ impl<A: Storage, B: Storage> Storage for (A, B) {
     }
 
     fn duplicate(&self, alloc: Global) -> Result<Self, GrowError> {
-        let first = match self.0.duplicate(alloc) {
-            Ok(first) => first,
-            Err(error) => return Err(error),
-        };
-        match self.1.duplicate(alloc) {
-            Ok(second) => Ok((first, second)),
-            Err(error) => Err(error),
-        }
+        let first = self.0.duplicate(alloc)?;
+        let second = self.1.duplicate(alloc)?;
+        Ok((first, second))
     }
 }
 
@@ -84,14 +79,8 @@ impl<A: Reserve, B: Reserve> Reserve for (A, B) {
     }
 
     fn reserve_room(&mut self, room: (A::Room, B::Room)) -> Result<(), GrowError> {
-        match self.0.reserve_room(room.0) {
-            Ok(()) => {}
-            Err(error) => return Err(error),
-        }
-        match self.1.reserve_room(room.1) {
-            Ok(()) => Ok(()),
-            Err(error) => Err(error),
-        }
+        self.0.reserve_room(room.0)?;
+        self.1.reserve_room(room.1)
     }
 }
 
@@ -107,10 +96,7 @@ impl<S: Item, T: Item + Drop, A: Truncate + Push<S>, B: Push<T>> PushInto<(A, B)
     fn push_into(self, column: &mut (A, B)) -> Result<(), GrowError> {
         let before = column.0.len();
         let (first, second) = self;
-        match column.0.push(first) {
-            Ok(()) => {}
-            Err(error) => return Err(error),
-        }
+        column.0.push(first)?;
         match column.1.push(second) {
             Ok(()) => Ok(()),
             Err(error) => {
@@ -132,10 +118,7 @@ impl<'x, S: Item, T: Item, A: Truncate + PushRef<S>, B: PushRef<T>> PushInto<(A,
 impl<S: Item, T: Item, A: Truncate + PushRef<S>, B: PushRef<T>> PushRef<(S, T)> for (A, B) {
     fn push_ref(&mut self, item: &(S, T)) -> Result<(), GrowError> {
         let rows = self.0.len();
-        match self.0.push_ref(&item.0) {
-            Ok(()) => {}
-            Err(error) => return Err(error),
-        }
+        self.0.push_ref(&item.0)?;
         match self.1.push_ref(&item.1) {
             Ok(()) => Ok(()),
             Err(error) => {

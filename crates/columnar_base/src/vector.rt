@@ -38,37 +38,29 @@ impl<T: Element> Index for Vec<T> {
 
 impl<T: Element> Push<T> for Vec<T> {
     fn push(&mut self, item: T) -> Result<(), GrowError> {
-        match Vec::push(self, item) {
-            Ok(()) => Ok(()),
-            Err(_) => Err(GrowError::Memory),
-        }
+        Vec::push(self, item)?;
+        Ok(())
     }
 }
 
 impl<'x, T: Element> Push<&'x T> for Vec<T> {
     fn push(&mut self, item: &'x T) -> Result<(), GrowError> {
-        match Vec::push(self, *item) {
-            Ok(()) => Ok(()),
-            Err(_) => Err(GrowError::Memory),
-        }
+        Vec::push(self, *item)?;
+        Ok(())
     }
 }
 
 impl<T: Element> PushRef<T> for Vec<T> {
     fn push_ref(&mut self, item: &T) -> Result<(), GrowError> {
-        match Vec::push(self, *item) {
-            Ok(()) => Ok(()),
-            Err(_) => Err(GrowError::Memory),
-        }
+        Vec::push(self, *item)?;
+        Ok(())
     }
 }
 
 impl<T: Element> PushSlice<T> for Vec<T> {
     fn push_slice(&mut self, items: &[T]) -> Result<(), GrowError> {
-        match self.extend_from_slice(items) {
-            Ok(()) => Ok(()),
-            Err(_) => Err(GrowError::Memory),
-        }
+        self.extend_from_slice(items)?;
+        Ok(())
     }
 }
 
@@ -86,10 +78,7 @@ impl<T: Element> Storage for Vec<T> {
     }
 
     fn duplicate(&self, alloc: Global) -> Result<Self, GrowError> {
-        match Vec::from_slice(alloc, self.as_slice()) {
-            Ok(column) => Ok(column),
-            Err(_) => Err(GrowError::Memory),
-        }
+        Ok(Vec::from_slice(alloc, self.as_slice())?)
     }
 }
 
@@ -101,9 +90,7 @@ impl<T: Element> Reserve for Vec<T> {
     }
 
     fn reserve_room(&mut self, room: usize) -> Result<(), GrowError> {
-        match self.reserve(room) {
-            Ok(()) => Ok(()),
-            Err(_) => Err(GrowError::Memory),
-        }
+        self.reserve(room)?;
+        Ok(())
     }
 }

@@ -26,10 +26,7 @@ impl<'x> ExtendFrom<&'x [u8]> for Vec<u8> {
     }
 
     fn extend_from_self(&mut self, view: &'x [u8], range: Range<usize>) -> Result<(), GrowError> {
-        match append_typed(self, elements_between(view, range.start, range.end)) {
-            Ok(()) => Ok(()),
-            Err(error) => Err(error),
-        }
+        append_typed(self, elements_between(view, range.start, range.end))
     }
 }
 
@@ -79,45 +76,23 @@ impl<'v, T: Element> Stored for &'v [T] {
 
     ghost counted = { λ v. refl };
 
-    fn slice_count() -> usize
-        ensures { result ≡ 1 }
-    {
+    fn slice_count() -> usize {
         1
     }
 
-    fn element_sizes(sizes: &mut Vec<usize>) -> Result<(), GrowError>
-        requires { IsTrue (representable (elements_format T.size T.align T.row_of)) }
-        ensures ok { OnOk result (sizes.new.items ≡ sizes.old.items ++ T.size ∷ []) }
-        ensures err { OnErr result (sizes.new.items ≡ sizes.old.items) }
-        ensures memory { IfErr result (λ e. e ≡ GrowError.Memory) }
-    {
-        match Vec::<T>::element_sizes(sizes) {
-            Ok(()) => Ok(()),
-            Err(error) => Err(error),
-        }
+    fn element_sizes(sizes: &mut Vec<usize>) -> Result<(), GrowError> {
+        Vec::<T>::element_sizes(sizes)
     }
 
     fn judge_tallied<L>(
         store: &DecodedStore<'_>,
         offset: usize,
         tally: &mut Tally<L>,
-    ) -> Result<(), StoreFault>
-        requires representable { IsTrue (representable (elements_format T.size T.align T.row_of)) }
-        requires room { offset + 1 ≤ length (slices_in store.now) }
-        ensures exact { verdict result ≡ first (moved offset (elements_broken T.size (first_slice (drop offset (slices_in store.now))))) }
-        ensures turns { tally.new.turns ≤ tally.old.turns + 0 * bytes_held (first_slice (drop offset (slices_in store.now))) }
-    {
-        match Vec::<T>::judge_tallied(store, offset, tally) {
-            Ok(()) => Ok(()),
-            Err(fault) => Err(fault),
-        }
+    ) -> Result<(), StoreFault> {
+        Vec::<T>::judge_tallied(store, offset, tally)
     }
 
-    fn rows_in(store: &DecodedStore<'_>, offset: usize) -> usize
-        requires representable { IsTrue (representable (elements_format T.size T.align T.row_of)) }
-        requires fits { Fits (elements_format T.size T.align T.row_of) offset (slices_in store.now) }
-        ensures { result ≡ length (elements_rows T.size T.row_of (first_slice (drop offset (slices_in store.now)))) }
-    {
+    fn rows_in(store: &DecodedStore<'_>, offset: usize) -> usize {
         Vec::<T>::rows_in(store, offset)
     }
 }
@@ -139,13 +114,7 @@ impl<'s> FromBytes<'s> for &'s [u8] {
 
 impl<'s, T: Sliced> AsBytes<'s> for &'s [T] {
     /// The one slice, with the alignment of the type.
-    fn get_byte_slice(&self, index: usize) -> (u64, ByteSlice<'s>)
-        requires representable { IsTrue (representable (elements_format T.size T.align T.row_of)) }
-        requires in_range { index < 1 }
-        ensures slice { slice_get (slices_of (elements T.le_bytes self.now.now)) index ≡ Some (bytes_in result.1) }
-        ensures align { result.0 ≡ alignment result.1 }
-        ensures aligned { slice_get (T.align ∷ []) index ≡ Some result.0 }
-    {
+    fn get_byte_slice(&self, index: usize) -> (u64, ByteSlice<'s>) {
         let slice = T::byte_slice(*self);
         (slice.align(), slice)
     }

@@ -140,19 +140,13 @@ impl<'a> ByteSlice<'a> {
     {
         let count = self.len();
         for i in 0..count / 8 {
-            match writer.write_all(&self.word(i).to_le_bytes()) {
-                Ok(()) => {}
-                Err(fault) => return Err(fault),
-            }
+            writer.write_all(&self.word(i).to_le_bytes())?;
         }
         let rest = count % 8;
         if rest == 0 {
             return Ok(());
         }
-        match writer.write_all(&self.word(count / 8).to_le_bytes()[..rest]) {
-            Ok(()) => Ok(()),
-            Err(fault) => Err(fault),
-        }
+        writer.write_all(&self.word(count / 8).to_le_bytes()[..rest])
     }
 
     /// Does nothing when it runs; its contract says that each number it holds is a byte.
@@ -161,30 +155,15 @@ impl<'a> ByteSlice<'a> {
     {}
 }
 
-fn byte_or_zero(bytes: &[u8], index: usize) -> u8
-    ensures { result ≡ slice_index bytes.now index }
-{
-    if index < bytes.len() { bytes[index] } else { 0 }
-}
-
 fn word_or_zeros(bytes: &[u8], index: usize) -> u64
     requires { 8 * index < length bytes.now }
     ensures { result ≡ word bytes.now index }
 {
-    let at = 8 * index;
-    if bytes.len() - at >= 8 {
-        return word_at(bytes, index);
+    if bytes.len() - 8 * index >= 8 {
+        word_at(bytes, index)
+    } else {
+        word_of(bytes, index)
     }
-    u64::from_le_bytes([
-        byte_or_zero(bytes, at),
-        byte_or_zero(bytes, at + 1),
-        byte_or_zero(bytes, at + 2),
-        byte_or_zero(bytes, at + 3),
-        byte_or_zero(bytes, at + 4),
-        byte_or_zero(bytes, at + 5),
-        byte_or_zero(bytes, at + 6),
-        byte_or_zero(bytes, at + 7),
-    ])
 }
 
 // Byte `at` of the bytes of elements, 0 past their end

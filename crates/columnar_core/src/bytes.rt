@@ -63,13 +63,9 @@ pub trait Stored: Column {
         if start > store.len() || store.len() - start < count {
             return Err(StoreFault::SliceCount(0));
         }
-        match Self::judge_tallied(store, start, tally) {
-            Ok(()) => {
-                *offset = start + count;
-                Ok(())
-            }
-            Err(fault) => Err(fault),
-        }
+        Self::judge_tallied(store, start, tally)?;
+        *offset = start + count;
+        Ok(())
     }
 
     /// Do as many slices as the type has, from `offset` on, make a well-formed column? The fault is the first broken
@@ -81,10 +77,7 @@ pub trait Stored: Column {
         ensures next { OnOk result (offset.new ≡ offset.old + Self.format.count) }
         ensures stays { OnErr result (offset.new ≡ offset.old) }
     {
-        match Self::validate_tallied(store, offset, &mut Tally::new()) {
-            Ok(()) => Ok(()),
-            Err(fault) => Err(fault),
-        }
+        Self::validate_tallied(store, offset, &mut Tally::new())
     }
 
     ghost storable: { IsStorable Self.format };
@@ -110,10 +103,7 @@ pub trait Check: Stored {
         ensures turns { tally.new.turns ≤ tally.old.turns + 16 * bytes_held (Self.content self.now) }
     {
         let _count = Self::slice_count();
-        match self.check_from_tallied(0, tally) {
-            Ok(()) => Ok(()),
-            Err(fault) => Err(fault),
-        }
+        self.check_from_tallied(0, tally)
     }
 
     /// Is the view well formed? The fault is the first broken rule, the parts' in slice order and then the whole's,
@@ -122,10 +112,7 @@ pub trait Check: Stored {
         requires { IsTrue (representable Self.format) }
         ensures { verdict result ≡ first (moved 0 (Self.format.broken (Self.content self.now))) }
     {
-        match self.check_tallied(&mut Tally::new()) {
-            Ok(()) => Ok(()),
-            Err(fault) => Err(fault),
-        }
+        self.check_tallied(&mut Tally::new())
     }
 }
 

@@ -45,10 +45,7 @@ pub trait ExtendFrom<V: Column + Copy>: Storage + Reserve {
         for view in views {
             room = Self::add_room(room, view);
         }
-        match self.reserve_room(room) {
-            Ok(()) => Ok(()),
-            Err(error) => Err(error),
-        }
+        self.reserve_room(room)
     }
 
     /// A column without rows, with room for the rows of the views.
@@ -65,10 +62,8 @@ pub trait ExtendFrom<V: Column + Copy>: Storage + Reserve {
         ensures memory { IfErr result (λ e. e ≡ GrowError.Memory) }
     {
         let mut column = Self::empty(alloc);
-        match column.reserve_for(views) {
-            Ok(()) => Ok(column),
-            Err(error) => Err(error),
-        }
+        column.reserve_for(views)?;
+        Ok(column)
     }
 }
 

@@ -27,46 +27,23 @@ impl<'v, C: ContainerBytes> Stored for Owned<'v, C> {
 
     ghost counted = { λ o. C.counted o.0.now };
 
-    fn slice_count() -> usize
-        requires { IsTrue (representable C.format) }
-        ensures { result ≡ C.format.count }
-    {
+    fn slice_count() -> usize {
         C::slice_count()
     }
 
-    fn element_sizes(sizes: &mut Vec<usize>) -> Result<(), GrowError>
-        requires { IsTrue (representable C.format) }
-        ensures ok { OnOk result (sizes.new.items ≡ sizes.old.items ++ C.format.sizes) }
-        ensures err { OnErr result (sizes.new.items ≡ sizes.old.items) }
-        ensures memory { IfErr result (λ e. e ≡ GrowError.Memory) }
-    {
-        match C::element_sizes(sizes) {
-            Ok(()) => Ok(()),
-            Err(error) => Err(error),
-        }
+    fn element_sizes(sizes: &mut Vec<usize>) -> Result<(), GrowError> {
+        C::element_sizes(sizes)
     }
 
     fn judge_tallied<L>(
         store: &DecodedStore<'_>,
         offset: usize,
         tally: &mut Tally<L>,
-    ) -> Result<(), StoreFault>
-        requires representable { IsTrue (representable C.format) }
-        requires room { offset + C.format.count ≤ length (slices_in store.now) }
-        ensures exact { verdict result ≡ first (moved offset (C.format.broken (C.format.build (drop offset (slices_in store.now))))) }
-        ensures turns { tally.new.turns ≤ tally.old.turns + C.format.turns * bytes_held (C.format.build (drop offset (slices_in store.now))) }
-    {
-        match C::judge_tallied(store, offset, tally) {
-            Ok(()) => Ok(()),
-            Err(fault) => Err(fault),
-        }
+    ) -> Result<(), StoreFault> {
+        C::judge_tallied(store, offset, tally)
     }
 
-    fn rows_in(store: &DecodedStore<'_>, offset: usize) -> usize
-        requires representable { IsTrue (representable C.format) }
-        requires fits { Fits C.format offset (slices_in store.now) }
-        ensures { result ≡ length (C.format.rows (C.format.build (drop offset (slices_in store.now)))) }
-    {
+    fn rows_in(store: &DecodedStore<'_>, offset: usize) -> usize {
         C::rows_in(store, offset)
     }
 }

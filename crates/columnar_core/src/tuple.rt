@@ -26,10 +26,7 @@ impl<V: Column + Copy, W: Column + Copy, A: ExtendFrom<V>, B: ExtendFrom<W>> Ext
         let before = self.0.len();
         let start = range.start;
         let end = range.end;
-        match self.0.extend_from_self(view.0, start..end) {
-            Ok(()) => {}
-            Err(error) => return Err(error),
-        }
+        self.0.extend_from_self(view.0, start..end)?;
         match self.1.extend_from_self(view.1, start..end) {
             Ok(()) => Ok(()),
             Err(error) => {
@@ -98,10 +95,7 @@ impl<A: Stored, B: Stored> Stored for (A, B) {
         offset: usize,
         tally: &mut Tally<L>,
     ) -> Result<(), StoreFault> {
-        match judge_two::<A, B, L>(store, offset, tally) {
-            Ok(()) => {}
-            Err(fault) => return Err(fault),
-        }
+        judge_two::<A, B, L>(store, offset, tally)?;
         let rows = A::rows_in(store, offset);
         if rows == B::rows_in(store, offset + A::slice_count()) {
             Ok(())
@@ -117,10 +111,7 @@ impl<A: Stored, B: Stored> Stored for (A, B) {
 
 impl<A: Check + Len, B: Check + Len> Check for (A, B) {
     fn check_from_tallied<L>(&self, from: usize, tally: &mut Tally<L>) -> Result<(), StoreFault> {
-        match check_two(&self.0, &self.1, from, tally) {
-            Ok(()) => {}
-            Err(fault) => return Err(fault),
-        }
+        check_two(&self.0, &self.1, from, tally)?;
         let rows = self.0.len();
         if rows == self.1.len() {
             Ok(())

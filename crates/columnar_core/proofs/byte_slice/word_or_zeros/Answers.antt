@@ -1,8 +1,12 @@
-use Rattle.std.proofs.Common.{add-zero}
-use Rattle.std.proofs.lemmas.List.{get_or-drop}
-use Rattle.columnar_core.specs.Bytes.{word}
+use Rattle.std.proofs.Common.{arith}
+use Rattle.columnar_core.specs.NumberSlices.{bytes_are}
 use Rattle.columnar_core.proofs.byte_slice.word_or_zeros.Goals as goal
 
-pub returns : goal.returns
-unfolding word
-returns c = rw (c.from_le_bytes.ensures, c.byte_or_zero.ensures, c.byte_or_zero-2.ensures, c.byte_or_zero-3.ensures, c.byte_or_zero-4.ensures, c.byte_or_zero-5.ensures, c.byte_or_zero-6.ensures, c.byte_or_zero-7.ensures, c.byte_or_zero-8.ensures) (simp (get_or-drop, add-zero))
+pub word_of-requires-clause-short : goal.word_of-requires-clause-short
+word_of-requires-clause-short c = rw (← (bytes_are c.args.bytes.now (λ i. (c.type_inv.bytes i).fits))) (omega arith)
+
+pub word_of-requires-clause-in_range : goal.word_of-requires-clause-in_range
+word_of-requires-clause-in_range c = rw (← (bytes_are c.args.bytes.now (λ i. (c.type_inv.bytes i).fits))) c.requires
+
+pub returns-else-bytes-index-ge8 : goal.returns-else-bytes-index-ge8
+returns-else-bytes-index-ge8 c = rw (← (bytes_are c.args.bytes.now (λ i. (c.type_inv.bytes i).fits))) at c.word_of.ensures

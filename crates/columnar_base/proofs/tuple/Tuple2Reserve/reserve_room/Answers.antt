@@ -8,11 +8,8 @@ reserve_room-requires g c = (pair_parts g.A.Column.format g.B.Column.format c.re
 pub reserve_room-requires-2 : goal.reserve_room-requires-2
 reserve_room-requires-2 g c = (pair_parts g.A.Column.format g.B.Column.format c.requires).right
 
-pub returns-in-Err-clause-stayed : goal.returns-in-Err-clause-stayed
-returns-in-Err-clause-stayed g c = pair_stayed g.A.Column.format g.B.Column.format c.requires c.reserve_room.ensures.stayed (unchanged (pair_parts g.A.Column.format g.B.Column.format c.requires).right)
+pub returns-in_err-reserve_room-clause-stayed : goal.returns-in_err-reserve_room-clause-stayed
+returns-in_err-reserve_room-clause-stayed g c = pair_stayed g.A.Column.format g.B.Column.format c.requires c.reserve_room.ensures.stayed (unchanged (pair_parts g.A.Column.format g.B.Column.format c.requires).right)
 
-pub returns-in-Ok-reserve_room-clause-stayed : goal.returns-in-Ok-reserve_room-clause-stayed
-returns-in-Ok-reserve_room-clause-stayed g c = pair_stayed g.A.Column.format g.B.Column.format c.requires c.reserve_room.ensures.stayed c.reserve_room-2.ensures.stayed
-
-pub returns-in-Err-reserve_room-clause-stayed : goal.returns-in-Err-reserve_room-clause-stayed
-returns-in-Err-reserve_room-clause-stayed g c = pair_stayed g.A.Column.format g.B.Column.format c.requires c.reserve_room.ensures.stayed c.reserve_room-2.ensures.stayed
+pub returns-clause-stayed : goal.returns-clause-stayed
+returns-clause-stayed g c = pair_stayed g.A.Column.format g.B.Column.format c.requires c.reserve_room.ensures.stayed c.reserve_room-2.ensures.stayed

@@ -15,6 +15,13 @@ use Rattle.columnar_base.specs.Format.{Content, slice, both, part, plain, IsSoun
 use Rattle.columnar_base.specs.Change.{Keeps, Grew, WasCut, Took, Copied}
 use Rattle.columnar_base.specs.Elements.{pieces, past_count, elements_broken, elements_rows, elements_format, elements, first_slice, word_row, word_row_of}
 
+-- what breaks no rule of elements is a slice
+pub elements_form : (size : ℕ) (c : Content) → elements_broken size c ≡ [] → (bs : List ℕ) × (c ≡ slice bs)
+elements_form size (slice bs) h = (bs, refl)
+elements_form size (both x y) h = cc
+elements_form size (part l u x) h = cc
+elements_form size (plain rs) h = cc
+
 pub length-pieces : (size n : ℕ) (bs : List ℕ) → length (pieces size n bs) ≡ n
 length-pieces size zero bs = refl
 length-pieces size (suc n) bs = ap suc (length-pieces size n (drop size bs))

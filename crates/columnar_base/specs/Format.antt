@@ -139,6 +139,13 @@ pub record IsStorable (f : Format) : Type 0 where
 abbrev pub misfit : List Fault
 misfit = fault 0 0 ∷ []
 
+-- the rules of two parts, one after the other, and then one of both, which the test shows
+abbrev pub two_broken : Format → Format → (Content → Content → Bool) → ℕ → Content → List Fault
+two_broken a b test rule (both x y) = a.broken x ++ (moved a.count (b.broken y) ++ unless (test x y) (fault rule 0))
+two_broken a b test rule (slice bs) = misfit
+two_broken a b test rule (part l u x) = misfit
+two_broken a b test rule (plain rs) = misfit
+
 -- the rows l..u of a column
 abbrev pub part_rows : Format → Content → List Row
 part_rows f (part l u c) = take (u - l) (drop l (f.rows c))

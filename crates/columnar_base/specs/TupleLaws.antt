@@ -5,12 +5,11 @@ use Rattle.std.proofs.lemmas.List.{map-append, drop-drop}
 use Rattle.std.proofs.lemmas.Bool.{and_parts, and_from, or_left, or_right, eqb-true, eq-eqb}
 use Rattle.columnar_base.specs.Row.{Row, tuple, first_of, second_of, bare_tuple, row_eq}
 use Rattle.columnar_base.specs.RowLaws.{row_eq-is, same_tuple}
-use Rattle.columnar_base.specs.FaultLaws.{nothing_left, nothing_both, nothing_moved, moved_nothing, unless_true, true_unless}
 use Rattle.columnar_base.specs.AlikeLaws.{alike_length, same_pulled, same_both, row_eq_same}
 use Rattle.columnar_base.specs.Format.{Format, Content, slice, both, part, plain, IsSound, IsLawful, IsStorable, IsSame, IsExact, Fits, lengths, slices_of, moved, unless, fault, all_alike, Excess, refuses_more}
 use Rattle.columnar_base.specs.Change.{Keeps, Grew, Stayed, WasCut, Took, Copied, Refused}
 use Rattle.columnar_base.specs.ChangeLaws.{true_from}
-use Rattle.columnar_base.specs.TwoParts.{IsBoth, TwoParts, two_storable}
+use Rattle.columnar_base.specs.TwoParts.{TwoParts, two_parts, two_sound, two_storable}
 use Rattle.columnar_base.specs.declared.fault.GrowError.{GrowError}
 use Rattle.columnar_base.specs.Tuples.{tuples, firsts, seconds, pair_level, pair_alike, pair_refuses, pair_format}
 
@@ -100,21 +99,14 @@ pub record SoundPair (a b : Format) (x y : Content) : Type 0 where
   pub right : IsSound b y
   pub level : length (a.rows x) ≡ length (b.rows y)
 
+pub pair_two : (a b : Format) → TwoParts (pair_format a b) a b (pair_level a b) 10
+pair_two a b = record { count = refl; sizes = refl; aligns = refl; build = λ ss. refl; broken = λ c. refl }
+
 pub pair_parts : (a b : Format) {x y : Content} → IsSound (pair_format a b) (both x y) → SoundPair a b x y
-pair_parts a b {x} {y} s =
-    let p = nothing_left (a.broken x) (moved a.count (b.broken y) ++ unless (pair_level a b x y) (fault 10 0)) s.accepted in
-    let q = nothing_left (moved a.count (b.broken y)) (unless (pair_level a b x y) (fault 10 0)) p.1 in
-    record {
-      left = record { accepted = p.0 };
-      right = record { accepted = nothing_moved a.count (b.broken y) q.0 };
-      level = eqb-true _ _ (unless_true (pair_level a b x y) (fault 10 0) q.1);
-    }
+pair_parts a b {x} {y} s = let p = two_parts (pair_two a b) x y s in record { left = p.left; right = p.right; level = eqb-true _ _ p.own }
 
 pub pair_sound : (a b : Format) {x y : Content} → SoundPair a b x y → IsSound (pair_format a b) (both x y)
-pair_sound a b {x} {y} s = record {
-  accepted = nothing_both (a.broken x) (moved a.count (b.broken y) ++ unless (pair_level a b x y) (fault 10 0)) s.left.accepted
-      (nothing_both (moved a.count (b.broken y)) (unless (pair_level a b x y) (fault 10 0)) (moved_nothing a.count (b.broken y) s.right.accepted) (true_unless (pair_level a b x y) (fault 10 0) (eq-eqb _ _ s.level)));
-}
+pair_sound a b {x} {y} s = two_sound (pair_two a b) x y (record { left = s.left; right = s.right; own = eq-eqb _ _ s.level })
 
 -- as many rows as the first part
 pub length-pair : (a b : Format) {x y : Content} → IsSound (pair_format a b) (both x y) → length (tuples (a.rows x) (b.rows y)) ≡ length (a.rows x)
@@ -144,15 +136,6 @@ pair_more a b la lb e (both x y) n rs ss h =
 pair_more a b la lb e (slice bs) n rs ss h = h
 pair_more a b la lb e (part l u x) n rs ss h = h
 pair_more a b la lb e (plain ts) n rs ss h = h
-
-pair_form : (a b : Format) (c : Content) → IsSound (pair_format a b) c → IsBoth c
-pair_form a b (both x y) s = record { left = x; right = y; is = refl }
-pair_form a b (slice bs) s = cc
-pair_form a b (part l u x) s = cc
-pair_form a b (plain rs) s = cc
-
-pub pair_two : (a b : Format) → TwoParts (pair_format a b) a b (pair_level a b) 10
-pair_two a b = record { count = refl; sizes = refl; aligns = refl; form = pair_form a b; build = λ ss. refl; broken = λ x y. refl }
 
 -- what is alike in both parts is kin in both
 pair_related : (a b a' b' : Row → Row → Bool) → ((r s : Row) → a r s ≡ true → a' r s ≡ true) → ((r s : Row) → b r s ≡ true → b' r s ≡ true) → (r s : Row) → pair_alike a b r s ≡ true → pair_alike a' b' r s ≡ true

@@ -1,7 +1,7 @@
 -- Columns side by side, whose rows are tuples.
 use Rattle.std.specs.Prelude.{ℕ, Bool, false, List, [], ◌∷◌, ◌++◌, length, ◌+◌, drop, ◌&&◌, ◌||◌, nat_eq, map}
 use Rattle.columnar_base.specs.Row.{Row, tuple, first_of, second_of, bare_tuple, row_eq}
-use Rattle.columnar_base.specs.Format.{Format, Content, slice, both, part, plain, Fault, fault, moved, unless, misfit, Excess}
+use Rattle.columnar_base.specs.Format.{Format, Content, slice, both, part, plain, Fault, two_broken, Excess}
 
 -- row by row, as long as both have one
 abbrev pub tuples : List Row → List Row → List Row
@@ -21,10 +21,7 @@ abbrev pub pair_level : Format → Format → Content → Content → Bool
 pair_level a b x y = nat_eq (length (a.rows x)) (length (b.rows y))
 
 abbrev pub pair_broken : Format → Format → Content → List Fault
-pair_broken a b (both x y) = a.broken x ++ (moved a.count (b.broken y) ++ unless (pair_level a b x y) (fault 10 0))
-pair_broken a b (slice bs) = misfit
-pair_broken a b (part l u x) = misfit
-pair_broken a b (plain rs) = misfit
+pair_broken a b = two_broken a b (pair_level a b) 10
 
 abbrev pub pair_rows : Format → Format → Content → List Row
 pair_rows a b (both x y) = tuples (a.rows x) (b.rows y)

@@ -4,8 +4,8 @@ use Rattle.std.specs.Prelude.{slice_get, Option, Some, None, nat_le, nat_lt}
 use Rattle.std.proofs.lemmas.List.{drop-drop, map-append}
 use Rattle.std.proofs.lemmas.Bool.{and_parts, and_from, leb-true, le-leb}
 use Rattle.std.proofs.Math.Nat.{mul-le-mul_right}
-use Rattle.columnar_base.specs.Format.{Format, Content, both, Fits, IsSound, IsStorable, Fault, fault, moved, moved_one, first, unless, slices_of, representable, are_sizes}
-use Rattle.columnar_base.specs.FaultLaws.{moved_twice, first_found, first_none, nothing_left, nothing_moved}
+use Rattle.columnar_base.specs.Format.{Format, Content, slice, both, part, plain, two_broken, Fits, IsSound, IsStorable, Fault, fault, moved, moved_one, first, unless, slices_of, representable, are_sizes}
+use Rattle.columnar_base.specs.FaultLaws.{moved_twice, first_found, first_none, nothing_left, nothing_both, nothing_moved, moved_nothing, unless_true, true_unless}
 use Rattle.std.proofs.Math.Seq.{drop-append_seam}
 
 -- a content of two parts
@@ -19,14 +19,43 @@ pub record TwoParts (f a b : Format) (test : Content → Content → Bool) (rule
   pub count : f.count ≡ a.count + b.count
   pub sizes : f.sizes ≡ a.sizes ++ b.sizes
   pub aligns : f.aligns ≡ a.aligns ++ b.aligns
-  pub form : (c : Content) → IsSound f c → IsBoth c
   pub build : (ss : List (List ℕ)) → f.build ss ≡ both (a.build ss) (b.build (drop a.count ss))
-  pub broken : (x y : Content) → f.broken (both x y) ≡ a.broken x ++ (moved a.count (b.broken y) ++ unless (test x y) (fault rule 0))
+  pub broken : (c : Content) → f.broken c ≡ two_broken a b test rule c
+
+-- a sound content has both parts
+pub two_form : {f a b : Format} {test : Content → Content → Bool} {rule : ℕ} → TwoParts f a b test rule → (c : Content) → IsSound f c → IsBoth c
+two_form t (both x y) s = record { left = x; right = y; is = refl }
+two_form t (slice bs) s = let e = t.broken (slice bs) in let h = s.accepted in cc
+two_form t (part l u x) s = let e = t.broken (part l u x) in let h = s.accepted in cc
+two_form t (plain rs) s = let e = t.broken (plain rs) in let h = s.accepted in cc
+
+-- what the soundness of two parts is made of
+pub record SoundTwo (a b : Format) (x y : Content) (test : Bool) : Type 0 where
+  pub left : IsSound a x
+  pub right : IsSound b y
+  pub own : test ≡ true
+
+pub two_parts : {f a b : Format} {test : Content → Content → Bool} {rule : ℕ} → TwoParts f a b test rule → (x y : Content) → IsSound f (both x y) → SoundTwo a b x y (test x y)
+two_parts {f} {a} {b} {test} {rule} t x y s =
+    let p = nothing_left (a.broken x) (moved a.count (b.broken y) ++ unless (test x y) (fault rule 0)) (sym (t.broken (both x y)) ∙ s.accepted) in
+    let q = nothing_left (moved a.count (b.broken y)) (unless (test x y) (fault rule 0)) p.1 in
+    record {
+      left = record { accepted = p.0 };
+      right = record { accepted = nothing_moved a.count (b.broken y) q.0 };
+      own = unless_true (test x y) (fault rule 0) q.1;
+    }
+
+pub two_sound : {f a b : Format} {test : Content → Content → Bool} {rule : ℕ} → TwoParts f a b test rule → (x y : Content) → SoundTwo a b x y (test x y) → IsSound f (both x y)
+two_sound {f} {a} {b} {test} {rule} t x y s = record {
+  accepted = t.broken (both x y)
+      ∙ nothing_both (a.broken x) (moved a.count (b.broken y) ++ unless (test x y) (fault rule 0)) s.left.accepted
+      (nothing_both (moved a.count (b.broken y)) (unless (test x y) (fault rule 0)) (moved_nothing a.count (b.broken y) s.right.accepted) (true_unless (test x y) (fault rule 0) s.own));
+}
 
 -- the faults of both parts, and then the own one, counted from `o`
 pub two_moved : {f a b : Format} {test : Content → Content → Bool} {rule : ℕ} → TwoParts f a b test rule → (x y : Content) (o : ℕ) → moved o (f.broken (both x y)) ≡ moved o (a.broken x) ++ (moved (o + a.count) (b.broken y) ++ moved o (unless (test x y) (fault rule 0)))
 two_moved {f} {a} {b} {test} {rule} t x y o =
-    let e = t.broken x y in
+    let e = t.broken (both x y) in
     let m1 : moved o (a.broken x ++ (moved a.count (b.broken y) ++ unless (test x y) (fault rule 0))) ≡ moved o (a.broken x) ++ moved o (moved a.count (b.broken y) ++ unless (test x y) (fault rule 0)) = map-append (moved_one o) (a.broken x) (moved a.count (b.broken y) ++ unless (test x y) (fault rule 0)) in
     let m2 : moved o (moved a.count (b.broken y) ++ unless (test x y) (fault rule 0)) ≡ moved o (moved a.count (b.broken y)) ++ moved o (unless (test x y) (fault rule 0)) = map-append (moved_one o) (moved a.count (b.broken y)) (unless (test x y) (fault rule 0)) in
     let m3 = moved_twice o a.count (b.broken y) in
@@ -146,16 +175,10 @@ two_slices {f} {a} {b} t ss l p q =
 
 -- both parts of what is well formed are well formed
 pub two_sound_left : {f a b : Format} {test : Content → Content → Bool} {rule : ℕ} → TwoParts f a b test rule → (x y : Content) → IsSound f (both x y) → IsSound a x
-two_sound_left {f} {a} {b} {test} {rule} t x y s =
-    let h : a.broken x ++ (moved a.count (b.broken y) ++ unless (test x y) (fault rule 0)) ≡ [] = sym (t.broken x y) ∙ s.accepted in
-    record { accepted = (nothing_left (a.broken x) (moved a.count (b.broken y) ++ unless (test x y) (fault rule 0)) h).0 }
+two_sound_left t x y s = (two_parts t x y s).left
 
 pub two_sound_right : {f a b : Format} {test : Content → Content → Bool} {rule : ℕ} → TwoParts f a b test rule → (x y : Content) → IsSound f (both x y) → IsSound b y
-two_sound_right {f} {a} {b} {test} {rule} t x y s =
-    let h : a.broken x ++ (moved a.count (b.broken y) ++ unless (test x y) (fault rule 0)) ≡ [] = sym (t.broken x y) ∙ s.accepted in
-    let p = nothing_left (a.broken x) (moved a.count (b.broken y) ++ unless (test x y) (fault rule 0)) h in
-    let q = nothing_left (moved a.count (b.broken y)) (unless (test x y) (fault rule 0)) p.1 in
-    record { accepted = nothing_moved a.count (b.broken y) q.0 }
+two_sound_right t x y s = (two_parts t x y s).right
 
 -- as many slices as both parts have
 two_all : {f a b : Format} {test : Content → Content → Bool} {rule : ℕ} → TwoParts f a b test rule → IsStorable a → IsStorable b → (x y : Content) → IsSound f (both x y) → length (slices_of x ++ slices_of y) ≡ f.count
@@ -178,8 +201,8 @@ two_storable {f} {a} {b} t l p q = record {
   swift = l;
   sized = rw t.sizes (length-append a.sizes b.sizes ∙ omega (arith, p.sized, q.sized, t.count));
   aligned = rw t.aligns (length-append a.aligns b.aligns ∙ omega (arith, p.aligned, q.aligned, t.count));
-  counted = λ c s. let w = t.form c s in rw w.is (two_all t p q w.left w.right (rw w.is at s));
-  rebuilt = λ c rest s. let w = t.form c s in rw w.is (two_again t p q w.left w.right rest (rw w.is at s));
+  counted = λ c s. let w = two_form t c s in rw w.is (two_all t p q w.left w.right (rw w.is at s));
+  rebuilt = λ c rest s. let w = two_form t c s in rw w.is (two_again t p q w.left w.right rest (rw w.is at s));
   built = λ ss r. two_slices t ss r (λ k. p.built ss k) (λ k. q.built (drop a.count ss) k);
 }
 

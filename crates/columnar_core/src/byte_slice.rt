@@ -2,6 +2,7 @@
 ghost use Rattle.std.specs.Prelude.{ℕ, List, ◌≡◌, ◌<◌, ◌*◌, ◌+◌, ◌^◌, length, slice_index, OnOk, OnErr};
 ghost use Rattle.std.specs.List.{flat_map};
 ghost use Rattle.std.specs.Io.KnownBytes.{Appends};
+ghost use Rattle.columnar_base.specs.WordViews.{view_bytes};
 ghost use Rattle.columnar_core.specs.Bytes.{word, le_bytes, AreBytes};
 ghost use Rattle.columnar_core.specs.Sent.{AppendsBeginning};
 ghost use Rattle.columnar_core.specs.SliceBytes.{IsCounted, bytes_of};
@@ -9,6 +10,7 @@ ghost use Rattle.columnar_core.specs.SliceBytes.{IsCounted, bytes_of};
 use super::store::word_at;
 use super::writer::WriteBytes;
 use columnar_base::element::Primitive;
+use columnar_base::view::{Items, View};
 use std::num::Wrapping;
 
 pub mod flat;
@@ -78,6 +80,17 @@ impl<'a> ByteSlice<'a> {
             elements: Elements::U64(words),
             count,
             align: 8,
+        }
+    }
+
+    /// The slice of the bytes of the words of a view, with the alignment of words, wherever they stand.
+    pub fn of_view(view: View<'a, u64>) -> Self
+        ensures bytes { bytes_in result ≡ view_bytes view.entry }
+        ensures align { alignment result ≡ 8 }
+    {
+        match view.items() {
+            Items::Typed(words) => ByteSlice::of_words(words),
+            Items::Bytes(bytes) => ByteSlice::of_le_bytes(bytes, 8),
         }
     }
 

@@ -7,15 +7,15 @@ use Rattle.std.proofs.lemmas.Bool.{or_right, and_parts, and_from, leb-true, le-l
 use Rattle.columnar_base.specs.Row.{Row, list, number, number_of, items_of, end_of, empty}
 use Rattle.columnar_base.specs.RowLaws.{is-row_eq, items_of-list, end_of-list}
 use Rattle.columnar_base.specs.Elements.{word_row}
-use Rattle.columnar_base.specs.FaultLaws.{nothing_left, nothing_both, nothing_moved, moved_nothing, unless_true, true_unless}
+use Rattle.columnar_base.specs.FaultLaws.{nothing_left, nothing_both, unless_true, true_unless}
 use Rattle.columnar_base.specs.AlikeLaws.{alike_length}
 use Rattle.columnar_base.specs.Format.{Format, Content, slice, both, part, plain, part_format, IsSound, IsLawful, IsStorable, lengths, moved, unless, fault, Excess, refuses_more}
 use Rattle.columnar_base.specs.Change.{Keeps, Grew, Stayed, WasCut, Took, Copied, Refused}
 use Rattle.columnar_base.specs.ChangeLaws.{grew_exactly, true_from}
-use Rattle.columnar_base.specs.TwoParts.{IsBoth, TwoParts, two_storable}
+use Rattle.columnar_base.specs.TwoParts.{TwoParts, two_parts, two_sound, two_storable}
 use Rattle.columnar_base.specs.declared.fault.GrowError.{GrowError}
 use Rattle.columnar_core.specs.Bounds.{rises, numbers, IsBounds}
-use Rattle.columnar_lists.specs.Lists.{lists_format, lists_rows, lists_refuses, joined, cut, last_or, end_at, ends, shifted}
+use Rattle.columnar_lists.specs.Lists.{lists_format, lists_rise, lists_rows, lists_refuses, joined, cut, last_or, end_at, ends, shifted}
 use Rattle.columnar_lists.specs.CutLaws.{rises-last, rises-from, rises-append, rises-take, last-take, length-cut, cut-take, cut-append, cut-more, are_lists, cut_lists, joined-cut, joined-append, ends-append, ends_rise, cut_alike, cut_exactly, lists_same, lists_related, ends_cut, rises-range, cut-range, shifted-range, rises_get, last_at, number_get, bound_between}
 
 -- what the soundness of lists is made of
@@ -24,14 +24,15 @@ pub record SoundLists (b t : Format) (x y : Content) : Type 0 where
   pub values : IsSound t y
   pub rise : rises 0 (numbers (b.rows x)) (length (t.rows y)) ≡ true
 
+-- both parts' rules, and that the bounds rise to the number of the values
+pub lists_two : (b t : Format) → TwoParts (lists_format b t) b t (lists_rise b t) 11
+lists_two b t = record { count = refl; sizes = refl; aligns = refl; build = λ ss. refl; broken = λ c. refl }
+
 pub lists_parts : (b t : Format) {x y : Content} → IsSound (lists_format b t) (both x y) → SoundLists b t x y
-lists_parts b t {x} {y} s =
-    let p = nothing_left (b.broken x) (moved b.count (t.broken y) ++ unless (rises 0 (numbers (b.rows x)) (length (t.rows y))) (fault 11 0)) s.accepted in
-    let q = nothing_left (moved b.count (t.broken y)) (unless (rises 0 (numbers (b.rows x)) (length (t.rows y))) (fault 11 0)) p.1 in
-    record { bounds = record { accepted = p.0 }; values = record { accepted = nothing_moved b.count (t.broken y) q.0 }; rise = unless_true (rises 0 (numbers (b.rows x)) (length (t.rows y))) (fault 11 0) q.1 }
+lists_parts b t {x} {y} s = let p = two_parts (lists_two b t) x y s in record { bounds = p.left; values = p.right; rise = p.own }
 
 pub lists_sound : (b t : Format) {x y : Content} → SoundLists b t x y → IsSound (lists_format b t) (both x y)
-lists_sound b t {x} {y} s = record { accepted = nothing_both (b.broken x) (moved b.count (t.broken y) ++ unless (rises 0 (numbers (b.rows x)) (length (t.rows y))) (fault 11 0)) s.bounds.accepted (nothing_both (moved b.count (t.broken y)) (unless (rises 0 (numbers (b.rows x)) (length (t.rows y))) (fault 11 0)) (moved_nothing b.count (t.broken y) s.values.accepted) (true_unless (rises 0 (numbers (b.rows x)) (length (t.rows y))) (fault 11 0) s.rise)) }
+lists_sound b t {x} {y} s = two_sound (lists_two b t) x y (record { left = s.bounds; right = s.values; own = s.rise })
 
 -- there are as many lists as bounds
 pub length-lists : (b t : Format) (x y : Content) → length (lists_rows b t (both x y)) ≡ length (b.rows x)
@@ -75,16 +76,6 @@ lists_more b t lb lt e (both x y) n rs ss h =
 lists_more b t lb lt e (slice bs) n rs ss h = cc
 lists_more b t lb lt e (part l u x) n rs ss h = cc
 lists_more b t lb lt e (plain us) n rs ss h = cc
-
-lists_form : (b t : Format) (c : Content) → IsSound (lists_format b t) c → IsBoth c
-lists_form b t (both x y) s = record { left = x; right = y; is = refl }
-lists_form b t (slice bs) s = cc
-lists_form b t (part l u x) s = cc
-lists_form b t (plain rs) s = cc
-
--- the test of lists: both parts', and that the bounds rise to the number of the values
-pub lists_two : (b t : Format) → TwoParts (lists_format b t) b t (λ x y. rises 0 (numbers (b.rows x)) (length (t.rows y))) 11
-lists_two b t = record { count = refl; sizes = refl; aligns = refl; form = lists_form b t; build = λ ss. refl; broken = λ x y. refl }
 
 pub lists_lawful : (b t : Format) → IsLawful b → IsLawful t → IsLawful (lists_format b t)
 lists_lawful b t lb lt = record {

@@ -1,7 +1,7 @@
 -- Columns of lists: the items of all lists one after another, and where each list ends.
 use Rattle.std.specs.Prelude.{ℕ, Bool, false, List, [], ◌∷◌, ◌++◌, length, ◌+◌, ◌-◌, take, drop, ◌&&◌, ◌||◌, map}
 use Rattle.columnar_base.specs.Row.{Row, list, number, items_of, end_of, row_eq}
-use Rattle.columnar_base.specs.Format.{Format, Content, slice, both, part, plain, Fault, fault, moved, unless, misfit, all_alike, Excess}
+use Rattle.columnar_base.specs.Format.{Format, Content, slice, both, part, plain, Fault, two_broken, all_alike, Excess}
 use Rattle.columnar_core.specs.Bounds.{numbers, rises}
 
 -- the last bound, or `from` where there is none
@@ -28,11 +28,12 @@ ends from (r ∷ rs) = number (from + length (items_of r)) ∷ ends (from + leng
 abbrev pub shifted : ℕ → ℕ → List ℕ → List Row
 shifted lower start ns = map (λ n. number (start + (n - lower))) ns
 
+-- do the bounds rise to the number of the values
+abbrev pub lists_rise : Format → Format → Content → Content → Bool
+lists_rise b t x y = rises 0 (numbers (b.rows x)) (length (t.rows y))
+
 abbrev pub lists_broken : Format → Format → Content → List Fault
-lists_broken b t (both x y) = b.broken x ++ (moved b.count (t.broken y) ++ unless (rises 0 (numbers (b.rows x)) (length (t.rows y))) (fault 11 0))
-lists_broken b t (slice bs) = misfit
-lists_broken b t (part l u x) = misfit
-lists_broken b t (plain rs) = misfit
+lists_broken b t = two_broken b t (lists_rise b t) 11
 
 abbrev pub lists_rows : Format → Format → Content → List Row
 lists_rows b t (both x y) = cut 0 (numbers (b.rows x)) (t.rows y)

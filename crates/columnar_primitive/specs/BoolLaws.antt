@@ -13,7 +13,7 @@ use Rattle.columnar_core.specs.Appended.{map_drop}
 use Rattle.columnar_core.specs.declared.fault.GrowError.{GrowError}
 use Rattle.columnar_core.specs.declared.fault.GrowError.TheVariants.{Memory, Length, Offset, Format as FormatError}
 use Rattle.columnar_core.specs.Elements.{elements_broken, past_count}
-use Rattle.columnar_core.specs.ElementLaws.{past_more}
+use Rattle.columnar_core.specs.ElementLaws.{elements_form, past_more}
 use Rattle.columnar_core.specs.WordViews.{words_in, bit_words, le_bytes}
 use Rattle.columnar_core.specs.WordViewLaws.{length-words_in, length-le_bytes, word_of_words, words_pushed, words_cut}
 use Rattle.columnar_primitive.specs.Bits.{bit, truths}
@@ -66,12 +66,6 @@ pub record TwoSlices (c : Content) : Type 0 where
   pub tail : List ℕ
   pub is : c ≡ both (slice values) (slice tail)
 
-left_form : (x : Content) (rest : List Fault) → elements_broken 8 x ++ rest ≡ [] → (a : List ℕ) × (x ≡ slice a)
-left_form (slice a) rest h = (a, refl)
-left_form (both x y) rest h = cc
-left_form (part l u x) rest h = cc
-left_form (plain rs) rest h = cc
-
 right_form : (y : Content) (rest : List Fault) → moved 1 (tail_broken y) ++ rest ≡ [] → (b : List ℕ) × (y ≡ slice b)
 right_form (slice b) rest h = (b, refl)
 right_form (both x y) rest h = cc
@@ -80,8 +74,8 @@ right_form (plain rs) rest h = cc
 
 pub bools_form : (c : Content) → IsSound bools_format c → TwoSlices c
 bools_form (both x y) s =
-    let p = left_form x _ s.accepted in
     let q = nothing_left (elements_broken 8 x) _ s.accepted in
+    let p = elements_form 8 x q.0 in
     let r = right_form y _ q.1 in
     record { values = p.0; tail = r.0; is = ap₂ (λ (u v : Content). both u v) p.1 r.1 }
 bools_form (slice bs) s = cc

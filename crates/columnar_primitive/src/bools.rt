@@ -23,7 +23,7 @@ use std::ops::Range;
 
 mod bytes;
 
-pub use bytes::{judged, view_slice};
+pub use bytes::judged;
 
 /// Truth values, packed as bits, the lowest first.
 #[derive(Clone, Copy, PartialEq, Drop)]

@@ -4,18 +4,17 @@ use Rattle.std.proofs.lemmas.List.{map-append, length-map, take-map, drop-map, d
 use Rattle.std.proofs.Math.Nat.{mul-le-mul_right}
 use Rattle.std.proofs.lemmas.Bool.{and_parts, and_from, or_left, or_right, eqb-true, eq-eqb}
 use Rattle.columnar_core.specs.Row.{Row, truth, none, some, row_eq}
-use Rattle.columnar_core.specs.Format.{Format, Content, slice, both, part, plain, IsSound, IsLawful, IsStorable, IsSame, lengths, moved, unless, fault, Excess, refuses_more, bytes_held}
-use Rattle.columnar_core.specs.FaultLaws.{nothing_left, nothing_both, nothing_moved, moved_nothing, unless_true, true_unless}
+use Rattle.columnar_core.specs.Format.{Format, Content, slice, both, part, plain, IsSound, IsLawful, IsStorable, IsSame, lengths, Excess, refuses_more, bytes_held}
 use Rattle.columnar_core.specs.AlikeLaws.{alike_length, same_pulled, same_both, row_eq_same, row_eq_exact}
 use Rattle.columnar_core.specs.Change.{Keeps, Grew, Stayed, WasCut, Took, Copied, Refused}
 use Rattle.columnar_core.specs.ChangeLaws.{true_from, grew_exactly, took_none, unchanged}
-use Rattle.columnar_core.specs.TwoParts.{IsBoth, TwoParts, two_storable}
+use Rattle.columnar_core.specs.TwoParts.{TwoParts, two_parts, two_sound, two_storable}
 use Rattle.columnar_base.specs.TupleLaws.{or_both}
 use Rattle.columnar_core.specs.Elements.{past_count}
 use Rattle.columnar_core.specs.declared.fault.GrowError.{GrowError}
 use Rattle.columnar_primitive.specs.BoolLaws.{bits_from_rows}
 use Rattle.columnar_sums.specs.Counting.{ones}
-use Rattle.columnar_sums.specs.RankColumns.{ranks_broken, ranks_bits, ranks_format}
+use Rattle.columnar_sums.specs.RankColumns.{ranks_bits, ranks_format}
 use Rattle.columnar_sums.specs.RankLaws.{SoundRanks, ranks_parts, ranks_form, ranks_lawful, ranks_storable}
 use Rattle.columnar_sums.specs.Options.{weave, somes, inner_of, bare_option, options_level, option_alike, options_refuses, options_format, AreSome}
 use Rattle.columnar_sums.specs.CountLaws.{ones_zero, ones_true, ones_false, ones_le}
@@ -27,21 +26,15 @@ pub record SoundOptions (t : Format) (x y : Content) : Type 0 where
   pub values : IsSound t y
   pub level : ones (ranks_bits x) (length (ranks_bits x)) ≡ length (t.rows y)
 
+-- bits that are counted, and then values
+pub options_two : (t : Format) → TwoParts (options_format t) ranks_format t (options_level t) 10
+options_two t = record { count = refl; sizes = refl; aligns = refl; build = λ ss. refl; broken = λ c. refl }
+
 pub options_parts : (t : Format) {x y : Content} → IsSound (options_format t) (both x y) → SoundOptions t x y
-options_parts t {x} {y} s =
-    let p = nothing_left (ranks_broken x) (moved 3 (t.broken y) ++ unless (options_level t x y) (fault 10 0)) s.accepted in
-    let q = nothing_left (moved 3 (t.broken y)) (unless (options_level t x y) (fault 10 0)) p.1 in
-    record {
-      bits = record { accepted = p.0 };
-      values = record { accepted = nothing_moved 3 (t.broken y) q.0 };
-      level = eqb-true _ _ (unless_true (options_level t x y) (fault 10 0) q.1);
-    }
+options_parts t {x} {y} s = let p = two_parts (options_two t) x y s in record { bits = p.left; values = p.right; level = eqb-true _ _ p.own }
 
 pub options_sound : (t : Format) {x y : Content} → SoundOptions t x y → IsSound (options_format t) (both x y)
-options_sound t {x} {y} s = record {
-  accepted = nothing_both (ranks_broken x) (moved 3 (t.broken y) ++ unless (options_level t x y) (fault 10 0)) s.bits.accepted
-      (nothing_both (moved 3 (t.broken y)) (unless (options_level t x y) (fault 10 0)) (moved_nothing 3 (t.broken y) s.values.accepted) (true_unless (options_level t x y) (fault 10 0) (eq-eqb _ _ s.level)));
-}
+options_sound t {x} {y} s = two_sound (options_two t) x y (record { left = s.bits; right = s.values; own = eq-eqb _ _ s.level })
 
 -- as many rows as bits
 pub length-options : (t : Format) (x y : Content) → length (weave (ranks_bits x) (t.rows y)) ≡ length (ranks_bits x)
@@ -77,16 +70,6 @@ options_more t lt e (both x y) n rs ss h =
 options_more t lt e (slice bs) n rs ss h = h
 options_more t lt e (part l u x) n rs ss h = h
 options_more t lt e (plain ts) n rs ss h = h
-
-options_form : (t : Format) (c : Content) → IsSound (options_format t) c → IsBoth c
-options_form t (both x y) s = record { left = x; right = y; is = refl }
-options_form t (slice bs) s = cc
-options_form t (part l u x) s = cc
-options_form t (plain rs) s = cc
-
--- bits that are counted, and then values
-pub options_two : (t : Format) → TwoParts (options_format t) ranks_format t (options_level t) 10
-options_two t = record { count = refl; sizes = refl; aligns = refl; form = options_form t; build = λ ss. refl; broken = λ x y. refl }
 
 -- what is alike is kin
 options_related : (alike kin : Row → Row → Bool) → ((r s : Row) → alike r s ≡ true → kin r s ≡ true) → (r s : Row) → option_alike alike r s ≡ true → option_alike kin r s ≡ true

@@ -1,10 +1,10 @@
 -- Columns whose rows may be absent: a bit for each row, and the values of the rows that have one.
 use Rattle.std.specs.Prelude.{ℕ, Bool, true, false, List, [], ◌∷◌, ◌++◌, ◌≡◌, length, ◌+◌, drop, map, ◌&&◌, ◌||◌, nat_eq}
 use Rattle.columnar_core.specs.Row.{Row, unit, none, some, row_eq}
-use Rattle.columnar_core.specs.Format.{Format, Content, slice, both, part, plain, Fault, fault, moved, unless, misfit, Excess}
+use Rattle.columnar_core.specs.Format.{Format, Content, slice, both, part, plain, Fault, two_broken, Excess}
 use Rattle.columnar_core.specs.Elements.{past_count}
 use Rattle.columnar_sums.specs.Counting.{ones}
-use Rattle.columnar_sums.specs.RankColumns.{ranks_broken, ranks_bits, ranks_format}
+use Rattle.columnar_sums.specs.RankColumns.{ranks_bits, ranks_format}
 
 -- a true takes the next value, a false is none
 abbrev pub weave : List Bool → List Row → List Row
@@ -37,10 +37,7 @@ abbrev pub options_level : Format → Content → Content → Bool
 options_level t x y = nat_eq (ones (ranks_bits x) (length (ranks_bits x))) (length (t.rows y))
 
 abbrev pub options_broken : Format → Content → List Fault
-options_broken t (both x y) = ranks_broken x ++ (moved 3 (t.broken y) ++ unless (options_level t x y) (fault 10 0))
-options_broken t (slice bs) = misfit
-options_broken t (part l u x) = misfit
-options_broken t (plain rs) = misfit
+options_broken t = two_broken ranks_format t (options_level t) 10
 
 abbrev pub options_rows : Format → Content → List Row
 options_rows t (both x y) = weave (ranks_bits x) (t.rows y)

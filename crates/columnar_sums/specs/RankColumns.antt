@@ -2,20 +2,21 @@
 use Rattle.std.specs.Prelude.{ℕ, Bool, true, false, List, [], ◌∷◌, ◌++◌, ◌≡◌, ◌≤◌, ◌<◌, ◌+◌, ◌*◌, ◌/◌, length, map, drop, slice_index_or, Vec}
 use Rattle.std.specs.Global.{Global}
 use Rattle.columnar_core.specs.Row.{truth, row_eq, numbers_eq}
-use Rattle.columnar_core.specs.Format.{Format, Content, slice, both, part, plain, Fault, fault, moved, unless, misfit, IsSound}
-use Rattle.columnar_core.specs.Elements.{elements_broken, first_slice, past_count}
+use Rattle.columnar_core.specs.Format.{Format, Content, slice, both, part, plain, Fault, two_broken, IsSound}
+use Rattle.columnar_core.specs.Elements.{first_slice, past_count, words_format}
 use Rattle.columnar_core.specs.WordViews.{words_in, bytes_of, le_bytes}
 use Rattle.columnar_primitive.specs.Bits.{bit, bit_in}
-use Rattle.columnar_primitive.specs.BoolColumns.{bools_broken, bools_bits, bools_format, bools_content, bits_held}
+use Rattle.columnar_primitive.specs.BoolColumns.{bools_bits, bools_format, bools_content, bits_held}
 use Rattle.columnar_sums.specs.Counting.{counts_of}
 use Rattle.columnar_sums.specs.declared.rank_select.RankSelect.{RankSelect}
 
+-- are the counts the numbers of set bits
+abbrev pub counts_match : Content → Content → Bool
+counts_match x y = numbers_eq (words_in (bytes_of x)) (counts_of (bools_bits y))
+
 -- the rules of the counts and of the bits, then that the counts are the numbers of set bits
 abbrev pub ranks_broken : Content → List Fault
-ranks_broken (both x y) = elements_broken 8 x ++ (moved 1 (bools_broken y) ++ unless (numbers_eq (words_in (bytes_of x)) (counts_of (bools_bits y))) (fault 12 0))
-ranks_broken (slice bs) = misfit
-ranks_broken (part l u x) = misfit
-ranks_broken (plain rs) = misfit
+ranks_broken = two_broken words_format bools_format counts_match 12
 
 -- the bits
 abbrev pub ranks_bits : Content → List Bool

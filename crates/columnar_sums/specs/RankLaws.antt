@@ -5,12 +5,12 @@ use Rattle.std.proofs.lemmas.List.{length-map, length_push, get_or_past}
 use Rattle.std.proofs.lemmas.List.FromFn.{fill_by_all, length-map-range_with_len, get_or-map-range_with_len}
 use Rattle.std.proofs.lemmas.Bool.{and_parts, and_from, eqb-true, eq-eqb, cases_lt, true≢false}
 use Rattle.columnar_core.specs.Row.{truth, numbers_eq}
-use Rattle.columnar_core.specs.Format.{Content, slice, both, part, plain, IsSound, IsLawful, IsStorable, lengths, Fault, fault, moved, unless}
-use Rattle.columnar_core.specs.FaultLaws.{nothing_left, nothing_both, nothing_moved, moved_nothing, unless_true, true_unless}
+use Rattle.columnar_core.specs.Format.{Content, slice, both, part, plain, IsSound, IsLawful, IsStorable, lengths, fault}
+use Rattle.columnar_core.specs.FaultLaws.{unless_true, true_unless}
 use Rattle.columnar_core.specs.AlikeLaws.{row_eq_same}
-use Rattle.columnar_core.specs.Elements.{elements_broken, elements_format, word_row_of}
-use Rattle.columnar_base.specs.ElementLaws.{elements_storable}
-use Rattle.columnar_core.specs.TwoParts.{IsBoth, TwoParts, two_storable}
+use Rattle.columnar_core.specs.Elements.{elements_format, word_row_of, words_format}
+use Rattle.columnar_base.specs.ElementLaws.{elements_form, elements_storable}
+use Rattle.columnar_core.specs.TwoParts.{TwoParts, two_form, two_parts, two_sound, two_storable}
 use Rattle.columnar_core.specs.WordViews.{words_in, bytes_of, bit_words}
 use Rattle.columnar_core.specs.WordViewLaws.{length-words_in}
 use Rattle.columnar_primitive.specs.Bits.{bit_in, bits_of}
@@ -19,7 +19,7 @@ use Rattle.columnar_primitive.specs.BoolColumns.{last_word, last_count, bit_coun
 use Rattle.columnar_primitive.specs.BoolLaws.{SoundBools, bools_parts, bools_sound, bools_form, bools_lawful, bools_storable, bits_length, words_of_bits}
 use Rattle.columnar_sums.specs.Counting.{ones, place, ones_below, counts_of, AreCounts, CountWords}
 use Rattle.columnar_sums.specs.CountLaws.{ones_truths, ones_below_mono, ones_yes, ones_no, place_some, place_none, inside}
-use Rattle.columnar_sums.specs.RankColumns.{ranks_format, IsNextTrue, AreFalseFrom, AreClear}
+use Rattle.columnar_sums.specs.RankColumns.{counts_match, ranks_format, IsNextTrue, AreFalseFrom, AreClear}
 
 -- counts as a test
 
@@ -53,35 +53,25 @@ pub record SoundRanks (counts values tail : List ℕ) : Type 0 where
   pub bools : SoundBools values tail
   pub are_counts : AreCounts (bits_in values tail) (words_in counts)
 
-abbrev counts_right : List ℕ → List ℕ → List ℕ → Bool
-counts_right c a b = numbers_eq (words_in c) (counts_of (bits_in a b))
+-- counts, and then bits
+pub ranks_two : TwoParts ranks_format words_format bools_format counts_match 12
+ranks_two = record { count = refl; sizes = refl; aligns = refl; build = λ ss. refl; broken = λ c. refl }
 
 pub ranks_parts : {c a b : List ℕ} → IsSound ranks_format (both (slice c) (both (slice a) (slice b))) → SoundRanks c a b
 ranks_parts {c} {a} {b} s =
-    let p = nothing_left (elements_broken 8 (slice c)) (moved 1 (bools_broken (both (slice a) (slice b))) ++ unless (counts_right c a b) (fault 12 0)) s.accepted in
-    let q = nothing_left (moved 1 (bools_broken (both (slice a) (slice b)))) (unless (counts_right c a b) (fault 12 0)) p.1 in
+    let p = two_parts ranks_two (slice c) (both (slice a) (slice b)) s in
     record {
-      whole = eqb-true _ _ (unless_true (nat_eq (length c % 8) 0) (fault 8 0) p.0);
-      bools = bools_parts (record { accepted = nothing_moved 1 (bools_broken (both (slice a) (slice b))) q.0 });
-      are_counts = counts_from (bits_in a b) (words_in c) (unless_true (counts_right c a b) (fault 12 0) q.1);
+      whole = eqb-true _ _ (unless_true (nat_eq (length c % 8) 0) (fault 8 0) p.left.accepted);
+      bools = bools_parts p.right;
+      are_counts = counts_from (bits_in a b) (words_in c) p.own;
     }
 
 pub ranks_sound : {c a b : List ℕ} → SoundRanks c a b → IsSound ranks_format (both (slice c) (both (slice a) (slice b)))
-ranks_sound {c} {a} {b} s = record {
-  accepted = nothing_both (elements_broken 8 (slice c)) (moved 1 (bools_broken (both (slice a) (slice b))) ++ unless (counts_right c a b) (fault 12 0)) (true_unless (nat_eq (length c % 8) 0) (fault 8 0) (eq-eqb _ _ s.whole))
-      (nothing_both (moved 1 (bools_broken (both (slice a) (slice b)))) (unless (counts_right c a b) (fault 12 0)) (moved_nothing 1 (bools_broken (both (slice a) (slice b))) (bools_sound s.bools).accepted)
-      (true_unless (counts_right c a b) (fault 12 0) (counts_test (bits_in a b) (words_in c) s.are_counts)));
-}
-
-ranks_both : (x : Content) → IsSound ranks_format x → IsBoth x
-ranks_both (both x y) s = record { left = x; right = y; is = refl }
-ranks_both (slice bs) s = cc
-ranks_both (part l u x) s = cc
-ranks_both (plain rs) s = cc
-
--- counts, and then bits
-pub ranks_two : TwoParts ranks_format (elements_format 8 8 word_row_of) bools_format (λ x y. numbers_eq (words_in (bytes_of x)) (counts_of (bools_bits y))) 12
-ranks_two = record { count = refl; sizes = refl; aligns = refl; form = ranks_both; build = λ ss. refl; broken = λ x y. refl }
+ranks_sound {c} {a} {b} s = two_sound ranks_two (slice c) (both (slice a) (slice b)) (record {
+  left = record { accepted = true_unless (nat_eq (length c % 8) 0) (fault 8 0) (eq-eqb _ _ s.whole) };
+  right = bools_sound s.bools;
+  own = counts_test (bits_in a b) (words_in c) s.are_counts;
+})
 
 -- a sound content is of three slices
 pub record ThreeSlices (x : Content) : Type 0 where
@@ -90,22 +80,13 @@ pub record ThreeSlices (x : Content) : Type 0 where
   pub tail : List ℕ
   pub is : x ≡ both (slice counts) (both (slice values) (slice tail))
 
-left_form : (x : Content) (rest : List Fault) → elements_broken 8 x ++ rest ≡ [] → (a : List ℕ) × (x ≡ slice a)
-left_form (slice a) rest h = (a, refl)
-left_form (both x y) rest h = cc
-left_form (part l u x) rest h = cc
-left_form (plain rs) rest h = cc
-
-pub ranks_form : (x : Content) → IsSound ranks_format x → ThreeSlices x
-ranks_form (both x y) s =
-    let p = left_form x _ s.accepted in
-    let q = nothing_left (elements_broken 8 x) _ s.accepted in
-    let r = nothing_left (moved 1 (bools_broken y)) _ q.1 in
-    let f = bools_form y (record { accepted = nothing_moved 1 (bools_broken y) r.0 }) in
-    record { counts = p.0; values = f.values; tail = f.tail; is = ap₂ (λ (u v : Content). both u v) p.1 f.is }
-ranks_form (slice bs) s = cc
-ranks_form (part l u x) s = cc
-ranks_form (plain rs) s = cc
+pub ranks_form : (c : Content) → IsSound ranks_format c → ThreeSlices c
+ranks_form c s =
+    let w = two_form ranks_two c s in
+    let h = two_parts ranks_two w.left w.right (rw w.is at s) in
+    let p = elements_form 8 w.left h.left.accepted in
+    let f = bools_form w.right h.right in
+    record { counts = p.0; values = f.values; tail = f.tail; is = w.is ∙ ap₂ (λ (u v : Content). both u v) p.1 f.is }
 
 -- the counts of all bits
 pub bytes_of_counts : {c a b : List ℕ} → SoundRanks c a b → 8 * (bit_count a b / 1024) ≡ length c

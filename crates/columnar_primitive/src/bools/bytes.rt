@@ -2,7 +2,6 @@
 ghost use Rattle.std.specs.Prelude.{◌≡◌, ℕ, ◌+◌, ◌^◌, ◌<◌, ◌≤◌, [], ◌∷◌, length, refl, slice_index_or, IfOk, IfErr};
 ghost use Rattle.columnar_core.specs.Format.{slice, both, first, moved};
 ghost use Rattle.columnar_core.specs.Faults.{verdict};
-ghost use Rattle.columnar_core.specs.Slices.{bytes_in, alignment};
 ghost use Rattle.columnar_core.specs.WordViews.{le_bytes, view_bytes};
 ghost use Rattle.columnar_primitive.specs.BoolColumns.{bools_broken, is_tail};
 ghost use Rattle.columnar_primitive.specs.BoolLaws.{bools_storable};
@@ -14,20 +13,9 @@ use columnar_core::container::ContainerBytes;
 use columnar_core::fault::{GrowError, StoreFault};
 use columnar_core::store::DecodedStore;
 use columnar_core::tally::Tally;
-use columnar_core::view::{Items, View, element_in};
+use columnar_core::view::{View, element_in};
 use columnar_core::words::{Words, byte_count, word_count};
 use std::alloc::Global;
-
-/// The bytes of the words of a view, with the alignment of words, wherever they stand.
-pub fn view_slice<'a>(view: View<'a, u64>) -> ByteSlice<'a>
-    ensures bytes { bytes_in result ≡ view_bytes view.entry }
-    ensures align { alignment result ≡ 8 }
-{
-    match view.items() {
-        Items::Typed(items) => ByteSlice::of_words(items),
-        Items::Bytes(bytes) => ByteSlice::of_le_bytes(bytes, 8),
-    }
-}
 
 // Is the count below 64, and is no bit set from there on?
 fn fits_tail(word: u64, count: u64) -> bool
@@ -107,9 +95,9 @@ impl<'s> FromBytes<'s> for Bools<View<'s, u64>, View<'s, u64>> {
 impl<'s> AsBytes<'s> for Bools<View<'s, u64>, View<'s, u64>> {
     fn get_byte_slice(&self, index: usize) -> (u64, ByteSlice<'s>) {
         let slice = if index == 0 {
-            view_slice(self.values)
+            ByteSlice::of_view(self.values)
         } else {
-            view_slice(self.tail)
+            ByteSlice::of_view(self.tail)
         };
         (slice.align(), slice)
     }
@@ -128,9 +116,9 @@ fn two_words(bytes: &[u8]) -> [u64; 2]
 impl ContainerBytes for Bools<Vec<u64>, [u64; 2]> {
     fn byte_slice(&self, index: usize) -> ByteSlice<'_> {
         if index == 0 {
-            view_slice(self.values.words())
+            ByteSlice::of_view(self.values.words())
         } else {
-            view_slice(self.tail.words())
+            ByteSlice::of_view(self.tail.words())
         }
     }
 

@@ -12,7 +12,6 @@ ghost use Rattle.columnar_primitive.specs.Tried.{Tried};
 ghost use Rattle.columnar_primitive.specs.FixedLaws.{fixed_lawful, fixed_storable, fixed_bounds};
 
 use super::strides::Strides;
-use crate::bools::view_slice;
 use columnar_core::byte_slice::ByteSlice;
 use columnar_core::bytes::{AsBytes, Check, FromBytes, Stored};
 use columnar_core::container::{
@@ -298,7 +297,7 @@ impl<'s, const K: u64> AsBytes<'s> for Fixeds<K, View<'s, u64>> {
 
 impl<const K: u64> ContainerBytes for Fixeds<K, u64> {
     fn byte_slice(&self, index: usize) -> ByteSlice<'_> {
-        view_slice(self.count.words())
+        ByteSlice::of_view(self.count.words())
     }
 
     fn load(_alloc: Global, store: &DecodedStore<'_>, offset: usize) -> Result<Self, GrowError> {

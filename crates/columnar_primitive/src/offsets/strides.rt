@@ -9,7 +9,6 @@ ghost use Rattle.columnar_core.specs.Change.{Copied, Refused, Took, WasCut};
 ghost use Rattle.columnar_primitive.specs.Stride.{strides_format, strides_broken, strides_rows, bounds_rows, strided, head_and_bounds, follows, joins, grown, head_pushed, bounds_pushed, offsets_in, head_extended, bounds_extended, all_join, head_cut, bounds_cut};
 ghost use Rattle.columnar_primitive.specs.StrideLaws.{strides_lawful, strides_storable, strides_bounds};
 
-use crate::bools::view_slice;
 use columnar_core::byte_slice::ByteSlice;
 use columnar_core::bytes::{AsBytes, Check, FromBytes, Stored};
 use columnar_core::container::{
@@ -465,9 +464,9 @@ impl<'s> AsBytes<'s> for Strides<View<'s, u64>, View<'s, u64>> {
 impl ContainerBytes for Strides<Vec<u64>, [u64; 2]> {
     fn byte_slice(&self, index: usize) -> ByteSlice<'_> {
         if index == 0 {
-            view_slice(self.head.words())
+            ByteSlice::of_view(self.head.words())
         } else {
-            view_slice(self.bounds.words())
+            ByteSlice::of_view(self.bounds.words())
         }
     }
 

@@ -39,7 +39,8 @@ pub struct Plain;
 /// What was read, and how many turns were taken, under the name `L`.
 ///
 /// Contracts see a tally as a `Reads`: how many counts were read, the numbers of the words that were read, in their order, and how many turns loops have taken.
-/// Only a `Tally<Plain>` can be made. So a body that is generic in `L` has just the tally that it was handed: it can neither make another nor set that one back.
+/// Only a `Tally<Plain>` can be made. So a body that is generic in `L` can neither make a second `Tally<L>` nor set the one that it was handed back.
+/// It could make a `Tally<Plain>` for a callee, or read past the metered views: no type forbids that, so `.ci/checks/tallied_bodies` looks for it in the code.
 /// That holds of bodies whose proof Rattle makes. Nothing in memory ties a tally to what it has noted, so a proof that is written by hand, as `Proof.antt`, can set it to anything. None but those of this file may be about a tally.
 /// It takes no bytes when it runs.
 #[derive(Drop)]

@@ -1,11 +1,12 @@
 -- The steps of what is written, slice by slice.
-use Rattle.std.proofs.Common.{ℕ, List, [], ◌∷◌, ◌++◌, ◌≡◌, ◌<◌, ◌≤◌, ◌+◌, ◌*◌, ◌/◌, ◌^◌, length, get_or, drop, sym, ◌∙◌, ap, arith, length-append, Some, None, cond, ltb, true, false}
+use Rattle.std.proofs.Common.{ℕ, List, [], ◌∷◌, ◌++◌, ◌≡◌, ◌<◌, ◌≤◌, ◌+◌, ◌*◌, ◌/◌, ◌^◌, length, get_or, drop, sym, ◌∙◌, ap, arith, length-append, append-nil, Some, None, cond, ltb, true, false}
 use Rattle.std.specs.List.{flat_map}
-use Rattle.std.proofs.lemmas.List.{drop_more, drop_all}
+use Rattle.std.proofs.lemmas.List.{drop_more, drop_all, ext_get_or}
 use Rattle.std.proofs.lemmas.List.FromFn.{get_or-map-range_with_len}
 use Rattle.columnar_core.specs.Bytes.{word, rounded, word_bytes, le_bytes}
 use Rattle.columnar_core.specs.Words.{ends, table_words, slice_words, words, word_count}
-use Rattle.columnar_core.specs.WordLaws.{length-slice_words}
+use Rattle.columnar_core.specs.WordLaws.{length-slice_words, word-le_bytes}
+use Rattle.columnar_core.specs.WordViewLaws.{length-le_bytes}
 
 -- how many words the slices from i on take
 pub words_rest : (slices : List (List ℕ)) (i : ℕ) → i < length slices → length (flat_map slice_words (drop i slices)) ≡ (length (get_or slices i []) + 7) / 8 + length (flat_map slice_words (drop (i + 1) slices))
@@ -61,3 +62,13 @@ ends_bytes start slices i end next l p q = ap le_bytes (ends_step start slices i
 pub table_bytes : (slices : List (List ℕ)) (count : ℕ) → count ≡ length slices → le_bytes (table_words slices) ≡ word_bytes (8 * (count + 1)) ++ le_bytes (ends (8 * (count + 1)) slices)
 unfolding word_bytes
 table_bytes slices count e = ap le_bytes (table_step slices count e)
+
+-- the words of the bytes of words are these
+pub words_again : (xs : List ℕ) → ((i : ℕ) → get_or xs i 0 < 2 ^ 64) → slice_words (le_bytes xs) ≡ xs
+words_again xs h =
+    let bs = le_bytes xs in
+    let n : length bs ≡ 8 * length xs = length-le_bytes xs in
+    let m : length (slice_words bs) ≡ length xs = omega (arith, length-slice_words bs, n) in
+    ext_get_or 0 (slice_words bs) xs m (λ i l.
+    get_or-map-range_with_len (word bs) 0 ((length bs + 7) / 8) i i 0 (omega (arith, n, m, l)) (omega arith)
+    ∙ ap (λ t. word t i) (sym (append-nil bs)) ∙ word-le_bytes xs [] i (omega (arith, m, l)) (h i))

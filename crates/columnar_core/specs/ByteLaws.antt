@@ -143,3 +143,12 @@ tail_out bs i n b p h l z m e q =
 -- the bytes behind the last whole word
 pub end_out : (bs : List ℕ) (i count : ℕ) (b : List ℕ) → AreBytes bs → i ≡ count / 8 → count ≡ length bs → 0 < count % 8 → b ≡ to_le_bytes w64 (word bs (count / 8)) → drop (8 * i) bs ≡ take (count % 8) b ++ []
 end_out bs i count b h e l z m = tail_out bs i (count % 8) b (take (count % 8) b) h (omega (arith, e, l)) z (omega arith) (rw (← e) at m) refl
+
+-- the bytes of the next words of those that are left
+pub block_out : (xs : List ℕ) (at next : ℕ) (bs : List ℕ) → at ≤ next → bs ≡ le_bytes (take (next - at) (drop at xs)) → le_bytes (drop at xs) ≡ bs ++ le_bytes (drop next xs)
+block_out xs at next bs l e =
+    let ys = drop at xs in
+    let n = next - at in
+    let d : drop n ys ≡ drop next xs = drop-drop n at xs ∙ ap (λ k. drop k xs) (omega arith) in
+    ap le_bytes (sym (take-append-drop n ys)) ∙ flat_map-append (to_le_bytes w64) (take n ys) (drop n ys)
+    ∙ ap (λ t. le_bytes (take n ys) ++ le_bytes t) d ∙ ap (λ t. t ++ le_bytes (drop next xs)) (sym e)

@@ -1,5 +1,5 @@
 //! The slices of a column, before they are written.
-ghost use Rattle.std.specs.Prelude.{ℕ, List, ◌≡◌, ◌<◌, ◌*◌, ◌+◌, ◌^◌, length, slice_index, OnOk, OnErr};
+ghost use Rattle.std.specs.Prelude.{ℕ, List, ◌≡◌, ◌<◌, ◌*◌, ◌+◌, ◌^◌, length, slice_index, IfSome, OnOk, OnErr};
 ghost use Rattle.std.specs.List.{flat_map};
 ghost use Rattle.std.specs.Io.KnownBytes.{Appends};
 ghost use Rattle.columnar_base.specs.WordViews.{view_bytes};
@@ -9,12 +9,16 @@ ghost use Rattle.columnar_core.specs.SliceBytes.{IsCounted, bytes_of};
 
 use super::store::word_at;
 use super::writer::WriteBytes;
+use byteorder::{ByteOrder, LittleEndian};
 use columnar_base::element::Primitive;
 use columnar_base::view::{Items, View};
 use std::num::Wrapping;
 
 pub mod flat;
 pub mod sliced;
+
+// How many words are written at once
+const BLOCK: usize = 128;
 
 /// A slice of a column: elements that stand for their bytes, each lowest first.
 #[derive(Clone, Copy)]
@@ -108,6 +112,16 @@ impl<'a> ByteSlice<'a> {
         self.count
     }
 
+    /// Its words, where it is made of words that stand in memory.
+    pub fn as_words(&self) -> Option<&'a [u64]>
+        ensures { IfSome result (λ words. bytes_in self.now ≡ le_bytes words.now) }
+    {
+        match self.elements {
+            Elements::U64(words) => Some(words),
+            _ => None,
+        }
+    }
+
     /// Word `index` of its bytes, lowest first; the last word is filled with zeros. Asks that a byte stands in that
     /// word.
     pub fn word(&self, index: usize) -> u64
@@ -142,6 +156,7 @@ impl<'a> ByteSlice<'a> {
     {
         match self.elements {
             Elements::Bytes(bytes) => writer.write_all(bytes),
+            Elements::U64(words) => write_blocks(writer, words),
             _ => self.write_words(writer),
         }
     }
@@ -166,6 +181,23 @@ impl<'a> ByteSlice<'a> {
     pub fn holds_bytes(&self)
         ensures { AreBytes (bytes_in self.now) }
     {}
+}
+
+// Writes the bytes of words that stand in memory, a block at a time.
+fn write_blocks<W: WriteBytes>(writer: &mut W, words: &[u64]) -> Result<(), W::Error>
+    ensures ok { OnOk result (Appends (W.contents writer.old) (W.contents writer.new) (le_bytes words.now)) }
+    ensures err { OnErr result (AppendsBeginning (W.contents writer.old) (W.contents writer.new) (le_bytes words.now)) }
+{
+    let mut block = [0u8; 8 * BLOCK];
+    let mut at = 0;
+    while at < words.len() {
+        let next = at + BLOCK.min(words.len() - at);
+        let bytes = &mut block[..8 * (next - at)];
+        LittleEndian::write_u64_into(&words[at..next], bytes);
+        writer.write_all(bytes)?;
+        at = next;
+    }
+    Ok(())
 }
 
 fn word_or_zeros(bytes: &[u8], index: usize) -> u64

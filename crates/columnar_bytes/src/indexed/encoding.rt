@@ -3,6 +3,7 @@ ghost use Rattle.std.specs.Prelude.{[], ◌∷◌, ◌≡◌, ◌++◌, ◌+◌,
 ghost use Rattle.std.specs.List.{flat_map};
 ghost use Rattle.columnar_core.specs.Format.{representable, slices_of};
 ghost use Rattle.columnar_core.specs.Words.{table_words, slice_words, words};
+ghost use Rattle.columnar_core.specs.Bytes.{le_bytes};
 ghost use Rattle.columnar_core.specs.Slices.{bytes_in};
 
 use super::lengths::{length_in_words, words_in};
@@ -64,6 +65,30 @@ fn append_slices<'a, S: AsBytes<'a>>(store: &mut Vec<u64>, item: &S)
 }
 
 fn append_slice(store: &mut Vec<u64>, slice: ByteSlice<'_>)
+    requires { vec_len store.old + length (slice_words (bytes_in slice)) ≤ vec_capacity store.old }
+    ensures items { store.new.items ≡ store.old.items ++ slice_words (bytes_in slice.entry) }
+    ensures capacity { vec_capacity store.old ≤ vec_capacity store.new }
+{
+    match slice.as_words() {
+        Some(words) => append_all(store, words),
+        None => append_each(store, slice),
+    }
+}
+
+// Appends words that stand in memory, all at once.
+fn append_all(store: &mut Vec<u64>, words: &[u64])
+    requires { vec_len store.old + length (slice_words (le_bytes words.now)) ≤ vec_capacity store.old }
+    ensures items { store.new.items ≡ store.old.items ++ slice_words (le_bytes words.now) }
+    ensures capacity { vec_capacity store.old ≤ vec_capacity store.new }
+{
+    match store.extend_from_slice(words) {
+        Ok(()) => {}
+        Err(_) => unreachable!(),
+    }
+}
+
+// Appends the words of a slice of other elements, one by one.
+fn append_each(store: &mut Vec<u64>, slice: ByteSlice<'_>)
     requires { vec_len store.old + length (slice_words (bytes_in slice)) ≤ vec_capacity store.old }
     ensures items { store.new.items ≡ store.old.items ++ slice_words (bytes_in slice.entry) }
     ensures capacity { vec_capacity store.old ≤ vec_capacity store.new }

@@ -3,7 +3,7 @@ use Rattle.std.specs.Prelude.{vec_capacity}
 use Rattle.columnar_core.specs.Words.{slice_words}
 use Rattle.columnar_core.specs.Slices.{bytes_in}
 use Rattle.columnar_core.specs.Sent.{WentOut}
-use Rattle.columnar_bytes.proofs.indexed.encoding.append_slice.Given as goal
+use Rattle.columnar_bytes.proofs.indexed.encoding.append_each.Given as goal
 
 abbrev pub invariant-loop-index : goal.invariant-loop-index
 invariant-loop-index l = record {

@@ -3,7 +3,7 @@ use Rattle.columnar_core.specs.Words.{slice_words}
 use Rattle.columnar_core.specs.Slices.{bytes_in}
 use Rattle.columnar_core.specs.SentLaws.{sent_more, sent_all, sent_length}
 use Rattle.columnar_bytes.specs.PlanLaws.{word_rest, words_out}
-use Rattle.columnar_bytes.proofs.indexed.encoding.append_slice.Goals as goal
+use Rattle.columnar_bytes.proofs.indexed.encoding.append_each.Goals as goal
 
 pub push_word-requires : goal.push_word-requires
 push_word-requires c =

@@ -1,9 +1,9 @@
 -- Copies of ranges of offsets, as pushes of them in turn.
-use Rattle.std.proofs.Common.{◌≡◌, ℕ, suc, ◌+◌, ◌-◌, ◌^◌, ◌<◌, ◌≤◌, true, ◌&&◌, List, [], ◌∷◌, ◌++◌, length, take, drop, refl, ◌∙◌, ap, arith, length-append, append_assoc}
+use Rattle.std.proofs.Common.{◌≡◌, ℕ, suc, ◌+◌, ◌-◌, ◌^◌, ◌<◌, ◌≤◌, true, List, [], ◌∷◌, ◌++◌, length, take, drop, refl, ◌∙◌, ap, arith, length-append, append_assoc}
 use Rattle.std.specs.Prelude.{slice_get, Some}
 use Rattle.std.proofs.lemmas.Bool.{and_parts}
 use Rattle.std.proofs.lemmas.List.{map-append, length-take-le, length-drop}
-use Rattle.columnar_core.specs.Row.{Row, number, number_of}
+use Rattle.columnar_core.specs.Row.{Row, number_of}
 use Rattle.columnar_core.specs.Format.{Content}
 use Rattle.columnar_core.specs.AlikeLaws.{row_eq_exact}
 use Rattle.columnar_core.specs.Bounds.{numbers}

@@ -83,13 +83,8 @@ impl<TC: Clear, BC: Clear> Clear for Vecs<TC, BC> {
 impl<V: Index + Copy, TC: ExtendFrom<V>, BC: Offsets + Push<u64>> Push<Slice<V>> for Vecs<TC, BC> {
     fn push(&mut self, item: Slice<V>) -> Result<(), GrowError> {
         let before = self.values.len();
-        match self
-            .values
-            .extend_from_self(item.slice, item.lower..item.upper)
-        {
-            Ok(()) => {}
-            Err(error) => return Err(error),
-        }
+        self.values
+            .extend_from_self(item.slice, item.lower..item.upper)?;
         let end = self.values.len();
         match self.bounds.push(end as u64) {
             Ok(()) => Ok(()),
@@ -201,13 +196,8 @@ impl<
         let before = self.values.len();
         let lower = start_of(&view.bounds, range.start);
         let upper = start_of(&view.bounds, range.end);
-        match self
-            .values
-            .extend_from_self(view.values, lower as usize..upper as usize)
-        {
-            Ok(()) => {}
-            Err(error) => return Err(error),
-        }
+        self.values
+            .extend_from_self(view.values, lower as usize..upper as usize)?;
         // All values have a number of 64 bits, so the moved bounds do.
         let _end = self.values.len();
         match push_shifted(&mut self.bounds, &view.bounds, range, lower, before) {
@@ -258,10 +248,7 @@ impl<TC: Stored, BC: StoredOffsets> Stored for Vecs<TC, BC> {
         offset: usize,
         tally: &mut Tally<L>,
     ) -> Result<(), StoreFault> {
-        match judge_two::<BC, TC, L>(store, offset, tally) {
-            Ok(()) => {}
-            Err(fault) => return Err(fault),
-        }
+        judge_two::<BC, TC, L>(store, offset, tally)?;
         let values = TC::rows_in(store, offset + BC::slice_count());
         if BC::rises_in_tallied(store, offset, values as u64, tally) {
             Ok(())
@@ -277,10 +264,7 @@ impl<TC: Stored, BC: StoredOffsets> Stored for Vecs<TC, BC> {
 
 impl<TC: Check + Len, BC: Check + StoredOffsets + Offsets> Check for Vecs<TC, BC> {
     fn check_from_tallied<L>(&self, from: usize, tally: &mut Tally<L>) -> Result<(), StoreFault> {
-        match check_two(&self.bounds, &self.values, from, tally) {
-            Ok(()) => {}
-            Err(fault) => return Err(fault),
-        }
+        check_two(&self.bounds, &self.values, from, tally)?;
         let values = self.values.len();
         if self.bounds.rises_to_tallied(values as u64, tally) {
             Ok(())

@@ -210,13 +210,9 @@ impl Bools<Vec<u64>, [u64; 2]> {
             return Err(GrowError::Length);
         }
         let rest = spilled(bits, have, count as u64);
-        match self.values.push(full) {
-            Ok(()) => {
-                self.tail = tail_of(rest, total - 64);
-                Ok(())
-            }
-            Err(_) => Err(GrowError::Memory),
-        }
+        self.values.push(full)?;
+        self.tail = tail_of(rest, total - 64);
+        Ok(())
     }
 
     /// Appends one bit, and is refused as `push_bits` of one.
@@ -394,10 +390,7 @@ impl<'x> ExtendFrom<Bools<View<'x, u64>, View<'x, u64>>> for Bools<Vec<u64>, [u6
         view: Bools<View<'x, u64>, View<'x, u64>>,
         range: Range<usize>,
     ) -> Result<(), GrowError> {
-        match self.extend_bits_from(&view, range) {
-            Ok(()) => Ok(()),
-            Err(error) => Err(error),
-        }
+        self.extend_bits_from(&view, range)
     }
 }
 

@@ -43,10 +43,7 @@ impl<TC: Stored, CC: Words, VC: Words, WC: Words> Stored for Options<TC, CC, VC,
         offset: usize,
         tally: &mut Tally<L>,
     ) -> Result<(), StoreFault> {
-        match judge_two::<RankSelect<CC, VC, WC>, TC, L>(store, offset, tally) {
-            Ok(()) => {}
-            Err(fault) => return Err(fault),
-        }
+        judge_two::<RankSelect<CC, VC, WC>, TC, L>(store, offset, tally)?;
         let values = TC::rows_in(store, offset + 3);
         if trues_in(store, offset, tally) == values {
             Ok(())
@@ -62,10 +59,7 @@ impl<TC: Stored, CC: Words, VC: Words, WC: Words> Stored for Options<TC, CC, VC,
 
 impl<TC: Check + Len, CC: Words, VC: Words, WC: Words> Check for Options<TC, CC, VC, WC> {
     fn check_from_tallied<L>(&self, from: usize, tally: &mut Tally<L>) -> Result<(), StoreFault> {
-        match check_two(&self.indexes, &self.somes, from, tally) {
-            Ok(()) => {}
-            Err(fault) => return Err(fault),
-        }
+        check_two(&self.indexes, &self.somes, from, tally)?;
         let values = self.somes.len();
         if self.indexes.trues_tallied(tally) == values {
             Ok(())

@@ -68,10 +68,7 @@ impl<T: Item + Drop, TC: Truncate + Push<T>> Push<Option<T>>
         match item {
             Some(value) => {
                 let before = self.somes.len();
-                match self.somes.push(value) {
-                    Ok(()) => {}
-                    Err(error) => return Err(error),
-                }
+                self.somes.push(value)?;
                 match Push::<bool>::push(&mut self.indexes, true) {
                     Ok(()) => Ok(()),
                     Err(error) => {
@@ -80,10 +77,7 @@ impl<T: Item + Drop, TC: Truncate + Push<T>> Push<Option<T>>
                     }
                 }
             }
-            None => match Push::<bool>::push(&mut self.indexes, false) {
-                Ok(()) => Ok(()),
-                Err(error) => Err(error),
-            },
+            None => Push::<bool>::push(&mut self.indexes, false),
         }
     }
 }
@@ -102,10 +96,7 @@ impl<T: Item, TC: Truncate + PushRef<T>> PushRef<Option<T>>
         match item {
             Some(value) => {
                 let rows = self.somes.len();
-                match self.somes.push_ref(value) {
-                    Ok(()) => {}
-                    Err(error) => return Err(error),
-                }
+                self.somes.push_ref(value)?;
                 match Push::<bool>::push(&mut self.indexes, true) {
                     Ok(()) => Ok(()),
                     Err(error) => {
@@ -114,10 +105,7 @@ impl<T: Item, TC: Truncate + PushRef<T>> PushRef<Option<T>>
                     }
                 }
             }
-            None => match Push::<bool>::push(&mut self.indexes, false) {
-                Ok(()) => Ok(()),
-                Err(error) => Err(error),
-            },
+            None => Push::<bool>::push(&mut self.indexes, false),
         }
     }
 }
@@ -147,10 +135,7 @@ impl<'x, V: Index + Copy, TC: ExtendFrom<V>> ExtendFrom<
         let end = range.end;
         let first = view.indexes.rank(start);
         let last = view.indexes.rank(end);
-        match self.somes.extend_from_self(view.somes, first..last) {
-            Ok(()) => {}
-            Err(error) => return Err(error),
-        }
+        self.somes.extend_from_self(view.somes, first..last)?;
         match self.indexes.extend_from_self(view.indexes, start..end) {
             Ok(()) => Ok(()),
             Err(error) => {

@@ -75,10 +75,7 @@ fn judged_ranks<L>(
     if byte_count(counts) % 8 != 0 {
         return Err(StoreFault::ElementSize(from));
     }
-    match judged(values, tail, from + 1) {
-        Ok(()) => {}
-        Err(fault) => return Err(fault),
-    }
+    judged(values, tail, from + 1)?;
     if !counts_right(counts, values, tail, tally) {
         return Err(StoreFault::Counts(from));
     }

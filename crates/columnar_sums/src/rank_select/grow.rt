@@ -89,19 +89,13 @@ impl Held {
     {
         let len = self.values.len();
         if len % 1024 < 1023 {
-            return match self.values.push_bit(bit) {
-                Ok(()) => Ok(()),
-                Err(error) => Err(error),
-            };
+            return self.values.push_bit(bit);
         }
         if len == usize::MAX {
             return Err(GrowError::Length);
         }
         let total = self.rank(len) as u64 + one_of(bit);
-        match self.counts.push(total) {
-            Ok(()) => {}
-            Err(_) => return Err(GrowError::Memory),
-        }
+        self.counts.push(total)?;
         match self.values.push_bit(bit) {
             Ok(()) => Ok(()),
             Err(error) => {
@@ -131,13 +125,8 @@ impl Held {
         ensures turns { tally.new.turns ≤ tally.old.turns + ((range.«end» - range.start) / 16 + 64) }
     {
         let start = self.values.len();
-        match self
-            .values
-            .extend_bits_from_tallied(&other.values, range, tally)
-        {
-            Ok(()) => {}
-            Err(error) => return Err(error),
-        }
+        self.values
+            .extend_bits_from_tallied(&other.values, range, tally)?;
         match count_on(
             &mut self.counts,
             self.values.values.words(),
@@ -178,10 +167,7 @@ impl Storage for Held {
     }
 
     fn duplicate(&self, alloc: Global) -> Result<Self, GrowError> {
-        let counts = match Vec::from_slice(alloc, self.counts.as_slice()) {
-            Ok(counts) => counts,
-            Err(_) => return Err(GrowError::Memory),
-        };
+        let counts = Vec::from_slice(alloc, self.counts.as_slice())?;
         let values = self.values.duplicate(alloc)?;
         Ok(RankSelect { counts, values })
     }
@@ -195,14 +181,9 @@ impl Reserve for Held {
     }
 
     fn reserve_room(&mut self, room: (usize, usize)) -> Result<(), GrowError> {
-        match self.counts.reserve(room.0) {
-            Ok(()) => {}
-            Err(_) => return Err(GrowError::Memory),
-        }
-        match self.values.values.reserve(room.1) {
-            Ok(()) => Ok(()),
-            Err(_) => Err(GrowError::Memory),
-        }
+        self.counts.reserve(room.0)?;
+        self.values.values.reserve(room.1)?;
+        Ok(())
     }
 }
 
@@ -214,10 +195,7 @@ impl Push<bool> for Held {
         ensures err { IfErr result (λ e. Refused ranks_format (owned_ranks self.old) (owned_ranks self.new) (truth item ∷ []) e) }
         ensures memory { result ≡ Err GrowError.Memory → length (ranked_bits self.old) % 64 ≡ 63 }
     {
-        match self.push_bit(item) {
-            Ok(()) => Ok(()),
-            Err(error) => Err(error),
-        }
+        self.push_bit(item)
     }
 }
 
@@ -241,10 +219,7 @@ impl PushRef<bool> for Held {
         ensures err { IfErr result (λ e. Refused ranks_format (owned_ranks self.old) (owned_ranks self.new) (truth item.now ∷ []) e) }
         ensures memory { result ≡ Err GrowError.Memory → length (ranked_bits self.old) % 64 ≡ 63 }
     {
-        match self.push_bit(*item) {
-            Ok(()) => Ok(()),
-            Err(error) => Err(error),
-        }
+        self.push_bit(*item)
     }
 }
 
@@ -257,10 +232,7 @@ impl<'x> ExtendFrom<Viewed<'x>> for Held {
     }
 
     fn extend_from_self(&mut self, view: Viewed<'x>, range: Range<usize>) -> Result<(), GrowError> {
-        match self.extend_ranked_tallied(&view, range, &mut Tally::new()) {
-            Ok(()) => Ok(()),
-            Err(error) => Err(error),
-        }
+        self.extend_ranked_tallied(&view, range, &mut Tally::new())
     }
 }
 

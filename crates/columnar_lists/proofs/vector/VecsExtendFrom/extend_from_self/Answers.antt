@@ -1,5 +1,5 @@
 use Rattle.std.proofs.Common.{◌≡◌, ◌+◌, ◌-◌, take, drop, arith, length-append}
-use Rattle.columnar_base.specs.ChangeLaws.{unchanged, undone}
+use Rattle.columnar_base.specs.ChangeLaws.{passed_on, unchanged, undone}
 use Rattle.columnar_lists.specs.ListLaws.{range_of, range_held, range_length, range_copied, range_refused_values, range_refused_bounds, took_length, lists_parts, lists_within_le}
 use Rattle.columnar_lists.proofs.vector.VecsExtendFrom.extend_from_self.Goals as goal
 
@@ -30,13 +30,14 @@ extend_from_self-requires-clause-ordered g c = (range_of g.W.Column.format g.V.C
 pub extend_from_self-requires-clause-in_range : goal.extend_from_self-requires-clause-in_range
 extend_from_self-requires-clause-in_range g c = (range_of g.W.Column.format g.V.Column.format c.args.range.start c.args.range.«end» c.requires.view_sound c.requires.ordered c.start_of-lower.ensures c.start_of-upper.ensures).within
 
-pub returns-in-Err-clause-err : goal.returns-in-Err-clause-err
-returns-in-Err-clause-err g c =
+pub returns-in_err-extend_from_self-clause-err : goal.returns-in_err-extend_from_self-clause-err
+returns-in_err-extend_from_self-clause-err g c =
+    rw (passed_on c.from_residual.result c.from_residual.ensures.1) (
     let r = range_of g.W.Column.format g.V.Column.format c.args.range.start c.args.range.«end» c.requires.view_sound c.requires.ordered c.start_of-lower.ensures c.start_of-upper.ensures in
-    range_refused_values g.BC.Column.format g.TC.Column.format c.requires.sound r (unchanged (lists_parts g.BC.Column.format g.TC.Column.format c.requires.sound).bounds) c.in-Err.ensures.err
+    range_refused_values g.BC.Column.format g.TC.Column.format c.requires.sound r (unchanged (lists_parts g.BC.Column.format g.TC.Column.format c.requires.sound).bounds) c.in_err-extend_from_self.ensures.err)
 
 pub len-end-requires : goal.len-end-requires
-len-end-requires g c = c.in-Ok.ensures.ok.took.grew.sound
+len-end-requires g c = c.in_ok-extend_from_self.ensures.ok.took.grew.sound
 
 pub push_shifted-requires-clause-sound : goal.push_shifted-requires-clause-sound
 push_shifted-requires-clause-sound g c = (lists_parts g.BC.Column.format g.TC.Column.format c.requires.sound).bounds
@@ -50,22 +51,22 @@ push_shifted-requires-clause-in_range g c = lists_within_le g.W.Column.format g.
 pub push_shifted-requires-clause-held : goal.push_shifted-requires-clause-held
 push_shifted-requires-clause-held g c =
     let r = range_of g.W.Column.format g.V.Column.format c.args.range.start c.args.range.«end» c.requires.view_sound c.requires.ordered c.start_of-lower.ensures c.start_of-upper.ensures in
-    let n = took_length {us = take (c.start_of-upper.result - c.start_of-lower.result) (drop c.start_of-lower.result (g.V.Column.format.rows (g.V.Column.content c.args.view.values)))} c.in-Ok.ensures.ok.took in
+    let n = took_length {us = take (c.start_of-upper.result - c.start_of-lower.result) (drop c.start_of-lower.result (g.V.Column.format.rows (g.V.Column.content c.args.view.values)))} c.in_ok-extend_from_self.ensures.ok.took in
     let e : c.len-end.result ≡ c.len-before.result + (c.start_of-upper.result - c.start_of-lower.result) = omega (arith, n, range_length r, c.len-end.ensures, c.len-before.ensures) in
     range_held r c.len-before.result c.len-end.result e (omega arith)
 
 pub truncate-requires-clause-sound : goal.truncate-requires-clause-sound
-truncate-requires-clause-sound g c = c.in-Ok.ensures.ok.took.grew.sound
+truncate-requires-clause-sound g c = c.in_ok-extend_from_self.ensures.ok.took.grew.sound
 
 pub truncate-requires-clause-in_range : goal.truncate-requires-clause-in_range
-truncate-requires-clause-in_range g c = rw c.in-Ok.ensures.ok.took.grew.rows (rw length-append (omega (arith, c.len-before.ensures)))
+truncate-requires-clause-in_range g c = rw c.in_ok-extend_from_self.ensures.ok.took.grew.rows (rw length-append (omega (arith, c.len-before.ensures)))
 
-pub returns-in-Ok-push_shifted-clause-ok : goal.returns-in-Ok-push_shifted-clause-ok
-returns-in-Ok-push_shifted-clause-ok g c =
+pub returns-in-Ok-clause-ok : goal.returns-in-Ok-clause-ok
+returns-in-Ok-clause-ok g c =
     let r = range_of g.W.Column.format g.V.Column.format c.args.range.start c.args.range.«end» c.requires.view_sound c.requires.ordered c.start_of-lower.ensures c.start_of-upper.ensures in
-    range_copied g.BC.Column.format g.TC.Column.format g.met.BC.Offsets.bounds c.requires.sound r c.start_of-lower.ensures c.in-Ok.ensures.ok (rw c.len-before.ensures at c.in-Ok-push_shifted.ensures.ok)
+    range_copied g.BC.Column.format g.TC.Column.format g.met.BC.Offsets.bounds c.requires.sound r c.start_of-lower.ensures c.in_ok-extend_from_self.ensures.ok (rw c.len-before.ensures at c.in-Ok.ensures.ok)
 
-pub returns-in-Err-push_shifted-clause-err : goal.returns-in-Err-push_shifted-clause-err
-returns-in-Err-push_shifted-clause-err g c =
+pub returns-in-Err-clause-err : goal.returns-in-Err-clause-err
+returns-in-Err-clause-err g c =
     let r = range_of g.W.Column.format g.V.Column.format c.args.range.start c.args.range.«end» c.requires.view_sound c.requires.ordered c.start_of-lower.ensures c.start_of-upper.ensures in
-    range_refused_bounds g.BC.Column.format g.TC.Column.format c.requires.sound r (rw c.len-before.ensures at c.in-Err-push_shifted.ensures.err) (undone {mid = g.TC.Column.content c.extend_from_self.new.self} g.met.TC.Truncate.lawful (lists_parts g.BC.Column.format g.TC.Column.format c.requires.sound).values c.in-Ok.ensures.ok.took.grew (rw c.len-before.ensures at c.truncate.ensures))
+    range_refused_bounds g.BC.Column.format g.TC.Column.format c.requires.sound r (rw c.len-before.ensures at c.in-Err.ensures.err) (undone {mid = g.TC.Column.content c.extend_from_self.new.self} g.met.TC.Truncate.lawful (lists_parts g.BC.Column.format g.TC.Column.format c.requires.sound).values c.in_ok-extend_from_self.ensures.ok.took.grew (rw c.len-before.ensures at c.truncate.ensures))

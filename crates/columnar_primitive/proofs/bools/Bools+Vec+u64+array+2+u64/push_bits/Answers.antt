@@ -22,29 +22,29 @@ returns-then-len-clause-no_memory c = λ h.
     let f = owned_bits_of c.requires.sound c.words.ensures c.tail_parts-word.ensures.word c.tail_parts-word.ensures.count in
     absurd (omega (arith, f.length_is, f.few, c.if-total-lt64.false))
 
-pub returns-in-Ok-clause-ok : goal.returns-in-Ok-clause-ok
-returns-in-Ok-clause-ok c =
+pub returns-clause-ok : goal.returns-clause-ok
+returns-clause-ok c =
     let f = owned_bits_of c.requires.sound c.words.ensures c.tail_parts-word.ensures.word c.tail_parts-word.ensures.count in
-    let g = words_grown c.args.self.now.values.items c.push.new.self.items c.joined-full.result c.in-Ok.ensures.items c.joined-full.type_inv in
-    (word_more c.joined-full.result c.args.bits c.args.count f.sound f.tail_is c.tail_of-self-in-Ok.ensures g.0 g.1 (omega (arith, f.words, f.short, c.if-len.false, c.len.ensures)) (omega (arith, c.if-total-lt64.false)) c.requires.short c.spilled-rest.ensures.below c.joined-full.ensures.low c.joined-full.ensures.high c.spilled-rest.ensures.same).bits
+    let g = words_grown c.args.self.now.values.items c.push.new.self.items c.joined-full.result c.in_ok-push.ensures.items c.joined-full.type_inv in
+    (word_more c.joined-full.result c.args.bits c.args.count f.sound f.tail_is c.tail_of-self-2.ensures g.0 g.1 (omega (arith, f.words, f.short, c.if-len.false, c.len.ensures)) (omega (arith, c.if-total-lt64.false)) c.requires.short c.spilled-rest.ensures.below c.joined-full.ensures.low c.joined-full.ensures.high c.spilled-rest.ensures.same).bits
 
-pub returns-in-Ok-clause-sound : goal.returns-in-Ok-clause-sound
-returns-in-Ok-clause-sound c =
+pub returns-clause-sound : goal.returns-clause-sound
+returns-clause-sound c =
     let f = owned_bits_of c.requires.sound c.words.ensures c.tail_parts-word.ensures.word c.tail_parts-word.ensures.count in
-    let g = words_grown c.args.self.now.values.items c.push.new.self.items c.joined-full.result c.in-Ok.ensures.items c.joined-full.type_inv in
-    bools_sound (word_more c.joined-full.result c.args.bits c.args.count f.sound f.tail_is c.tail_of-self-in-Ok.ensures g.0 g.1 (omega (arith, f.words, f.short, c.if-len.false, c.len.ensures)) (omega (arith, c.if-total-lt64.false)) c.requires.short c.spilled-rest.ensures.below c.joined-full.ensures.low c.joined-full.ensures.high c.spilled-rest.ensures.same).sound
+    let g = words_grown c.args.self.now.values.items c.push.new.self.items c.joined-full.result c.in_ok-push.ensures.items c.joined-full.type_inv in
+    bools_sound (word_more c.joined-full.result c.args.bits c.args.count f.sound f.tail_is c.tail_of-self-2.ensures g.0 g.1 (omega (arith, f.words, f.short, c.if-len.false, c.len.ensures)) (omega (arith, c.if-total-lt64.false)) c.requires.short c.spilled-rest.ensures.below c.joined-full.ensures.low c.joined-full.ensures.high c.spilled-rest.ensures.same).sound
 
-pub returns-in-Ok-clause-full : goal.returns-in-Ok-clause-full
-returns-in-Ok-clause-full c = λ h.
-    let f = owned_bits_of c.requires.sound c.words.ensures c.tail_parts-word.ensures.word c.tail_parts-word.ensures.count in
-    absurd (omega (arith, f.length_is, f.short, f.few, c.requires.short, c.if-len.false, c.len.ensures))
-
-pub returns-in-Err-clause-full : goal.returns-in-Err-clause-full
-returns-in-Err-clause-full c = λ h.
+pub returns-clause-full : goal.returns-clause-full
+returns-clause-full c = λ h.
     let f = owned_bits_of c.requires.sound c.words.ensures c.tail_parts-word.ensures.word c.tail_parts-word.ensures.count in
     absurd (omega (arith, f.length_is, f.short, f.few, c.requires.short, c.if-len.false, c.len.ensures))
 
-pub returns-in-Err-clause-no_memory : goal.returns-in-Err-clause-no_memory
-returns-in-Err-clause-no_memory c = λ h.
+pub returns-in_err-push-clause-full : goal.returns-in_err-push-clause-full
+returns-in_err-push-clause-full c = λ h.
+    let f = owned_bits_of c.requires.sound c.words.ensures c.tail_parts-word.ensures.word c.tail_parts-word.ensures.count in
+    absurd (omega (arith, f.length_is, f.short, f.few, c.requires.short, c.if-len.false, c.len.ensures))
+
+pub returns-in_err-push-clause-no_memory : goal.returns-in_err-push-clause-no_memory
+returns-in_err-push-clause-no_memory c = λ h.
     let f = owned_bits_of c.requires.sound c.words.ensures c.tail_parts-word.ensures.word c.tail_parts-word.ensures.count in
     absurd (omega (arith, f.length_is, f.few, c.if-total-lt64.false))

@@ -1,7 +1,6 @@
-use Rattle.std.proofs.lemmas.Result.{err_from_is_err_and}
 use Rattle.std.proofs.Common.{◌≡◌, ◌%◌, ◌^◌, arith}
 use Rattle.columnar_primitive.specs.DurationLaws.{durations_parts, durations_took, durations_refused_left, durations_refused_right}
-use Rattle.columnar_base.specs.ChangeLaws.{undone, unchanged}
+use Rattle.columnar_base.specs.ChangeLaws.{passed_on, unchanged, undone}
 use Rattle.std.proofs.lemmas.Bool.{lt-ltb}
 use Rattle.columnar_base.specs.Row.{number}
 use Rattle.columnar_primitive.proofs.durations.Durations.push_parts.Goals as goal
@@ -19,7 +18,7 @@ pub returns-in_err-push-clause-err : goal.returns-in_err-push-clause-err
 returns-in_err-push-clause-err g c =
     let e : c.args.seconds % 2 ^ 64 ≡ c.args.seconds = omega (arith, c.ranges.seconds) in
     let f : c.args.nanoseconds % 2 ^ 32 ≡ c.args.nanoseconds = omega (arith, c.ranges.nanoseconds) in
-    let p = err_from_is_err_and c.from_residual.result c.from_residual.ensures.1 in rw (p.1, p.2) (rw (e, f) at (durations_refused_left g.SC.Column.format g.NC.Column.format (number (c.args.seconds % 2 ^ 64)) (number (c.args.nanoseconds % 2 ^ 32)) g.met.SC.Flat.flat g.met.NC.Flat.flat c.requires.sound c.in_err-push.ensures.err (unchanged (durations_parts g.SC.Column.format g.NC.Column.format c.requires.sound).right)))
+    rw (passed_on c.from_residual.result c.from_residual.ensures.1) (rw (e, f) at (durations_refused_left g.SC.Column.format g.NC.Column.format (number (c.args.seconds % 2 ^ 64)) (number (c.args.nanoseconds % 2 ^ 32)) g.met.SC.Flat.flat g.met.NC.Flat.flat c.requires.sound c.in_err-push.ensures.err (unchanged (durations_parts g.SC.Column.format g.NC.Column.format c.requires.sound).right)))
 
 pub returns-in-Ok-clause-ok : goal.returns-in-Ok-clause-ok
 returns-in-Ok-clause-ok g c =

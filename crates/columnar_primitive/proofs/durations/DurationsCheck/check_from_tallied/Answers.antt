@@ -1,4 +1,4 @@
-use Rattle.std.proofs.lemmas.Result.{err_from_is_err_and}
+use Rattle.columnar_base.specs.ChangeLaws.{passed_on}
 use Rattle.std.proofs.Common.{◌≡◌, length, sym, ◌∙◌}
 use Rattle.columnar_base.specs.TwoParts.{representable_left, representable_right, judged_part}
 use Rattle.columnar_base.specs.TupleLaws.{pair_two}
@@ -17,7 +17,7 @@ pub check_two-requires-clause-right : goal.check_two-requires-clause-right
 check_two-requires-clause-right g c = representable_right (pair_two g.SC.Column.format g.NC.Column.format) c.requires.representable
 
 pub returns-in_err-check_two-clause-exact : goal.returns-in_err-check_two-clause-exact
-returns-in_err-check_two-clause-exact g c = let p = err_from_is_err_and c.from_residual.result c.from_residual.ensures.1 in rw (p.1, p.2) (mapped_broken (pair_format g.SC.Column.format g.NC.Column.format) as_duration is_duration (both (g.SC.Column.content c.args.self.now.seconds) (g.NC.Column.content c.args.self.now.nanoseconds)) c.args.from (fault_of c.in_err-check_two.field-0.0) (judged_part (pair_two g.SC.Column.format g.NC.Column.format) (g.SC.Column.content c.args.self.now.seconds) (g.NC.Column.content c.args.self.now.nanoseconds) c.args.from (fault_of c.in_err-check_two.field-0.0) c.in_err-check_two.ensures.exact))
+returns-in_err-check_two-clause-exact g c = rw (passed_on c.from_residual.result c.from_residual.ensures.1) (mapped_broken (pair_format g.SC.Column.format g.NC.Column.format) as_duration is_duration (both (g.SC.Column.content c.args.self.now.seconds) (g.NC.Column.content c.args.self.now.nanoseconds)) c.args.from (fault_of c.in_err-check_two.field-0.0) (judged_part (pair_two g.SC.Column.format g.NC.Column.format) (g.SC.Column.content c.args.self.now.seconds) (g.NC.Column.content c.args.self.now.nanoseconds) c.args.from (fault_of c.in_err-check_two.field-0.0) c.in_err-check_two.ensures.exact))
 
 pub returns-then-all_fit-clause-exact : goal.returns-then-all_fit-clause-exact
 returns-then-all_fit-clause-exact g c =

@@ -1,7 +1,6 @@
-use Rattle.std.proofs.lemmas.Result.{err_from_is_err_and}
 use Rattle.std.proofs.Common.{◌-◌}
 use Rattle.columnar_primitive.specs.DurationLaws.{durations_parts, durations_top, durations_copied, durations_refused_left_piece, durations_refused_right_piece}
-use Rattle.columnar_base.specs.ChangeLaws.{undone, unchanged}
+use Rattle.columnar_base.specs.ChangeLaws.{passed_on, unchanged, undone}
 use Rattle.columnar_primitive.proofs.durations.DurationsExtendFrom.extend_from_self.Goals as goal
 
 pub len-rows-requires : goal.len-rows-requires
@@ -17,7 +16,7 @@ pub extend_from_self-requires-clause-in_range : goal.extend_from_self-requires-c
 extend_from_self-requires-clause-in_range g c = (durations_top g.V.Column.format g.W.Column.format c.args.range.«end» c.requires.view_sound c.requires.in_range).0
 
 pub returns-in_err-extend_from_self-clause-err : goal.returns-in_err-extend_from_self-clause-err
-returns-in_err-extend_from_self-clause-err g c = let p = err_from_is_err_and c.from_residual.result c.from_residual.ensures.1 in rw (p.1, p.2) (durations_refused_left_piece g.SC.Column.format g.NC.Column.format g.V.Column.format g.W.Column.format (g.V.Column.content c.args.view.seconds) (g.W.Column.content c.args.view.nanoseconds) c.args.range.start (c.args.range.«end» - c.args.range.start) g.met.SC.Flat.flat g.met.NC.Flat.flat c.requires.sound c.requires.view_sound c.in_err-extend_from_self.ensures.err (unchanged (durations_parts g.SC.Column.format g.NC.Column.format c.requires.sound).right))
+returns-in_err-extend_from_self-clause-err g c = rw (passed_on c.from_residual.result c.from_residual.ensures.1) (durations_refused_left_piece g.SC.Column.format g.NC.Column.format g.V.Column.format g.W.Column.format (g.V.Column.content c.args.view.seconds) (g.W.Column.content c.args.view.nanoseconds) c.args.range.start (c.args.range.«end» - c.args.range.start) g.met.SC.Flat.flat g.met.NC.Flat.flat c.requires.sound c.requires.view_sound c.in_err-extend_from_self.ensures.err (unchanged (durations_parts g.SC.Column.format g.NC.Column.format c.requires.sound).right))
 
 pub extend_from_self-requires-2-clause-sound : goal.extend_from_self-requires-2-clause-sound
 extend_from_self-requires-2-clause-sound g c = (durations_parts g.SC.Column.format g.NC.Column.format c.requires.sound).right

@@ -1,4 +1,4 @@
-use Rattle.std.proofs.lemmas.Result.{err_from_is_err_and}
+use Rattle.columnar_base.specs.ChangeLaws.{passed_on}
 use Rattle.std.proofs.Common.{◌≡◌, ◌+◌, length, drop, sym, ◌∙◌}
 use Rattle.columnar_base.specs.TwoParts.{representable_left, representable_right, judged_part_at}
 use Rattle.columnar_base.specs.TupleLaws.{pair_two}
@@ -17,7 +17,7 @@ pub judge_two-requires-clause-right : goal.judge_two-requires-clause-right
 judge_two-requires-clause-right g c = representable_right (pair_two g.SC.Column.format g.NC.Column.format) c.requires.representable
 
 pub returns-in_err-judge_two-clause-exact : goal.returns-in_err-judge_two-clause-exact
-returns-in_err-judge_two-clause-exact g c = let p = err_from_is_err_and c.from_residual.result c.from_residual.ensures.1 in rw (p.1, p.2) (mapped_broken (pair_format g.SC.Column.format g.NC.Column.format) as_duration is_duration ((pair_format g.SC.Column.format g.NC.Column.format).build (drop c.args.offset (slices_in c.args.store.now))) c.args.offset (fault_of c.in_err-judge_two.field-0.0) (judged_part_at (pair_two g.SC.Column.format g.NC.Column.format) (slices_in c.args.store.now) c.args.offset (fault_of c.in_err-judge_two.field-0.0) c.in_err-judge_two.ensures.exact))
+returns-in_err-judge_two-clause-exact g c = rw (passed_on c.from_residual.result c.from_residual.ensures.1) (mapped_broken (pair_format g.SC.Column.format g.NC.Column.format) as_duration is_duration ((pair_format g.SC.Column.format g.NC.Column.format).build (drop c.args.offset (slices_in c.args.store.now))) c.args.offset (fault_of c.in_err-judge_two.field-0.0) (judged_part_at (pair_two g.SC.Column.format g.NC.Column.format) (slices_in c.args.store.now) c.args.offset (fault_of c.in_err-judge_two.field-0.0) c.in_err-judge_two.ensures.exact))
 
 pub slice_count-requires : goal.slice_count-requires
 slice_count-requires g c = representable_left (pair_two g.SC.Column.format g.NC.Column.format) c.requires.representable

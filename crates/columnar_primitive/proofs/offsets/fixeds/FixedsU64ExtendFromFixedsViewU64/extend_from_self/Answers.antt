@@ -1,4 +1,4 @@
-use Rattle.std.proofs.lemmas.Result.{err_from_is_err_and}
+use Rattle.columnar_base.specs.ChangeLaws.{passed_on}
 use Rattle.std.proofs.Common.{◌≡◌, ◌+◌, ◌-◌, sym, refl, arith}
 use Rattle.columnar_core.specs.Views.{items_content}
 use Rattle.std.specs.Int.{to_le_bytes, w64}
@@ -11,7 +11,7 @@ pub returns-in_err-self-clause-err : goal.returns-in_err-self-clause-err
 returns-in_err-self-clause-err g c =
     let from = bytes_of (items_content (to_le_bytes w64) c.args.view.count.items) in
     let e = length-fixed g.row.K from in
-    let p = err_from_is_err_and c.from_residual.result c.from_residual.ensures.1 in rw (p.1, p.2) (fixed_copy_refused g.row.K c.args.self.now.count c.args.range.start (c.args.range.«end» - c.args.range.start) (word from 0) c.get.result c.in_err-self.field-0.0 (omega arith) (omega arith) (omega (arith, c.requires.in_range, c.requires.ordered)) (omega arith) c.requires.sound c.get.ensures.row c.in_err-self.ensures.err)
+    rw (passed_on c.from_residual.result c.from_residual.ensures.1) (fixed_copy_refused g.row.K c.args.self.now.count c.args.range.start (c.args.range.«end» - c.args.range.start) (word from 0) c.get.result c.in_err-self.field-0.0 (omega arith) (omega arith) (omega (arith, c.requires.in_range, c.requires.ordered)) (omega arith) c.requires.sound c.get.ensures.row c.in_err-self.ensures.err)
 
 pub returns-clause-ok : goal.returns-clause-ok
 returns-clause-ok g c =

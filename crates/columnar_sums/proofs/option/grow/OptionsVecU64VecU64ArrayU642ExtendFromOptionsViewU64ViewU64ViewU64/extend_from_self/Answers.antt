@@ -3,7 +3,7 @@ use Rattle.columnar_sums.specs.OptionLaws.{options_parts, options_within, option
 use Rattle.columnar_sums.specs.RankColumns.{ranks_content}
 use Rattle.std.proofs.lemmas.List.{length-map}
 use Rattle.columnar_core.specs.Row.{truth}
-use Rattle.columnar_core.specs.ChangeLaws.{undone, unchanged}
+use Rattle.columnar_core.specs.ChangeLaws.{passed_on, unchanged, undone}
 use Rattle.columnar_core.specs.WordViews.{view_bytes}
 use Rattle.columnar_sums.specs.RankColumns.{ranks_bits}
 use Rattle.columnar_sums.specs.WeaveLaws.{ones_grows}
@@ -30,14 +30,14 @@ extend_from_self-requires-clause-ordered g c = rw (c.rank-first.ensures.value, c
 pub extend_from_self-requires-clause-in_range : goal.extend_from_self-requires-clause-in_range
 extend_from_self-requires-clause-in_range g c = rw c.rank-last.ensures.value (options_top g.V.Column.format (ranks_content view_bytes view_bytes view_bytes c.args.view.indexes) (g.V.Column.content c.args.view.somes) c.args.range.«end» c.requires.view_sound c.requires.in_range)
 
-pub returns-in-Err-clause-err : goal.returns-in-Err-clause-err
-returns-in-Err-clause-err g c = options_refused_values_range g.TC.Column.format g.V.Column.format (ranks_content view_bytes view_bytes view_bytes c.args.view.indexes) (g.V.Column.content c.args.view.somes) c.args.range.start c.args.range.«end» c.requires.sound c.requires.view_sound c.requires.ordered c.requires.in_range (unchanged (options_parts g.TC.Column.format c.requires.sound).bits) (rw (c.rank-first.ensures.value, c.rank-last.ensures.value) at c.in-Err.ensures.err)
+pub returns-in_err-extend_from_self-clause-err : goal.returns-in_err-extend_from_self-clause-err
+returns-in_err-extend_from_self-clause-err g c = rw (passed_on c.from_residual.result c.from_residual.ensures.1) (options_refused_values_range g.TC.Column.format g.V.Column.format (ranks_content view_bytes view_bytes view_bytes c.args.view.indexes) (g.V.Column.content c.args.view.somes) c.args.range.start c.args.range.«end» c.requires.sound c.requires.view_sound c.requires.ordered c.requires.in_range (unchanged (options_parts g.TC.Column.format c.requires.sound).bits) (rw (c.rank-first.ensures.value, c.rank-last.ensures.value) at c.in_err-extend_from_self.ensures.err))
 
 pub extend_from_self-requires-2-clause-in_range : goal.extend_from_self-requires-2-clause-in_range
 extend_from_self-requires-2-clause-in_range g c = omega (arith, length-map (ranks_bits (ranks_content view_bytes view_bytes view_bytes c.args.view.indexes)) truth, options_within g.V.Column.format (ranks_content view_bytes view_bytes view_bytes c.args.view.indexes) (g.V.Column.content c.args.view.somes) c.args.range.«end» c.requires.in_range)
 
-pub returns-in-Ok-extend_from_self-clause-ok : goal.returns-in-Ok-extend_from_self-clause-ok
-returns-in-Ok-extend_from_self-clause-ok g c = options_copied_range g.TC.Column.format g.V.Column.format (ranks_content view_bytes view_bytes view_bytes c.args.view.indexes) (g.V.Column.content c.args.view.somes) c.args.range.start c.args.range.«end» g.met.TC.Truncate.lawful.same c.requires.sound c.requires.view_sound c.requires.ordered c.requires.in_range c.in-Ok-extend_from_self.ensures.ok (rw (c.rank-first.ensures.value, c.rank-last.ensures.value) at c.in-Ok.ensures.ok)
+pub returns-in-Ok-clause-ok : goal.returns-in-Ok-clause-ok
+returns-in-Ok-clause-ok g c = options_copied_range g.TC.Column.format g.V.Column.format (ranks_content view_bytes view_bytes view_bytes c.args.view.indexes) (g.V.Column.content c.args.view.somes) c.args.range.start c.args.range.«end» g.met.TC.Truncate.lawful.same c.requires.sound c.requires.view_sound c.requires.ordered c.requires.in_range c.in-Ok.ensures.ok (rw (c.rank-first.ensures.value, c.rank-last.ensures.value) at c.in_ok-extend_from_self.ensures.ok)
 
-pub returns-in-Err-extend_from_self-clause-err : goal.returns-in-Err-extend_from_self-clause-err
-returns-in-Err-extend_from_self-clause-err g c = options_refused_bits_range g.TC.Column.format g.V.Column.format (ranks_content view_bytes view_bytes view_bytes c.args.view.indexes) (g.V.Column.content c.args.view.somes) c.args.range.start c.args.range.«end» c.requires.sound c.requires.ordered c.in-Err-extend_from_self.ensures.err (undone g.met.TC.Truncate.lawful (options_parts g.TC.Column.format c.requires.sound).values c.in-Ok.ensures.ok.took.grew (rw c.len-taken.ensures at c.truncate.ensures))
+pub returns-in-Err-clause-err : goal.returns-in-Err-clause-err
+returns-in-Err-clause-err g c = options_refused_bits_range g.TC.Column.format g.V.Column.format (ranks_content view_bytes view_bytes view_bytes c.args.view.indexes) (g.V.Column.content c.args.view.somes) c.args.range.start c.args.range.«end» c.requires.sound c.requires.ordered c.in-Err.ensures.err (undone g.met.TC.Truncate.lawful (options_parts g.TC.Column.format c.requires.sound).values c.in_ok-extend_from_self.ensures.ok.took.grew (rw c.len-taken.ensures at c.truncate.ensures))

@@ -1,5 +1,6 @@
+use Rattle.std.proofs.lemmas.Result.{on_ok_weaker, IfErr-weaker}
 use Rattle.columnar_sums.specs.OptionLaws.{options_parts, options_took_some, options_took_none, options_refused_value, options_refused_true, options_refused_false}
-use Rattle.columnar_core.specs.ChangeLaws.{undone}
+use Rattle.columnar_core.specs.ChangeLaws.{passed_on, undone}
 use Rattle.columnar_sums.proofs.option.grow.OptionsVecU64VecU64ArrayU642PushOption.push.Goals as goal
 
 pub len-before-requires : goal.len-before-requires
@@ -8,17 +9,17 @@ len-before-requires g c = (options_parts g.TC.Column.format c.requires.sound).va
 pub push-requires-clause-sound : goal.push-requires-clause-sound
 push-requires-clause-sound g c = (options_parts g.TC.Column.format c.requires.sound).values
 
+pub returns-in_err-push-clause-err : goal.returns-in_err-push-clause-err
+returns-in_err-push-clause-err g c = rw (passed_on c.from_residual.result c.from_residual.ensures.1) (rw c.in-Some.is (options_refused_value g.TC.Column.format (g.T.Item.meaning c.in-Some.value) c.requires.sound c.in_err-push.ensures.err))
+
+pub returns-in-Ok-clause-ok : goal.returns-in-Ok-clause-ok
+returns-in-Ok-clause-ok g c = rw c.in-Some.is (options_took_some g.TC.Column.format g.met.TC.Truncate.lawful.same c.requires.sound c.in_ok-push.ensures.ok c.in-Ok.ensures.ok)
+
 pub returns-in-Err-clause-err : goal.returns-in-Err-clause-err
-returns-in-Err-clause-err g c = rw c.in-Some.is (options_refused_value g.TC.Column.format (g.T.Item.meaning c.in-Some.value) c.requires.sound c.in-Err.ensures.err)
+returns-in-Err-clause-err g c = rw c.in-Some.is (options_refused_true g.TC.Column.format (g.T.Item.meaning c.in-Some.value) c.requires.sound c.in-Err.ensures.err (undone g.met.TC.Truncate.lawful (options_parts g.TC.Column.format c.requires.sound).values c.in_ok-push.ensures.ok.grew (rw c.len-before.ensures at c.truncate.ensures)))
 
-pub returns-in-Ok-push-clause-ok : goal.returns-in-Ok-push-clause-ok
-returns-in-Ok-push-clause-ok g c = rw c.in-Some.is (options_took_some g.TC.Column.format g.met.TC.Truncate.lawful.same c.requires.sound c.in-Ok.ensures.ok c.in-Ok-push.ensures.ok)
+pub returns-in-None-clause-ok : goal.returns-in-None-clause-ok
+returns-in-None-clause-ok g c = on_ok_weaker c.push-3.result (λ h. rw c.in-None.is (options_took_none g.TC.Column.format g.met.TC.Truncate.lawful.same c.requires.sound h)) c.push-3.ensures.ok
 
-pub returns-in-Err-push-clause-err : goal.returns-in-Err-push-clause-err
-returns-in-Err-push-clause-err g c = rw c.in-Some.is (options_refused_true g.TC.Column.format (g.T.Item.meaning c.in-Some.value) c.requires.sound c.in-Err-push.ensures.err (undone g.met.TC.Truncate.lawful (options_parts g.TC.Column.format c.requires.sound).values c.in-Ok.ensures.ok.grew (rw c.len-before.ensures at c.truncate.ensures)))
-
-pub returns-in-Ok-push-2-clause-ok : goal.returns-in-Ok-push-2-clause-ok
-returns-in-Ok-push-2-clause-ok g c = rw c.in-None.is (options_took_none g.TC.Column.format g.met.TC.Truncate.lawful.same c.requires.sound c.in-Ok-push-2.ensures.ok)
-
-pub returns-in-Err-push-2-clause-err : goal.returns-in-Err-push-2-clause-err
-returns-in-Err-push-2-clause-err g c = rw c.in-None.is (options_refused_false g.TC.Column.format c.requires.sound c.in-Err-push-2.ensures.err)
+pub returns-in-None-clause-err : goal.returns-in-None-clause-err
+returns-in-None-clause-err g c = IfErr-weaker c.push-3.result _ _ (λ e h. rw c.in-None.is (options_refused_false g.TC.Column.format c.requires.sound h)) c.push-3.ensures.err

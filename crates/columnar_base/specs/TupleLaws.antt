@@ -1,12 +1,11 @@
-use Rattle.std.proofs.Common.{◌≡◌, ℕ, zero, suc, ◌+◌, ◌<◌, ◌≤◌, Bool, true, false, ◌&&◌, List, [], ◌∷◌, ◌++◌, length, take, drop, refl, sym, ◌∙◌, ap, arith, pred, length-append, length-take, length-drop, append_assoc}
+use Rattle.std.proofs.Common.{◌≡◌, ℕ, zero, suc, ◌+◌, ◌<◌, ◌≤◌, Bool, true, false, ◌&&◌, List, [], ◌∷◌, ◌++◌, length, take, drop, refl, sym, ◌∙◌, ap, arith, pred, length-append, length-take, length-drop}
 use Rattle.std.specs.Prelude.{slice_get, Some, ◌||◌}
-use Rattle.std.proofs.Math.Seq.{drop-append_seam}
 use Rattle.std.proofs.lemmas.List.{map-append, drop-drop}
 use Rattle.std.proofs.lemmas.Bool.{and_parts, and_from, or_left, or_right, eqb-true, eq-eqb}
 use Rattle.columnar_base.specs.Row.{Row, tuple, first_of, second_of, bare_tuple, row_eq}
 use Rattle.columnar_base.specs.RowLaws.{row_eq-is, same_tuple}
 use Rattle.columnar_base.specs.AlikeLaws.{alike_length, same_pulled, same_both, row_eq_same}
-use Rattle.columnar_base.specs.Format.{Format, Content, slice, both, part, plain, IsSound, IsLawful, IsStorable, IsSame, IsExact, Fits, lengths, slices_of, moved, unless, fault, all_alike, Excess, refuses_more}
+use Rattle.columnar_base.specs.Format.{Format, Content, slice, both, part, plain, IsSound, IsLawful, IsStorable, IsSame, IsExact, Fits, lengths, all_alike, Excess, refuses_more}
 use Rattle.columnar_base.specs.Change.{Keeps, Grew, Stayed, WasCut, Took, Copied, Refused}
 use Rattle.columnar_base.specs.ChangeLaws.{true_from}
 use Rattle.columnar_base.specs.TwoParts.{TwoParts, two_parts, two_sound, two_storable}

@@ -1,6 +1,6 @@
 //! The traits of columns that name no view. A column has a format, which its type determines, and a content; all that
 //! it means is read off these two.
-ghost use Rattle.std.specs.Prelude.{◌≡◌, ℕ, ◌+◌, ◌-◌, ◌<◌, ◌≤◌, ◌↔◌, length, map, List, [], ◌∷◌, slice_get, Some, All, OnOk, IfErr, IsTrue, IsNone, IfSome};
+ghost use Rattle.std.specs.Prelude.{◌≡◌, ◌+◌, ◌-◌, ◌<◌, ◌↔◌, length, map, List, [], ◌∷◌, slice_get, Some, All, OnOk, IfErr, IsTrue, IsNone, IfSome};
 ghost use Rattle.std.specs.Iterator.{IsFinite, HoldsAlong, Drains, Yields};
 ghost use Rattle.columnar_base.specs.Row.{Row};
 ghost use Rattle.columnar_base.specs.Format.{Content, Format, IsSound};

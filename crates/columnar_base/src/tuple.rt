@@ -1,9 +1,7 @@
 //! Tuples of columns of one length, side by side: a column of tuples.
-ghost use Rattle.std.specs.Prelude.{ℕ};
 ghost use Rattle.columnar_base.specs.Row.{tuple};
-ghost use Rattle.columnar_base.specs.Format.{both, slices_of};
+ghost use Rattle.columnar_base.specs.Format.{both};
 ghost use Rattle.columnar_base.specs.Tuples.{pair_format};
-ghost use Rattle.columnar_base.specs.TwoParts.{two_counted};
 ghost use Rattle.columnar_base.specs.TupleLaws.{pair_lawful};
 
 use crate::fault::GrowError;

@@ -5,9 +5,9 @@ use Rattle.columnar_core.specs.Frame.{end_of, start_of, IsPlaced}
 use Rattle.columnar_core.specs.declared.fault.StoreFault.{StoreFault}
 use Rattle.columnar_core.specs.declared.fault.StoreFault.TheVariants.{NotWords, Empty, FirstOffset, Table, SliceCount, PastEnd, Backwards}
 
--- The rule of the structure that the fault names is broken, at its slice: the length is no multiple of eight; there is
--- no word; word 0 is below 8 or no multiple of 8; the table is longer than the store; it is for another number of
--- slices than n; slice i ends past the store; slice i ends before its start.
+-- The rule of the structure that the fault names is broken, at its slice: the store is not made of whole words; it has no
+-- bytes; the first offset points to no word behind it; the table of offsets does not fit in the store; it has entries
+-- for more or fewer slices than n; slice i reaches beyond the store; the end of slice i is below its start.
 abbrev pub IsBroken : List ℕ → ℕ → StoreFault → Type 0
 IsBroken bytes n (NotWords i) = (i ≡ 0) × (length bytes % 8 ≢ 0)
 IsBroken bytes n (Empty i) = (i ≡ 0) × (length bytes ≡ 0)

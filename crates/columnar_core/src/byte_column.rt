@@ -1,12 +1,9 @@
 //! Columns of bytes, which are borrowed as slices.
-ghost use Rattle.std.specs.Prelude.{◌≡◌, ℕ, ◌+◌, ◌-◌, ◌*◌, ◌<◌, ◌≤◌, ◌++◌, ◌∷◌, [], length, take, drop, List, Some, slice_get, IsTrue, OnOk, OnErr, IfErr, refl};
-ghost use Rattle.columnar_base.specs.Format.{Fits, bytes_held, first, moved, representable, slice, slices_of};
-ghost use Rattle.columnar_base.specs.Elements.{elements, elements_broken, elements_format, elements_rows, first_slice};
+ghost use Rattle.std.specs.Prelude.{◌≡◌, ◌+◌, ◌-◌, ◌*◌, ◌<◌, refl};
+ghost use Rattle.columnar_base.specs.Format.{slice};
+ghost use Rattle.columnar_base.specs.Elements.{elements};
 ghost use Rattle.columnar_base.specs.ElementLaws.{elements_storable};
-ghost use Rattle.columnar_base.specs.Faults.{verdict};
 ghost use Rattle.std.specs.Int.{to_le_bytes, w8};
-ghost use Rattle.columnar_core.specs.Slices.{bytes_in, alignment};
-ghost use Rattle.columnar_core.specs.Store.{slices_in};
 
 use crate::byte_slice::ByteSlice;
 use crate::byte_slice::sliced::Sliced;

@@ -1,6 +1,6 @@
 //! Columns as slices of bytes.
-ghost use Rattle.std.specs.Prelude.{◌≡◌, ℕ, ◌+◌, ◌*◌, ◌^◌, ◌<◌, ◌≤◌, ◌++◌, Some, IsTrue, slice_get, length, take, drop, OnOk, OnErr, IfErr};
-ghost use Rattle.columnar_base.specs.Format.{Format, Fits, IsSound, IsStorable, bytes_held, bytes_of_all, faults_at, first, moved, representable, slices_of};
+ghost use Rattle.std.specs.Prelude.{◌≡◌, ◌+◌, ◌*◌, ◌^◌, ◌<◌, ◌≤◌, ◌++◌, Some, IsTrue, slice_get, length, take, drop, OnOk, OnErr, IfErr};
+ghost use Rattle.columnar_base.specs.Format.{Fits, IsStorable, bytes_held, bytes_of_all, faults_at, first, moved, representable, slices_of};
 ghost use Rattle.columnar_base.specs.Faults.{verdict};
 ghost use Rattle.columnar_core.specs.Store.{slices_in, slices_left};
 ghost use Rattle.columnar_core.specs.Slices.{bytes_in, alignment};

@@ -1,8 +1,8 @@
 //! The traits of containers: columns that grow, are cut, and are borrowed as views.
-ghost use Rattle.std.specs.Prelude.{◌≡◌, ℕ, ◌+◌, ◌-◌, ◌<◌, ◌≤◌, length, List, [], ◌∷◌, take, drop, OnOk, OnErr, IfOk, IfErr, IsTrue, slice_get, Some};
+ghost use Rattle.std.specs.Prelude.{◌≡◌, ◌+◌, ◌-◌, ◌<◌, ◌≤◌, length, [], take, drop, OnOk, IfOk, IfErr, IsTrue, slice_get, Some};
 ghost use Rattle.std.specs.Iterator.{IsFinite};
-ghost use Rattle.columnar_base.specs.Row.{Row, unit};
-ghost use Rattle.columnar_base.specs.Format.{Content, Format, Fits, IsSound, representable, slices_of};
+ghost use Rattle.columnar_base.specs.Row.{unit};
+ghost use Rattle.columnar_base.specs.Format.{Fits, IsSound, representable, slices_of};
 ghost use Rattle.columnar_core.specs.Store.{slices_in};
 ghost use Rattle.columnar_core.specs.Slices.{bytes_in, alignment};
 ghost use Rattle.columnar_base.specs.Change.{Copied, Refused, Stayed};

@@ -1,8 +1,5 @@
 //! An owned column, lent as its slices where no view can be named.
-ghost use Rattle.std.specs.Prelude.{◌≡◌, ℕ, ◌+◌, ◌*◌, ◌<◌, ◌≤◌, ◌++◌, IsTrue, OnOk, OnErr, IfErr, length, drop};
-ghost use Rattle.columnar_base.specs.Format.{Fits, bytes_held, first, moved, representable};
-ghost use Rattle.columnar_base.specs.Faults.{verdict};
-ghost use Rattle.columnar_core.specs.Store.{slices_in};
+ghost use Rattle.std.specs.Prelude.{◌<◌};
 
 use crate::byte_slice::ByteSlice;
 use crate::bytes::{AsBytes, Stored};

@@ -1,6 +1,5 @@
 //! Tuples of containers, side by side: a container of tuples.
-ghost use Rattle.std.specs.Prelude.{◌≡◌, ℕ, length};
-ghost use Rattle.columnar_base.specs.Format.{IsSound, slices_of};
+ghost use Rattle.columnar_base.specs.Format.{slices_of};
 ghost use Rattle.columnar_base.specs.TwoParts.{two_counted};
 ghost use Rattle.columnar_base.specs.TupleLaws.{pair_storable, same_pair};
 

@@ -1,14 +1,9 @@
 //! Columns of elements in a `Vec`, as containers.
-ghost use Rattle.std.specs.Prelude.{◌≡◌, ℕ, ◌+◌, ◌-◌, ◌*◌, ◌%◌, ◌<◌, ◌≤◌, ◌++◌, ◌∷◌, [], length, take, drop, map, List, Some, slice_get, IsTrue, OnOk, OnErr, IfOk, IfErr, refl};
+ghost use Rattle.std.specs.Prelude.{◌≡◌, ◌+◌, ◌-◌, ◌*◌, ◌%◌, ◌<◌, ◌≤◌, ◌++◌, length, take, drop, OnOk, OnErr, IfOk, IfErr, refl};
 ghost use Rattle.std.specs.List.{flat_map};
-ghost use Rattle.std.specs.Int.{to_le_bytes, w64};
-ghost use Rattle.columnar_base.specs.Format.{Fits, IsSound, bytes_held, first, moved, representable, slices_of};
-ghost use Rattle.columnar_base.specs.Elements.{elements, elements_broken, elements_format, elements_rows, first_slice};
+ghost use Rattle.columnar_base.specs.Format.{IsSound};
+ghost use Rattle.columnar_base.specs.Elements.{elements, elements_format, elements_rows};
 ghost use Rattle.columnar_base.specs.ElementLaws.{elements_storable};
-ghost use Rattle.columnar_base.specs.Change.{Copied, Refused};
-ghost use Rattle.columnar_base.specs.Faults.{verdict};
-ghost use Rattle.columnar_core.specs.Slices.{bytes_in, alignment};
-ghost use Rattle.columnar_core.specs.Store.{slices_in};
 ghost use Rattle.columnar_core.specs.Appended.{Appended};
 
 use crate::byte_slice::ByteSlice;

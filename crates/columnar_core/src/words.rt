@@ -1,5 +1,5 @@
 //! Columns of 64-bit numbers as offsets.
-ghost use Rattle.std.specs.Prelude.{◌≡◌, ℕ, ◌+◌, ◌*◌, ◌≤◌, length, drop, IsTrue};
+ghost use Rattle.std.specs.Prelude.{◌≡◌, ◌+◌, ◌*◌, ◌≤◌, length, drop, IsTrue};
 ghost use Rattle.columnar_base.specs.Format.{Fits, IsSound, bytes_held, representable};
 ghost use Rattle.columnar_base.specs.Elements.{elements_rows, first_slice, word_row_of, words_format};
 ghost use Rattle.columnar_core.specs.Bounds.{rises, numbers};

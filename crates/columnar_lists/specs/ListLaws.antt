@@ -9,7 +9,7 @@ use Rattle.columnar_base.specs.RowLaws.{is-row_eq, items_of-list, end_of-list}
 use Rattle.columnar_base.specs.Elements.{word_row}
 use Rattle.columnar_base.specs.FaultLaws.{nothing_left, nothing_both, unless_true, true_unless}
 use Rattle.columnar_base.specs.AlikeLaws.{alike_length}
-use Rattle.columnar_base.specs.Format.{Format, Content, slice, both, part, plain, part_format, IsSound, IsLawful, IsStorable, lengths, moved, unless, fault, Excess, refuses_more}
+use Rattle.columnar_base.specs.Format.{Format, Content, slice, both, part, plain, part_format, IsSound, IsLawful, IsStorable, lengths, unless, fault, Excess, refuses_more}
 use Rattle.columnar_base.specs.Change.{Keeps, Grew, Stayed, WasCut, Took, Copied, Refused}
 use Rattle.columnar_base.specs.ChangeLaws.{grew_exactly, true_from}
 use Rattle.columnar_base.specs.TwoParts.{TwoParts, two_parts, two_sound, two_storable}

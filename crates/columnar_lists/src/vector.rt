@@ -1,5 +1,5 @@
 //! Lists of rows: their items one after another in one column, and where each list ends in another.
-ghost use Rattle.std.specs.Prelude.{◌≡◌, ℕ, ◌+◌, ◌-◌, ◌^◌, ◌<◌, ◌≤◌, length, List, [], ◌∷◌, slice_get, Some, take, drop, OnOk, IfErr, IfSome};
+ghost use Rattle.std.specs.Prelude.{◌≡◌, ℕ, ◌+◌, ◌-◌, ◌^◌, ◌<◌, ◌≤◌, length, ◌∷◌, slice_get, Some, take, drop, OnOk, IfErr};
 ghost use Rattle.columnar_base.specs.Format.{both, IsSound};
 ghost use Rattle.columnar_base.specs.Change.{Took, Refused};
 ghost use Rattle.columnar_base.specs.TwoParts.{two_counted};

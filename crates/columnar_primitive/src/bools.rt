@@ -1,13 +1,12 @@
 //! Truth values, packed as bits.
-ghost use Rattle.std.specs.Prelude.{◌≡◌, ℕ, ◌⊎◌, ◌+◌, ◌-◌, ◌*◌, ◌/◌, ◌%◌, ◌^◌, ◌<◌, ◌≤◌, ◌↔◌, [], ◌∷◌, ◌++◌, length, slice_index, slice_index_or, slice_range, false, take, drop, map, OnOk, OnErr, IfErr, IsOk, refl, Some, None};
+ghost use Rattle.std.specs.Prelude.{◌≡◌, ℕ, ◌+◌, ◌-◌, ◌*◌, ◌/◌, ◌%◌, ◌^◌, ◌<◌, ◌≤◌, [], ◌∷◌, ◌++◌, length, slice_index_or, slice_range, false, OnOk, OnErr, IfErr, IsOk, refl};
 ghost use Rattle.columnar_core.specs.Row.{truth};
-ghost use Rattle.columnar_core.specs.Format.{slice, both, IsSound, first, moved};
-ghost use Rattle.columnar_core.specs.Faults.{verdict};
-ghost use Rattle.columnar_core.specs.Change.{Stayed, Took, WasCut, Copied, Refused};
-ghost use Rattle.columnar_core.specs.WordViews.{words_in, le_bytes, view_bytes, view_words, bit_words};
-ghost use Rattle.columnar_primitive.specs.Bits.{bit as bit_of, bit_in, truths, number_of_bits};
-ghost use Rattle.columnar_primitive.specs.BoolColumns.{bools_format, bools_content, bools_broken, IsOfGrowth, bits_held, bits_in, owned_content, owned_bits, last_word, last_count};
-ghost use Rattle.columnar_primitive.specs.BoolLaws.{SoundBools, Tail, bools_lawful, bools_storable};
+ghost use Rattle.columnar_core.specs.Format.{IsSound};
+ghost use Rattle.columnar_core.specs.Change.{Stayed, Took, Refused};
+ghost use Rattle.columnar_core.specs.WordViews.{le_bytes, view_bytes};
+ghost use Rattle.columnar_primitive.specs.Bits.{bit as bit_of, truths, number_of_bits};
+ghost use Rattle.columnar_primitive.specs.BoolColumns.{bools_format, bools_content, IsOfGrowth, bits_held, bits_in, owned_content, owned_bits, last_word, last_count};
+ghost use Rattle.columnar_primitive.specs.BoolLaws.{SoundBools, Tail, bools_lawful};
 
 use columnar_core::container::{
     Borrow, Container, ExtendFrom, Reborrow, Reserve, Storage, Truncate,

@@ -1,7 +1,6 @@
 //! Columns that keep each row in bytes of its own, in one slice.
-ghost use Rattle.std.specs.Prelude.{◌≡◌, ℕ, ◌+◌, ◌<◌, length, drop, slice_get, Some, IsTrue, true, refl};
+ghost use Rattle.std.specs.Prelude.{◌≡◌, ◌+◌, ◌<◌, length, drop, slice_get, Some, IsTrue, refl};
 ghost use Rattle.columnar_base.specs.Format.{Fits, representable};
-ghost use Rattle.columnar_base.specs.Elements.{elements_format, elements_rows, first_slice};
 ghost use Rattle.columnar_core.specs.Store.{slices_in};
 ghost use Rattle.columnar_primitive.specs.Mapped.{IsFlat};
 ghost use Rattle.columnar_primitive.specs.MappedLaws.{elements_flat};
@@ -42,12 +41,7 @@ impl<'v, T: Element> Flat for View<'v, T> {
 
     ghost still = { refl };
 
-    fn row_in(store: &DecodedStore<'_>, offset: usize, index: usize) -> T
-        requires representable { IsTrue (representable (elements_format T.size T.align T.row_of)) }
-        requires fits { Fits (elements_format T.size T.align T.row_of) offset (slices_in store.now) }
-        requires in_range { index < length (elements_rows T.size T.row_of (first_slice (drop offset (slices_in store.now)))) }
-        ensures { slice_get (elements_rows T.size T.row_of (first_slice (drop offset (slices_in store.now)))) index ≡ Some (T.meaning result) }
-    {
+    fn row_in(store: &DecodedStore<'_>, offset: usize, index: usize) -> T {
         Vec::<T>::row_in(store, offset, index)
     }
 }

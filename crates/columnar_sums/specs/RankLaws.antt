@@ -1,21 +1,21 @@
-use Rattle.std.proofs.Common.{◌≡◌, ℕ, zero, suc, ◌+◌, ◌-◌, ◌*◌, ◌/◌, ◌%◌, ◌^◌, ◌<◌, ◌≤◌, Bool, true, false, List, [], ◌∷◌, ◌++◌, length, map, Some, None, refl, sym, ◌∙◌, ap, arith, ⊎_elim, add-zero}
+use Rattle.std.proofs.Common.{◌≡◌, ℕ, zero, suc, ◌+◌, ◌-◌, ◌*◌, ◌/◌, ◌%◌, ◌^◌, ◌<◌, ◌≤◌, Bool, true, false, List, [], ◌∷◌, length, map, Some, None, refl, sym, ◌∙◌, ap, arith, ⊎_elim, add-zero}
 use Rattle.std.specs.Prelude.{slice_index_or, nat_eq, Option, MatchOption}
 use Rattle.std.proofs.Math.Path.{ap₂}
 use Rattle.std.proofs.lemmas.List.{length-map, length_push, get_or_past}
 use Rattle.std.proofs.lemmas.List.FromFn.{fill_by_all, length-map-range_with_len, get_or-map-range_with_len}
 use Rattle.std.proofs.lemmas.Bool.{and_parts, and_from, eqb-true, eq-eqb, cases_lt, true≢false}
 use Rattle.columnar_core.specs.Row.{truth, numbers_eq}
-use Rattle.columnar_core.specs.Format.{Content, slice, both, part, plain, IsSound, IsLawful, IsStorable, lengths, fault}
+use Rattle.columnar_core.specs.Format.{Content, slice, both, plain, IsSound, IsLawful, IsStorable, lengths, fault}
 use Rattle.columnar_core.specs.FaultLaws.{unless_true, true_unless}
 use Rattle.columnar_core.specs.AlikeLaws.{row_eq_same}
-use Rattle.columnar_core.specs.Elements.{elements_format, word_row_of, words_format}
+use Rattle.columnar_core.specs.Elements.{word_row_of, words_format}
 use Rattle.columnar_base.specs.ElementLaws.{elements_form, elements_storable}
 use Rattle.columnar_core.specs.TwoParts.{TwoParts, two_form, two_parts, two_sound, two_storable}
-use Rattle.columnar_core.specs.WordViews.{words_in, bytes_of, bit_words}
+use Rattle.columnar_core.specs.WordViews.{words_in, bit_words}
 use Rattle.columnar_core.specs.WordViewLaws.{length-words_in}
 use Rattle.columnar_primitive.specs.Bits.{bit_in, bits_of}
 use Rattle.columnar_primitive.specs.BitLaws.{get_or-bits_of, bit_in_tail, bit_above, length-truths}
-use Rattle.columnar_primitive.specs.BoolColumns.{last_word, last_count, bit_count, bits_in, bools_broken, bools_bits, bools_format}
+use Rattle.columnar_primitive.specs.BoolColumns.{last_word, last_count, bit_count, bits_in, bools_format}
 use Rattle.columnar_primitive.specs.BoolLaws.{SoundBools, bools_parts, bools_sound, bools_form, bools_lawful, bools_storable, bits_length, words_of_bits}
 use Rattle.columnar_sums.specs.Counting.{ones, place, ones_below, counts_of, AreCounts, CountWords}
 use Rattle.columnar_sums.specs.CountLaws.{ones_truths, ones_below_mono, ones_yes, ones_no, place_some, place_none, inside}

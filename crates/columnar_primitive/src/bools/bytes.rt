@@ -1,5 +1,5 @@
 //! Truth values in slices of bytes.
-ghost use Rattle.std.specs.Prelude.{◌≡◌, ℕ, ◌+◌, ◌^◌, ◌<◌, ◌≤◌, [], ◌∷◌, length, refl, slice_index_or, IfOk, IfErr};
+ghost use Rattle.std.specs.Prelude.{◌≡◌, ◌+◌, ◌^◌, ◌<◌, length, refl};
 ghost use Rattle.columnar_core.specs.Format.{slice, both, first, moved};
 ghost use Rattle.columnar_core.specs.Faults.{verdict};
 ghost use Rattle.columnar_core.specs.WordViews.{le_bytes, view_bytes};

@@ -1,5 +1,5 @@
 //! Offsets that are the multiples of a constant, of which the count alone is kept.
-ghost use Rattle.std.specs.Prelude.{◌≡◌, ℕ, ◌+◌, ◌-◌, ◌*◌, ◌<◌, ◌≤◌, ◌^◌, ◌∷◌, [], List, length, take, drop, OnOk, OnErr, IfOk, IfErr, IsTrue, IsFalse, Err, ◌↔◌, true, false, refl};
+ghost use Rattle.std.specs.Prelude.{◌≡◌, ◌+◌, ◌-◌, ◌*◌, ◌<◌, ◌≤◌, ◌^◌, ◌∷◌, [], List, length, take, drop, OnOk, OnErr, IfOk, IfErr, IsTrue, IsFalse, Err, ◌↔◌, true, false, refl};
 ghost use Rattle.columnar_core.specs.Row.{Row, number};
 ghost use Rattle.columnar_core.specs.Format.{slice, first, moved, IsSound};
 ghost use Rattle.columnar_core.specs.Bytes.{word};

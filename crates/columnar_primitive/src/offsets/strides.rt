@@ -1,5 +1,5 @@
 //! Offsets that follow a stride as far as they go, and then stand as they are.
-ghost use Rattle.std.specs.Prelude.{◌≡◌, ℕ, ◌+◌, ◌-◌, ◌*◌, ◌/◌, ◌%◌, ◌^◌, ◌<◌, ◌≤◌, ◌∷◌, [], length, take, drop, slice_get, Some, Err, OnOk, OnErr, IfOk, IfErr, IsOk, IsTrue, refl};
+ghost use Rattle.std.specs.Prelude.{◌≡◌, ◌+◌, ◌-◌, ◌*◌, ◌/◌, ◌%◌, ◌^◌, ◌<◌, ◌≤◌, ◌∷◌, [], length, take, drop, slice_get, Some, Err, OnOk, OnErr, IfErr, IsOk, IsTrue, refl};
 ghost use Rattle.columnar_core.specs.Row.{number};
 ghost use Rattle.columnar_core.specs.Format.{both, slice, first, moved, IsSound};
 ghost use Rattle.columnar_core.specs.Elements.{word_row};

@@ -1,5 +1,5 @@
 //! Columns of rows that may be absent, in slices of bytes.
-ghost use Rattle.std.specs.Prelude.{◌≡◌, ℕ, refl};
+ghost use Rattle.std.specs.Prelude.{refl};
 ghost use Rattle.columnar_core.specs.Format.{slices_of};
 ghost use Rattle.columnar_core.specs.TwoParts.{two_counted};
 ghost use Rattle.columnar_sums.specs.RankColumns.{ranks_content};

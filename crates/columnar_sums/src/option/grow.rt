@@ -1,5 +1,4 @@
 //! Columns of rows that may be absent, as they grow and are cut.
-ghost use Rattle.std.specs.Prelude.{◌≡◌, ℕ, refl};
 ghost use Rattle.columnar_sums.specs.OptionLaws.{options_lawful, same_options};
 
 use super::Options;

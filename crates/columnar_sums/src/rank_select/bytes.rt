@@ -1,10 +1,10 @@
 //! Columns of bits and counts in slices of bytes.
-ghost use Rattle.std.specs.Prelude.{◌≡◌, ℕ, ◌+◌, ◌-◌, ◌*◌, ◌/◌, ◌%◌, ◌^◌, ◌<◌, ◌≤◌, [], ◌∷◌, length, refl, slice_index, true, false, drop};
+ghost use Rattle.std.specs.Prelude.{◌≡◌, ◌+◌, ◌-◌, ◌*◌, ◌/◌, ◌%◌, ◌^◌, ◌<◌, ◌≤◌, length, refl, slice_index, true, false, drop};
 ghost use Rattle.columnar_core.specs.Row.{numbers_eq};
 ghost use Rattle.columnar_core.specs.Format.{slice, both, first, moved, Fits};
 ghost use Rattle.columnar_core.specs.Store.{slices_in};
 ghost use Rattle.columnar_core.specs.Faults.{verdict};
-ghost use Rattle.columnar_core.specs.WordViews.{view_bytes, view_words, bit_words};
+ghost use Rattle.columnar_core.specs.WordViews.{view_bytes, view_words};
 ghost use Rattle.columnar_primitive.specs.BoolColumns.{bits_in};
 ghost use Rattle.columnar_primitive.specs.BoolLaws.{SoundBools};
 ghost use Rattle.columnar_sums.specs.Counting.{counts_of, ones};

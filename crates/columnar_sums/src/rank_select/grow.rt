@@ -1,5 +1,5 @@
 //! Columns of bits and counts that grow and are cut.
-ghost use Rattle.std.specs.Prelude.{◌≡◌, ℕ, ◌+◌, ◌-◌, ◌*◌, ◌/◌, ◌%◌, ◌^◌, ◌<◌, ◌≤◌, [], ◌∷◌, ◌++◌, length, slice_range, take, drop, OnOk, OnErr, IfErr, IfOk, IsOk, refl};
+ghost use Rattle.std.specs.Prelude.{◌≡◌, ◌+◌, ◌-◌, ◌*◌, ◌/◌, ◌%◌, ◌^◌, ◌<◌, ◌≤◌, [], ◌∷◌, ◌++◌, length, slice_range, OnOk, OnErr, IfErr, IsOk, refl};
 ghost use Rattle.columnar_core.specs.Row.{truth};
 ghost use Rattle.columnar_core.specs.Format.{IsSound};
 ghost use Rattle.columnar_core.specs.Change.{Refused, Stayed, Took};
@@ -89,7 +89,8 @@ impl Held {
     {
         let len = self.values.len();
         if len % 1024 < 1023 {
-            return self.values.push_bit(bit);
+            self.values.push_bit(bit)?;
+            return Ok(());
         }
         if len == usize::MAX {
             return Err(GrowError::Length);

@@ -3,14 +3,9 @@ use Rattle.columnar_base.specs.TupleLaws.{pair_two}
 use Rattle.columnar_core.specs.Store.{slices_in}
 use Rattle.columnar_core.proofs.tuple.Tuple2ContainerBytes.load.Goals as goal
 
-pub load_two-requires-clause-left : goal.load_two-requires-clause-left
-load_two-requires-clause-left g c = representable_left (pair_two g.A.Column.format g.B.Column.format) c.requires.representable
-
-pub load_two-requires-clause-right : goal.load_two-requires-clause-right
-load_two-requires-clause-right g c = representable_right (pair_two g.A.Column.format g.B.Column.format) c.requires.representable
-
-pub load_two-requires-clause-left_fits : goal.load_two-requires-clause-left_fits
-load_two-requires-clause-left_fits g c = two_fits_left (pair_two g.A.Column.format g.B.Column.format) c.args.offset (slices_in c.args.store.now) c.requires.fits
-
-pub load_two-requires-clause-right_fits : goal.load_two-requires-clause-right_fits
-load_two-requires-clause-right_fits g c = two_fits_right (pair_two g.A.Column.format g.B.Column.format) c.args.offset (slices_in c.args.store.now) c.requires.fits
+pub load_two-requires : goal.load_two-requires
+load_two-requires g c =
+    let t = pair_two g.A.Column.format g.B.Column.format in
+    let r = c.requires.representable in
+    let ss = slices_in c.args.store.now in
+    record { left = representable_left t r; right = representable_right t r; left_fits = two_fits_left t c.args.offset ss c.requires.fits; right_fits = two_fits_right t c.args.offset ss c.requires.fits }

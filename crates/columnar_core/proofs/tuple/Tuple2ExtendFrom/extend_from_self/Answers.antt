@@ -6,26 +6,14 @@ use Rattle.columnar_core.proofs.tuple.Tuple2ExtendFrom.extend_from_self.Goals as
 pub len-before-requires : goal.len-before-requires
 len-before-requires g c = (pair_parts g.A.Column.format g.B.Column.format c.requires.sound).left
 
-pub extend_from_self-requires-clause-sound : goal.extend_from_self-requires-clause-sound
-extend_from_self-requires-clause-sound g c = (pair_parts g.A.Column.format g.B.Column.format c.requires.sound).left
-
-pub extend_from_self-requires-clause-view_sound : goal.extend_from_self-requires-clause-view_sound
-extend_from_self-requires-clause-view_sound g c = (pair_parts g.V.Column.format g.W.Column.format c.requires.view_sound).left
-
-pub extend_from_self-requires-clause-in_range : goal.extend_from_self-requires-clause-in_range
-extend_from_self-requires-clause-in_range g c = (pair_top g.V.Column.format g.W.Column.format c.args.range.«end» c.requires.view_sound c.requires.in_range).0
+pub extend_from_self-requires : goal.extend_from_self-requires
+extend_from_self-requires g c = record { sound = (pair_parts g.A.Column.format g.B.Column.format c.requires.sound).left; view_sound = (pair_parts g.V.Column.format g.W.Column.format c.requires.view_sound).left; in_range = (pair_top g.V.Column.format g.W.Column.format c.args.range.«end» c.requires.view_sound c.requires.in_range).0; ordered = c.requires.ordered }
 
 pub returns-in_err-extend_from_self-clause-err : goal.returns-in_err-extend_from_self-clause-err
 returns-in_err-extend_from_self-clause-err g c = rw (passed_on c.from_residual.result c.from_residual.ensures.1) (pair_refused_left_piece g.A.Column.format g.B.Column.format g.V.Column.format g.W.Column.format (g.V.Column.content c.args.view.0) (g.W.Column.content c.args.view.1) c.args.range.start (c.args.range.«end» - c.args.range.start) c.requires.sound c.requires.view_sound c.in_err-extend_from_self.ensures.err (unchanged (pair_parts g.A.Column.format g.B.Column.format c.requires.sound).right))
 
-pub extend_from_self-requires-2-clause-sound : goal.extend_from_self-requires-2-clause-sound
-extend_from_self-requires-2-clause-sound g c = (pair_parts g.A.Column.format g.B.Column.format c.requires.sound).right
-
-pub extend_from_self-requires-2-clause-view_sound : goal.extend_from_self-requires-2-clause-view_sound
-extend_from_self-requires-2-clause-view_sound g c = (pair_parts g.V.Column.format g.W.Column.format c.requires.view_sound).right
-
-pub extend_from_self-requires-2-clause-in_range : goal.extend_from_self-requires-2-clause-in_range
-extend_from_self-requires-2-clause-in_range g c = (pair_top g.V.Column.format g.W.Column.format c.args.range.«end» c.requires.view_sound c.requires.in_range).1
+pub extend_from_self-requires-2 : goal.extend_from_self-requires-2
+extend_from_self-requires-2 g c = record { sound = (pair_parts g.A.Column.format g.B.Column.format c.requires.sound).right; view_sound = (pair_parts g.V.Column.format g.W.Column.format c.requires.view_sound).right; in_range = (pair_top g.V.Column.format g.W.Column.format c.args.range.«end» c.requires.view_sound c.requires.in_range).1; ordered = c.requires.ordered }
 
 pub returns-in-Ok-clause-ok : goal.returns-in-Ok-clause-ok
 returns-in-Ok-clause-ok g c = pair_copied_piece g.A.Column.format g.B.Column.format g.V.Column.format g.W.Column.format (g.V.Column.content c.args.view.0) (g.W.Column.content c.args.view.1) c.args.range.start (c.args.range.«end» - c.args.range.start) c.requires.sound c.requires.view_sound c.in_ok-extend_from_self.ensures.ok c.in-Ok.ensures.ok

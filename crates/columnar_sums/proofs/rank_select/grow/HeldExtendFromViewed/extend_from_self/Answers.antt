@@ -1,11 +1,9 @@
 use Rattle.std.proofs.lemmas.Result.{on_ok_weaker}
-use Rattle.std.proofs.Common.{ap}
-use Rattle.std.specs.Prelude.{Err}
 use Rattle.columnar_core.specs.WordViews.{view_bytes}
 use Rattle.columnar_primitive.specs.BoolColumns.{bits_in}
-use Rattle.columnar_primitive.specs.BoolLaws.{rows_between, length_between}
+use Rattle.columnar_primitive.specs.BoolLaws.{rows_between}
 use Rattle.columnar_sums.specs.RankLaws.{ranks_parts}
-use Rattle.columnar_sums.specs.RankChanges.{ranks_copied, ranks_refused}
+use Rattle.columnar_sums.specs.RankChanges.{ranks_copied}
 use Rattle.columnar_sums.proofs.rank_select.grow.HeldExtendFromViewed.extend_from_self.Goals as goal
 
 pub returns-clause-ok : goal.returns-clause-ok

@@ -1,12 +1,10 @@
 use Rattle.std.proofs.lemmas.Result.{on_ok_weaker}
-use Rattle.std.proofs.Common.{ap}
-use Rattle.std.specs.Prelude.{Err}
 use Rattle.columnar_sums.specs.RankLaws.{ranks_parts}
-use Rattle.columnar_sums.specs.RankChanges.{ranks_took, ranks_refused, fills_word}
+use Rattle.columnar_sums.specs.RankChanges.{ranks_took, fills_word}
 use Rattle.columnar_sums.proofs.rank_select.grow.HeldPushRefBoolImpl642e78e6.push_ref.Goals as goal
 
 pub returns-clause-ok : goal.returns-clause-ok
 returns-clause-ok c = on_ok_weaker c.push_bit.result (λ e. ranks_took (record { sound = ranks_parts c.push_bit.ensures.sound; bits = e })) c.push_bit.ensures.ok
 
 pub returns-clause-memory : goal.returns-clause-memory
-returns-clause-memory c = λ e. fills_word _ (λ l. cc (c.push_bit.ensures.no_memory l))
+returns-clause-memory c = λ e. fills_word _ (λ l. cc (rw e at (c.push_bit.ensures.no_memory l)))

@@ -1,6 +1,6 @@
 use Rattle.std.proofs.Common.{ℕ, List, ◌-◌, ◌%◌, [], replicate, length, refl, sym, subst}
 use Rattle.std.proofs.lemmas.List.{append-nil}
-use Rattle.std.proofs.lemmas.Result.{err_from_is_err_and, on_ok_weaker, on_err_weaker}
+use Rattle.std.proofs.lemmas.Result.{on_ok_weaker, on_err_weaker}
 use Rattle.std.specs.Io.KnownBytes.{Appends}
 use Rattle.columnar_core.specs.Bytes.{rounded}
 use Rattle.columnar_core.specs.Words.{padded}
@@ -8,14 +8,14 @@ use Rattle.columnar_core.specs.WordLaws.{padding_is}
 use Rattle.columnar_core.specs.Slices.{bytes_in}
 use Rattle.columnar_core.specs.Sent.{WentOut, AppendsBeginning}
 use Rattle.columnar_core.specs.SentLaws.{sent_part, sent_none, appends_both}
+use Rattle.columnar_core.specs.ChangeLaws.{passed_on}
 use Rattle.columnar_bytes.proofs.indexed.writing.write_padded.Goals as goal
 
 pub returns-in_err-write-clause-err : goal.returns-in_err-write-clause-err
 returns-in_err-write-clause-err g c =
     let before = g.W.WriteBytes.contents c.args.writer.now in
     let s = bytes_in c.args.slice in
-    let p = err_from_is_err_and c.from_residual.result c.from_residual.ensures.1 in
-    rw p.1 (sent_part before before (g.W.WriteBytes.contents c.write.new.writer) (padded s) s (replicate (rounded (length s) - length s) 0) (padded s) (sent_none before (padded s)) refl c.in_err-write.ensures.err)
+    rw (passed_on c.from_residual.result c.from_residual.ensures.1) (sent_part before before (g.W.WriteBytes.contents c.write.new.writer) (padded s) s (replicate (rounded (length s) - length s) 0) (padded s) (sent_none before (padded s)) refl c.in_err-write.ensures.err)
 
 pub returns-clause-ok : goal.returns-clause-ok
 returns-clause-ok g c =

@@ -5,7 +5,7 @@ use Rattle.columnar_core.specs.Words.{padded}
 use Rattle.columnar_bytes.specs.PlanLaws.{pieces_rest}
 use Rattle.columnar_core.specs.SentLaws.{sent_part, sent_more}
 use Rattle.columnar_core.specs.Slices.{bytes_in}
-use Rattle.std.proofs.lemmas.Result.{err_from_is_err_and}
+use Rattle.columnar_core.specs.ChangeLaws.{passed_on}
 use Rattle.columnar_bytes.proofs.indexed.writing.write_slices.Goals as goal
 
 pub returns-in_err-write_padded-clause-err : goal.returns-in_err-write_padded-clause-err
@@ -13,8 +13,7 @@ returns-in_err-write_padded-clause-err g c =
     let slices = slices_of (g.S.Column.content c.args.item.now) in
     let contents = g.W.WriteBytes.contents in
     let rest = flat_map padded (drop (c.loop-i.i + 1) slices) in
-    let p = err_from_is_err_and c.from_residual.result c.from_residual.ensures.1 in
-    rw p.1 (sent_part (contents c.args.writer.now) (contents c.loop-i.writer) (contents c.write_padded.new.writer) _ (padded (bytes_in c.byte_slice.result)) rest _
+    rw (passed_on c.from_residual.result c.from_residual.ensures.1) (sent_part (contents c.args.writer.now) (contents c.loop-i.writer) (contents c.write_padded.new.writer) _ (padded (bytes_in c.byte_slice.result)) rest _
     c.loop-i.invariant
     (pieces_rest padded slices c.loop-i.i (omega (arith, c.slice_count-i-end.ensures)) ∙ ap (λ s. padded s ++ rest) (sym c.byte_slice.ensures))
     c.in_err-write_padded.ensures.err)

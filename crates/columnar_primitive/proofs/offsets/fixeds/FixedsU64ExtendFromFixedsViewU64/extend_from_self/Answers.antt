@@ -1,3 +1,4 @@
+use Rattle.std.proofs.lemmas.Result.{err_from_is_err_and}
 use Rattle.columnar_base.specs.ChangeLaws.{passed_on}
 use Rattle.std.proofs.Common.{◌≡◌, ◌+◌, ◌-◌, sym, refl, arith}
 use Rattle.columnar_core.specs.Views.{items_content}

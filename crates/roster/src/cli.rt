@@ -1,10 +1,11 @@
 //! What the program's words ask for.
-ghost use Rattle.std.specs.Prelude.{IfOk};
+ghost use Rattle.std.specs.Prelude.{◌≡◌, ◌∷◌, [], IfOk};
 ghost use Rattle.columnar.specs.Accepted.{Accepts};
+ghost use Rattle.columnar.specs.Frame.{framed_slices};
 
 use columnar::bytes::indexed::encode;
 use columnar::bytes::stash::Stash;
-use columnar::{Column, Len, Push};
+use columnar::{Column, Item, Len, Push};
 use std::alloc::Global;
 use std::io::{self, Write};
 use std::rt::Files;
@@ -63,9 +64,10 @@ fn first<O: Write>(alloc: Global, out: &mut O) -> Result<(), Failure> {
     }
 }
 
-// The words and the bytes of a column that 7 was pushed to; the bytes are accepted.
+// The words and the bytes of a column that 7 was pushed to; the bytes are accepted, and hold the one row 7.
 fn written_seven(alloc: Global) -> Result<(Vec<u64>, Vec<u8>), Failure>
     ensures accepted { IfOk result (λ r. Accepts ⟦<Vec<u64> as Column>⟧.format r.1.items) }
+    ensures rows { IfOk result (λ r. ⟦<Vec<u64> as Column>⟧.format.rows (⟦<Vec<u64> as Column>⟧.format.build (framed_slices r.1.items)) ≡ ⟦<u64 as Item>⟧.meaning 7 ∷ []) }
 {
     let mut stash = Stash::<Vec<u64>, Vec<u8>>::empty(alloc);
     if stash.push(7u64).is_err() {

@@ -1,4 +1,4 @@
-// What crosses the crates: worked stores, columns at depth, stashes, and each request for memory refused.
+// What crosses the crates: worked stores, columns at depth, and records of one's own.
 ghost use Rattle.std.specs.Prelude.{◌≡◌, IfSome, IsTrue};
 ghost use Rattle.columnar_core.specs.Format.{IsSound, part, part_format, representable};
 ghost use Rattle.columnar_bytes.specs.Stashes.{stash_content, variant_of, bytes};
@@ -7,8 +7,6 @@ mod bounds;
 mod depth;
 mod options;
 mod records;
-mod refused;
-mod stash;
 mod stores;
 mod values;
 mod worked;
@@ -214,19 +212,4 @@ fn variant<C: Stored, B: ByteStore>(stash: &Stash<C, B>) -> u8 {
         Stash::Bytes(_) => 1,
         Stash::Align(_) => 2,
     }
-}
-
-// Has a stash of numbers these rows?
-fn has<'a, C: Stored + Len + Borrow<'a, Ref = u64, Borrowed: FromBytes<'a>>, B: ByteStore>(
-    stash: &'a Stash<C, B>,
-    rows: &[u64],
-) -> bool
-    requires { IsSound C.format (stash_content stash.now) }
-{
-    for i in 0..rows.len() {
-        if row_of(stash, i) != Some(rows[i]) {
-            return false;
-        }
-    }
-    stash.len() == rows.len()
 }

@@ -2,9 +2,9 @@
 ghost use Rattle.columnar_core.specs.Format.{IsSound};
 
 use super::{bytes_of, has, opened, refused, row_at, variant, writes};
-use crate::bytes::stash::{ByteStore, Command, Refusal, Reply, Stash, run};
-use crate::common::View;
-use crate::{Borrow, Check, Clear, Len, Push, PushRef, Stored, Vecs};
+use columnar::bytes::stash::{ByteStore, Command, Refusal, Reply, Stash, run};
+use columnar::common::View;
+use columnar::{Borrow, Check, Clear, Len, Push, PushRef, Stored, Vecs};
 use std::rc::RcSlice;
 use std::test::Fail;
 

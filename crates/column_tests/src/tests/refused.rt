@@ -8,11 +8,11 @@ ghost use Rattle.columnar_bytes.specs.Machine.{IsValid};
 mod values;
 
 use super::{bytes_of, front, has, opened, variant, writes};
-use crate::bytes::indexed::{encode, validate};
-use crate::bytes::stash::{Command, Refusal, Reply, Stash, run};
-use crate::common::View;
-use crate::fault::{EncodeError, GrowError};
-use crate::{
+use columnar::bytes::indexed::{encode, validate};
+use columnar::bytes::stash::{Command, Refusal, Reply, Stash, run};
+use columnar::common::View;
+use columnar::fault::{EncodeError, GrowError};
+use columnar::{
     AsBytes, Borrow, Check, ContainerBytes, ExtendFrom, Index, Item, Len, Push, PushRef, Slice,
     Storage, Stored, Vecs,
 };

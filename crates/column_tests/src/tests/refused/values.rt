@@ -3,11 +3,11 @@ use super::{
     NUMBERS, NUMBERS_AND_ONE, Trial, calls_keep, copies_keep, is_lawful, opened, pushes_keep,
     sizes_keep,
 };
-use crate::fault::GrowError;
-use crate::primitive::offsets::{Fixeds, Strides};
-use crate::primitive::{Bools, Chars, Durations, Empties, I128s, Isizes, U128s, Usizes};
-use crate::sums::rank_select::RankSelect;
-use crate::{Borrow, Check, Options, Storage};
+use columnar::fault::GrowError;
+use columnar::primitive::offsets::{Fixeds, Strides};
+use columnar::primitive::{Bools, Chars, Durations, Empties, I128s, Isizes, U128s, Usizes};
+use columnar::sums::rank_select::RankSelect;
+use columnar::{Borrow, Check, Options, Storage};
 use std::test::Fail;
 use std::time::Duration;
 

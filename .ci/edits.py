@@ -5,8 +5,9 @@ An edit has lines 'file: src/..', 'old: TEXT' (standing once in that file) and '
 Many are tried in one check, which proves their functions alone: no two of a group are in functions of one name and one
 file, and a function is proved from the contracts of what it calls alone, so what one edit breaks is not blamed on
 another. An edit passes where a goal of its own function is not proved. One of which that can't be said is tried alone:
-it passes where the crate is not proved, and the log says where that is for a name alone. An edit that is in no function
-(of a constant, say) has a line 'of: FUNCTION ..' that names those of its file that must be refused.
+it passes where a goal of any function or a lemma is not proved. One that is refused for a name that it took away, or for
+no goal, fails. An edit that is in no function (of a constant, say) has a line 'of: FUNCTION ..' that names those of its
+file that must be refused.
 
 usage: .ci/edits.py [--jobs N] [CRATE ..]      after the crates' libraries were built, as by rt ci or rt all check
        .ci/edits.py --behind LOG               beside the rt ci that writes LOG: the edits of a crate begin once it is
@@ -184,6 +185,22 @@ def judged(said):
     return open_goals, gone
 
 
+def lemmas(said, texts, folder):
+    """The lemmas, by file and name, that the check does not prove. What a definition is refused for is none of them."""
+    found = []
+    for line in said.split("\n"):
+        at = re.match(r"(?:\./)?((?:specs|proofs)/\S+\.antt):\d+:\d+: error: `([^`]*)`: (.*)", line)
+        if not at or re.search(GONE, at[3]):
+            continue
+        text = texts.get(at[1])
+        if text is None:
+            with open(f"{folder}/{at[1]}", encoding="utf-8") as it:
+                text = it.read()
+        if re.search(rf"(?m)^(?:pub )?{re.escape(at[2])} : ", text):
+            found.append(f"{at[2]} of {at[1]}")
+    return found
+
+
 def verdict(edit, names, said):
     """Whether the edit is refused for what its function has to show, and what to say."""
     open_goals, gone = judged(said)
@@ -241,10 +258,11 @@ def by_itself(edit, names, crate):
     if well:
         return True, text
     open_goals, gone = judged(said)
-    goals = [goal for found in open_goals.values() for goal in found]
+    goals = [goal for found in open_goals.values() for goal in found] + lemmas(said, texts, crate.folder)
     if goals:
         return True, "refused: " + ", ".join(dict.fromkeys(goals))
-    return True, "refused, for a name alone: change a value and keep the names" if gone else "refused"
+    reasons = [line for line in said.split("\n") if ": error" in line or re.match(r"fn \S+: (?:no proof|not proved)", line)]
+    return False, f"REFUSED FOR {'A NAME ALONE' if gone else 'NO GOAL'}: {reasons[0][:300] if reasons else said[-300:]}"
 
 
 def reached(said):

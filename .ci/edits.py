@@ -189,7 +189,7 @@ def lemmas(said, texts, folder):
     """The lemmas, by file and name, that the check does not prove. What a definition is refused for is none of them."""
     found = []
     for line in said.split("\n"):
-        at = re.match(r"(?:\./)?((?:specs|proofs)/\S+\.antt):\d+:\d+: error: `([^`]*)`: (.*)", line)
+        at = re.match(r"(?:\./)?((?:specs/\S+|proofs/[^/\s]+)\.antt):\d+:\d+: error: `([^`]*)`: (.*)", line)
         if not at or re.search(GONE, at[3]):
             continue
         text = texts.get(at[1])

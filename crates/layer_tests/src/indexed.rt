@@ -208,6 +208,24 @@ fn the_last_bytes_are_those_of_the_word(rt: HostRuntime) -> Result<(), Fail> {
 }
 
 #[test]
+fn a_long_slice_is_written_whole(rt: HostRuntime) -> Result<(), Fail> {
+    let mut items = Vec::new(rt.alloc());
+    for i in 0..300u64 {
+        items.push(i)?;
+    }
+    let item = View::<u64>::from_slice(&items);
+    let bytes = written(rt.alloc(), &item)?;
+    assert_eq!(rt; bytes.len(), 2416);
+    for i in 0..300 {
+        assert_eq!(rt; bytes[16 + 8 * i] as usize, i % 256);
+        assert_eq!(rt; bytes[17 + 8 * i] as usize, i / 256);
+        assert_eq!(rt; bytes[18 + 8 * i], 0);
+    }
+    assert_eq!(rt; bytes.as_slice(), encoded(rt.alloc(), &item)?.as_slice());
+    Ok(())
+}
+
+#[test]
 fn names_the_first_broken_rule(rt: HostRuntime) -> Result<(), Fail> {
     let alloc = rt.alloc();
     assert_eq!(rt; tested(alloc, &[], 0)?, Err(StoreFault::Empty(0)));

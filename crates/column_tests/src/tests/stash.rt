@@ -2,7 +2,7 @@
 ghost use Rattle.columnar_core.specs.Format.{IsSound};
 
 use super::{bytes_of, has, opened, refused, row_at, variant, writes};
-use columnar::bytes::stash::{ByteStore, Command, Refusal, Reply, Stash, run};
+use columnar::bytes::stash::{AlignedBytes, ByteStore, Command, Refusal, Reply, Stash, run};
 use columnar::common::View;
 use columnar::{Borrow, Check, Clear, Len, Push, PushRef, Stored, Vecs};
 use std::rc::RcSlice;
@@ -260,6 +260,21 @@ fn aligned_bytes_end_with_the_last_slice(rt: HostRuntime) -> Result<(), Fail> {
     assert!(rt; writes(&aligned, SEVEN_EIGHT.as_slice()));
     let typed = aligned.to_typed(rt.alloc())?;
     assert!(rt; has(&typed, [7, 8].as_slice()));
+    Ok(())
+}
+
+#[test]
+fn aligned_bytes_are_a_store_of_their_own(rt: HostRuntime) -> Result<(), Fail> {
+    let stash = opened::<Vec<u64>>(rt.alloc(), WORD_BEHIND.as_slice()).expect(&rt, "opened");
+    match stash.to_aligned(rt.alloc())? {
+        Stash::Align(checked) => {
+            let moved = Stash::<Vec<u64>, AlignedBytes>::Bytes(checked);
+            assert_eq!(rt; variant(&moved), 1);
+            assert!(rt; has(&moved, [7, 8].as_slice()));
+            assert!(rt; writes(&moved.clone()?, SEVEN_EIGHT.as_slice()));
+        }
+        _ => assert!(rt; false),
+    }
     Ok(())
 }
 

@@ -6,3 +6,15 @@ pub use Rattle.columnar_core.specs.ChangeLaws
 pub use Rattle.columnar_core.specs.AlikeLaws
 pub use Rattle.columnar_bytes.specs.Accepted
 pub use Rattle.columnar_bytes.specs.Stashes
+pub use Rattle.columnar_core.specs.Faults
+pub use Rattle.columnar_core.specs.Words
+pub use Rattle.columnar_core.specs.Bounds
+pub use Rattle.columnar_core.specs.Sent
+pub use Rattle.columnar_sums.specs.Counting
+pub use Rattle.columnar_sums.specs.RankColumns
+pub use Rattle.columnar_sums.specs.Options
+pub use Rattle.columnar_lists.specs.Lists
+pub use Rattle.columnar_lists.specs.Cut
+pub use Rattle.columnar_bytes.specs.Machine
+pub use Rattle.columnar_bytes.specs.States
+pub use Rattle.columnar_bytes.specs.Written

@@ -309,7 +309,7 @@ def tried(crate, is_proved):
             if status != 0:
                 say(f"edits of {crate.name}: the crate itself is not proved\n{said[-2000:]}")
                 return passed, failed + len(edits)
-            crate.paths = re.findall(r"(?m)^fn (\S+): proved$", said)
+            crate.paths = re.findall(r"(?m)^fn (\S+): proved\b", said)
         for group in groups:
             status, said = crate.check(group["texts"], group["names"])
             for edit, names in group["edits"]:
@@ -332,13 +332,17 @@ class Log:
         self.lines = open(path, encoding="utf-8", errors="replace")
         self.rest = ""
         self.proved, self.paths, self.has_ended = {}, {}, False
+        # is this a crate's own part, and not that of its tests?
+        self.is_own = False
 
     def read(self):
         *lines, self.rest = (self.rest + self.lines.read()).split("\n")
         for line in lines:
-            function = re.fullmatch(r"fn ((\w+)::\S+): proved", line)
+            function = re.fullmatch(r"fn ((\w+)::\S+): proved(, .*)?", line)
             crate = re.fullmatch(r"rt: (\w+) (NOT PROVED|proved)(:.*)?", line)
-            if function:
+            if line.startswith("== "):
+                self.is_own = ":" not in line
+            elif function and self.is_own:
                 self.paths.setdefault(function[2], []).append(function[1])
             elif crate:
                 self.proved[crate[1]] = crate[2] == "proved"

@@ -5,6 +5,7 @@ ghost use Rattle.columnar_bytes.specs.Stashes.{stash_content, variant_of, bytes}
 
 mod bounds;
 mod depth;
+mod nests;
 mod options;
 mod records;
 mod stores;

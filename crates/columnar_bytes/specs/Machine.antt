@@ -140,8 +140,8 @@ pub record IsUnchanged (f : Format) (old new : State) : Type 0 where
   pub variant : new.variant ≡ old.variant
   pub bytes : old.variant ≢ typed → new ≡ old
 
--- The order was in range, it is one that grows or loads a column, and the error is true of the rows; where no row
--- would be added, it is want of memory, and all is as it was.
+-- The order was in range, it is one that grows or loads a column, and the error is true of the rows. An order that adds
+-- none is refused for want of memory alone, and all is as it was.
 pub record IsRefusedGrowth (f : Format) (source : List Row) (old new : State) (order : Order) (error : GrowError) : Type 0 where
   pub within : in_range (length source) (length (f.rows old.content)) order ≡ true
   pub unchanged : IsUnchanged f old new

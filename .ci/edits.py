@@ -50,6 +50,14 @@ def placed(path):
     return "::".join([it for it in above if not it[:1].isupper()] + [name])
 
 
+def meet(one, other):
+    """May two places be those of one function? A type's own functions are placed where the type is, whichever file below
+    it they stand in."""
+    one, other = one.split("::"), other.split("::")
+    short, long = sorted((one[:-1], other[:-1]), key=len)
+    return one[-1] == other[-1] and long[: len(short)] == short
+
+
 class Edit:
     """What an edit file says: which texts of which files stand for which others."""
 
@@ -128,7 +136,7 @@ class Crate:
 
     def only(self, names):
         """The flags that ask for the functions of these places alone."""
-        return [word for it in self.paths if placed(it) in names for word in ("--only", it)]
+        return [word for it in self.paths if any(meet(placed(it), name) for name in names) for word in ("--only", it)]
 
     def check(self, texts, names=None):
         """What the prover says of a copy of the crate with these texts in place of its own: of the functions of these
@@ -204,10 +212,10 @@ def lemmas(said, texts, folder):
 def verdict(edit, names, said):
     """Whether the edit is refused for what its function has to show, and what to say."""
     open_goals, gone = judged(said)
-    goals = [goal for name in sorted(names) for goal in open_goals.get(name, [])]
+    goals = [goal for place in open_goals for goal in open_goals[place] if any(meet(place, name) for name in names)]
     if goals:
         return True, "refused: " + ", ".join(dict.fromkeys(goals))
-    names_gone = [goal for name in sorted(names) for goal in gone.get(name, [])]
+    names_gone = [goal for place in gone for goal in gone[place] if any(meet(place, name) for name in names)]
     return False, f"REFUSED FOR A NAME ALONE: {', '.join(names_gone)}" if names_gone else "NOT REFUSED"
 
 
@@ -224,7 +232,7 @@ def grouped(edits, folder):
             alone.append(edit)
             continue
         for group in groups:
-            fits = len(group["edits"]) < MOST and names.isdisjoint(group["names"])
+            fits = len(group["edits"]) < MOST and not any(meet(one, other) for one in names for other in group["names"])
             if fits and edit.made(dict(group["texts"]), folder) is None:
                 break
         else:
@@ -393,7 +401,7 @@ def main(words):
     running = {}
 
     def work(name, needs, libraries):
-        crate = Crate(name, needs, libraries, lambda: max(1, cores // max(1, len(running))) if not log or log.has_ended else 1)
+        crate = Crate(name, needs, libraries, lambda: max(1, (cores if not log or log.has_ended else cores // 2) // max(1, len(running))))
         crate.paths = log.paths.get(name, []) if log else []
         counts = 0, len(edits_of(name))
         times.note(name, "edits")

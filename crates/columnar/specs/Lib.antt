@@ -7,6 +7,8 @@ pub use Rattle.columnar_core.specs.AlikeLaws
 pub use Rattle.columnar_bytes.specs.Accepted
 pub use Rattle.columnar_bytes.specs.Stashes
 pub use Rattle.columnar_core.specs.Faults
+pub use Rattle.columnar_core.specs.RowsLeft
+pub use Rattle.columnar_core.specs.RowsLeftLaws
 pub use Rattle.columnar_core.specs.Words
 pub use Rattle.columnar_core.specs.Bounds
 pub use Rattle.columnar_core.specs.Sent

@@ -1,12 +1,13 @@
-use Rattle.std.proofs.Common.{◌≡◌, ℕ, zero, suc, ◌+◌, ◌<◌, ◌≤◌, List, [], ◌∷◌, ◌++◌, length, take, map, refl, sym, ◌∙◌, ap, arith, length-append, append-nil}
-use Rattle.std.specs.Prelude.{Option, Some, slice_index_or, All}
+use Rattle.std.proofs.Common.{◌≡◌, ℕ, zero, suc, ◌+◌, ◌-◌, ◌<◌, ◌≤◌, List, [], ◌∷◌, ◌++◌, length, take, drop, map, refl, sym, ◌∙◌, ap, arith, length-append, append-nil}
+use Rattle.std.specs.Prelude.{Option, Some, slice_index_or, All, slice_get, get_or, option_map}
+use Rattle.std.proofs.lemmas.Option.{slice_get-map, slice_get_read}
 use Rattle.std.specs.Iterator.{Yields}
-use Rattle.std.proofs.lemmas.List.{map-append, length-map}
+use Rattle.std.proofs.lemmas.List.{map-append, length-map, take-append-drop}
 use Rattle.std.proofs.Math.Seq.{take-length}
 use Rattle.columnar_base.specs.Row.{Row}
-use Rattle.columnar_base.specs.Format.{Format, Content}
-use Rattle.columnar_base.specs.Change.{Took, Refused, StoppedAt}
-use Rattle.columnar_base.specs.ChangeLaws.{took_twice, took_stayed, true_from}
+use Rattle.columnar_base.specs.Format.{Format, Content, IsSound, IsLawful}
+use Rattle.columnar_base.specs.Change.{Took, Refused, StoppedAt, WasCut}
+use Rattle.columnar_base.specs.ChangeLaws.{took_twice, took_stayed, true_from, undone, refused_more, grew_stayed}
 use Rattle.columnar_base.specs.declared.fault.GrowError.{GrowError}
 use Rattle.std.proofs.Math.Seq.{take-append_seam}
 
@@ -38,3 +39,21 @@ extend_stopped {T} {f} {old} {mid} {new} {error} meaning xs x p q =
       took = rw a (took_stayed p q.stayed);
       cause = rw (b, m) (true_from f f mid old (meaning x ∷ []) (map meaning xs ++ meaning x ∷ []) error (λ e h. p.adds e (meaning x ∷ []) h) q.cause);
     }
+
+-- items that were taken up to a refusal, and taken back: none of them was taken
+pub refused_whole : {f : Format} {old mid new : Content} {error : GrowError} (items : List Row) → IsLawful f → IsSound f old → StoppedAt f old mid items error → WasCut f mid new (length (f.rows old)) → Refused f old new items error
+refused_whole {f} {old} {mid} {new} {error} items law s h w = record {
+  stayed = undone law s h.took.grew w;
+  cause = true_from f f old old (take (h.count + 1) items) items error (λ e k. rw (take-append-drop (h.count + 1) items) at (law.more e old (length (f.rows old)) (take (h.count + 1) items) (drop (h.count + 1) items) k)) h.cause;
+}
+
+-- the row of an item that was read
+pub row_at : {T : Type 0} (meaning : T → Row) (items : List T) (i : ℕ) (x : T) → i < length items → x ≡ get_or items i x → slice_get (map meaning items) i ≡ Some (meaning x)
+row_at meaning items i x l e = slice_get-map meaning items i ∙ ap (option_map meaning) (slice_get_read items (length items) i x refl l e)
+
+-- a push that was refused at item i, after the items before it were taken, and then taken back
+pub items_refused : {T : Type 0} {f : Format} {old mid refused new : Content} {error : GrowError} (meaning : T → Row) (items : List T) (i : ℕ) (x : T) → IsLawful f → IsSound f old → i < length items → x ≡ get_or items i x → Took f old mid (take (i - 0) (drop 0 (map meaning items))) → Refused f mid refused (meaning x ∷ []) error → WasCut f refused new (length (f.rows old)) → Refused f old new (map meaning items) error
+items_refused meaning items i x law s l e t r w =
+    let n : i < length (map meaning items) = rw (length-map items meaning) l in
+    let z : length (map meaning items) - 0 ≡ length (map meaning items) = omega arith in
+    rw (z, take-length (map meaning items)) at (refused_more (map meaning items) 0 i (length (map meaning items)) (meaning x) law (omega arith) n (row_at meaning items i x l e) t r.cause (undone law s (grew_stayed t.grew r.stayed) w))

@@ -10,6 +10,8 @@ pub mod ChangeLaws
 pub mod Faults
 pub mod ExtendLaws
 pub mod Reads
+pub mod RowsLeft
+pub mod RowsLeftLaws
 pub mod Elements
 pub mod ElementLaws
 pub mod Numbers

@@ -5,6 +5,7 @@
 mod borrowed;
 pub mod element;
 pub mod fault;
+pub mod iter;
 pub mod metered;
 pub mod slice;
 pub mod storage;

@@ -3,6 +3,7 @@ ghost use Rattle.std.specs.Prelude.{ℕ, ◌≡◌};
 ghost use Rattle.columnar_base.specs.Row.{list};
 ghost use Rattle.columnar_base.specs.Format.{part, part_format, part_rows, IsSound};
 
+use crate::iter::IterOwn;
 use crate::traits::{Column, Index, Item, Len};
 
 /// The rows `lower..upper` of a column. Each call on it asks that `lower` is at most `upper`, and each that reads
@@ -32,6 +33,18 @@ impl<S> Slice<S> {
     }
 }
 
+impl<S: Column> Slice<S> {
+    ghost use Rattle.columnar_base.specs.RowsLeft.{rows_left};
+
+    /// Its rows in their order. Asks that they are rows of the column, and that this is well formed.
+    pub fn into_iter(self) -> IterOwn<Slice<S>>
+        requires { IsSound (part_format S.format) (part self.lower self.upper (S.content self.slice)) }
+        ensures { rows_left result ≡ part_rows S.format (part self.lower self.upper (S.content self.slice)) }
+    {
+        IterOwn::new(0, self)
+    }
+}
+
 impl<S: Column> Column for Slice<S> {
     ghost format = { part_format S.format };
 
@@ -56,5 +69,13 @@ impl<S: Index> Index for Slice<S> {
 
     fn get(&self, index: usize) -> S::Ref {
         self.slice.get(self.lower + index)
+    }
+}
+
+impl<'a, S: Index> Index for &'a Slice<S> {
+    type Ref = S::Ref;
+
+    fn get(&self, index: usize) -> S::Ref {
+        (**self).get(index)
     }
 }

@@ -1,5 +1,5 @@
 //! What an owned column does that names no view.
-ghost use Rattle.std.specs.Prelude.{◌≡◌, ℕ, ◌≤◌, length, [], IfOk, IfErr};
+ghost use Rattle.std.specs.Prelude.{◌≡◌, ℕ, ◌≤◌, ◌<◌, ◌↔◌, length, [], IfOk, IfErr, IsNone, IfNone, OnSome};
 ghost use Rattle.columnar_base.specs.Format.{Content, Format, IsSound, IsLawful};
 ghost use Rattle.columnar_base.specs.Change.{Stayed, WasCut};
 
@@ -15,6 +15,20 @@ pub trait Truncate: Len {
         requires sound { IsSound Self.format (Self.content self.old) }
         requires in_range { n ≤ length (Self.format.rows (Self.content self.old)) }
         ensures { WasCut Self.format (Self.content self.old) (Self.content self.new) n };
+
+    /// Keeps the first `n` rows; None where there are not as many, and then nothing changes. Needs no memory.
+    final fn truncate_checked(&mut self, n: usize) -> Option<()>
+        requires { IsSound Self.format (Self.content self.old) }
+        ensures none { IsNone result ↔ (length (Self.format.rows (Self.content self.old)) < n) }
+        ensures cut { OnSome result (WasCut Self.format (Self.content self.old) (Self.content self.new) n) }
+        ensures stays { IfNone result (Self.content self.new ≡ Self.content self.old) }
+    {
+        if n > self.len() {
+            return None;
+        }
+        self.truncate(n);
+        Some(())
+    }
 
     ghost lawful: { IsLawful Self.format };
 }

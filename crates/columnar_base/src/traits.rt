@@ -1,13 +1,14 @@
 //! The traits of columns that name no view. A column has a format, which its type determines, and a content; all that
 //! it means is read off these two.
-ghost use Rattle.std.specs.Prelude.{◌≡◌, ◌+◌, ◌-◌, ◌<◌, ◌↔◌, length, map, List, [], ◌∷◌, slice_get, Some, All, OnOk, IfErr, IsTrue, IsNone, IfSome};
+ghost use Rattle.std.specs.Prelude.{◌≡◌, ◌+◌, ◌-◌, ◌<◌, ◌≤◌, ◌↔◌, length, map, List, [], ◌∷◌, slice_get, Some, All, OnOk, IfErr, IsTrue, IsNone, IfSome};
 ghost use Rattle.std.specs.Iterator.{IsFinite, HoldsAlong, Drains, Yields};
 ghost use Rattle.columnar_base.specs.Row.{Row};
 ghost use Rattle.columnar_base.specs.Format.{Content, Format, IsSound};
 ghost use Rattle.columnar_base.specs.Change.{Took, Refused, StoppedAt};
 
-use crate::element::Element;
 use crate::fault::GrowError;
+use crate::iter::IterOwn;
+use crate::storage::Truncate;
 
 /// A value that is a row.
 pub trait Item {
@@ -97,20 +98,35 @@ pub trait PushRef<T: Item>: Column {
         requires valid { T.valid item.now }
         ensures ok { OnOk result (Took Self.format (Self.content self.old) (Self.content self.new) (T.meaning item.now ∷ [])) }
         ensures err { IfErr result (λ e. Refused Self.format (Self.content self.old) (Self.content self.new) (T.meaning item.now ∷ []) e) };
-}
 
-/// A column that takes a slice of elements at once, each a row of its own. (As one item a slice is one row, a list; so
-/// this is no push of a slice.)
-pub trait PushSlice<T: Element>: Column {
-    /// Adds rows that are alike to the elements, in their order, or none of them.
+    /// Adds rows that are alike to the items, one for one and in their order, or none of them. (As one item a slice is
+    /// one row, a list; so this is no push of a slice.)
     fn push_slice(&mut self, items: &[T]) -> Result<(), GrowError>
-        requires { IsSound Self.format (Self.content self.old) }
+    where
+        Self: Truncate,
+        requires sound { IsSound Self.format (Self.content self.old) }
+        requires valid { All T.valid items.now }
         ensures ok { OnOk result (Took Self.format (Self.content self.old) (Self.content self.new) (map T.meaning items.now)) }
-        ensures err { IfErr result (λ e. Refused Self.format (Self.content self.old) (Self.content self.new) (map T.meaning items.now) e) };
+        ensures err { IfErr result (λ e. Refused Self.format (Self.content self.old) (Self.content self.new) (map T.meaning items.now) e) }
+    {
+        let before = self.len();
+        for i in 0..items.len() {
+            match self.push_ref(&items[i]) {
+                Ok(()) => {}
+                Err(error) => {
+                    self.truncate(before);
+                    return Err(error);
+                }
+            }
+        }
+        Ok(())
+    }
 }
 
 /// A column whose rows are read by their number.
 pub trait Index: Column {
+    ghost use Rattle.columnar_base.specs.RowsLeft.{rows_left};
+
     /// What stands for a row.
     type Ref: Copy + Item;
 
@@ -120,6 +136,42 @@ pub trait Index: Column {
         requires in_range { index < length (Self.format.rows (Self.content self.now)) }
         ensures row { slice_get (Self.format.rows (Self.content self.now)) index ≡ Some (Self.Ref.meaning result) }
         ensures valid { Self.Ref.valid result };
+
+    /// Row `index`, None where there are not as many.
+    final fn get_checked(&self, index: usize) -> Option<Self::Ref>
+    where
+        Self: Len,
+        requires { IsSound Self.format (Self.content self.now) }
+        ensures none { IsNone result ↔ (length (Self.format.rows (Self.content self.now)) ≤ index) }
+        ensures row { IfSome result (λ r. slice_get (Self.format.rows (Self.content self.now)) index ≡ Some (Self.Ref.meaning r)) }
+        ensures valid { IfSome result Self.Ref.valid }
+    {
+        if index < self.len() {
+            Some(self.get(index))
+        } else {
+            None
+        }
+    }
+
+    /// The rows in their order, read through a reference.
+    final fn index_iter(&self) -> IterOwn<&Self>
+    where
+        Self: Sized,
+        requires { IsSound Self.format (Self.content self.now) }
+        ensures { rows_left result ≡ Self.format.rows (Self.content self.now) }
+    {
+        IterOwn::new(0, self)
+    }
+
+    /// The rows in their order.
+    final fn into_index_iter(self) -> IterOwn<Self>
+    where
+        Self: Sized,
+        requires { IsSound Self.format (Self.content self) }
+        ensures { rows_left result ≡ Self.format.rows (Self.content self) }
+    {
+        IterOwn::new(0, self)
+    }
 
     /// The last row, None where there is none.
     final fn last(&self) -> Option<Self::Ref>

@@ -39,6 +39,24 @@ impl<A: Index, B: Index> Index for (A, B) {
     }
 }
 
+/// Rows are read through a reference as those of the parts are through one.
+impl<'a, A, B> Index for &'a (A, B)
+where
+    A: Column,
+    B: Column,
+    &'a A: Index,
+    &'a B: Index,
+{
+    type Ref = (<&'a A as Index>::Ref, <&'a B as Index>::Ref);
+
+    fn get(&self, index: usize) -> (<&'a A as Index>::Ref, <&'a B as Index>::Ref) {
+        let column: &'a (A, B) = *self;
+        let first: &'a A = &column.0;
+        let second: &'a B = &column.1;
+        (first.get(index), second.get(index))
+    }
+}
+
 impl<A: Clear, B: Clear> Clear for (A, B) {
     fn clear(&mut self) {
         self.0.clear();

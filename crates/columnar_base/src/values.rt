@@ -1,7 +1,7 @@
 //! Values of the language as rows.
-ghost use Rattle.std.specs.Prelude.{◌/◌, ◌%◌};
+ghost use Rattle.std.specs.Prelude.{◌/◌, ◌%◌, map, All};
 ghost use Rattle.std.specs.Duration.{as_nanos};
-ghost use Rattle.columnar_base.specs.Row.{character, duration, unit};
+ghost use Rattle.columnar_base.specs.Row.{character, duration, list, unit};
 ghost use Rattle.std.specs.Int.{w64, w128};
 ghost use Rattle.columnar_base.specs.Numbers.{signed_row, unsigned_row};
 
@@ -42,6 +42,20 @@ impl Item for char {
     ghost meaning = { character };
 
     ghost valid = { λ x. Unit {0} };
+}
+
+/// As a row, it is the list of its items.
+impl<'x, T: Item> Item for &'x [T] {
+    ghost meaning = { λ s. list (map T.meaning s.now) };
+
+    ghost valid = { λ s. All T.valid s.now };
+}
+
+/// As a row, it is the list of its items.
+impl<T: Item> Item for Vec<T> {
+    ghost meaning = { λ v. list (map T.meaning v.items) };
+
+    ghost valid = { λ v. All T.valid v.items };
 }
 
 /// Its whole seconds, and the nanoseconds besides.

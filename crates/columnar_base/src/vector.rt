@@ -5,7 +5,7 @@ ghost use Rattle.columnar_base.specs.ElementLaws.{elements_lawful};
 use crate::element::Element;
 use crate::fault::GrowError;
 use crate::storage::{Reserve, Storage, Truncate};
-use crate::traits::{Clear, Column, Index, Len, Push, PushRef, PushSlice};
+use crate::traits::{Clear, Column, Index, Len, Push, PushRef};
 use crate::view::element_at;
 use std::alloc::Global;
 
@@ -54,9 +54,7 @@ impl<T: Element> PushRef<T> for Vec<T> {
         Vec::push(self, *item)?;
         Ok(())
     }
-}
 
-impl<T: Element> PushSlice<T> for Vec<T> {
     fn push_slice(&mut self, items: &[T]) -> Result<(), GrowError> {
         self.extend_from_slice(items)?;
         Ok(())

@@ -30,9 +30,10 @@ impl<'v, T: Element> Column for View<'v, T> {
 }
 
 impl<'a, T: Element> View<'a, T> {
-    /// The elements of a slice.
+    /// The elements of a slice; it is well formed.
     pub fn from_slice(items: &'a [T]) -> Self
-        ensures { ⟦<View<'a, T> as Column>⟧.content result ≡ elements T.le_bytes items.now }
+        ensures content { ⟦<View<'a, T> as Column>⟧.content result ≡ elements T.le_bytes items.now }
+        ensures sound { IsSound (elements_format T.size T.align T.row_of) (⟦<View<'a, T> as Column>⟧.content result) }
     {
         View {
             items: Items::Typed(items),
@@ -123,6 +124,14 @@ impl<'v, T: Element> Index for View<'v, T> {
 
     fn get(&self, index: usize) -> T {
         self.at(index)
+    }
+}
+
+impl<'a, 'v, T: Element> Index for &'a View<'v, T> {
+    type Ref = T;
+
+    fn get(&self, index: usize) -> T {
+        (**self).get(index)
     }
 }
 

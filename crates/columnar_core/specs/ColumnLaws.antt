@@ -9,12 +9,6 @@ use Rattle.columnar_core.specs.Column.{GivesSlice}
 use Rattle.columnar_core.specs.Slices.{bytes_in}
 use Rattle.columnar_core.specs.declared.byte_slice.ByteSlice.{ByteSlice}
 
--- the slice that is there is the first of those that are left
-pub slice_next : (slices : List (List ℕ)) (i : ℕ) (bytes : List ℕ) → slice_get slices i ≡ Some bytes → drop i slices ≡ bytes ∷ drop (i + 1) slices
-slice_next slices i bytes h =
-    drop_more slices i [] (slice_get_within slices i bytes h)
-    ∙ ap (λ s. s ∷ drop (i + 1) slices) (get_or_from_slice_get slices i bytes [] h)
-
 -- what a loop over an iterator of slices is given are the bytes of those that are left, in order
 pub slices_given : {S : Type 0} (left : S → List (List ℕ)) (s : S) → YieldsList (GivesSlice left) (λ (p : ℕ × ByteSlice). bytes_in p.1) s (left s)
 slices_given left s = YieldsList-from_shown (GivesSlice left) (λ (p : ℕ × ByteSlice). bytes_in p.1) left (λ a b h. ap length h.0) (λ a x b h. h.0) s

@@ -26,6 +26,8 @@ pub use Rattle.columnar_base.specs.Change
 pub use Rattle.columnar_base.specs.ChangeLaws
 pub use Rattle.columnar_base.specs.Faults
 pub use Rattle.columnar_base.specs.Reads
+pub use Rattle.columnar_base.specs.RowsLeft
+pub use Rattle.columnar_base.specs.RowsLeftLaws
 pub use Rattle.columnar_base.specs.Elements
 pub use Rattle.columnar_base.specs.ElementLaws
 pub use Rattle.columnar_base.specs.Views

@@ -1,5 +1,5 @@
 //! The traits of containers: columns that grow, are cut, and are borrowed as views.
-ghost use Rattle.std.specs.Prelude.{◌≡◌, ◌+◌, ◌-◌, ◌<◌, ◌≤◌, length, [], take, drop, OnOk, IfOk, IfErr, IsTrue, slice_get, Some};
+ghost use Rattle.std.specs.Prelude.{◌≡◌, ◌+◌, ◌-◌, ◌<◌, ◌≤◌, ◌↔◌, length, [], take, drop, OnOk, IfOk, IfErr, IsTrue, IsSome, IfSome, IfNone, slice_get, Some};
 ghost use Rattle.std.specs.Iterator.{IsFinite};
 ghost use Rattle.columnar_base.specs.Row.{unit};
 ghost use Rattle.columnar_base.specs.Format.{Fits, IsSound, representable, slices_of};
@@ -32,6 +32,27 @@ pub trait ExtendFrom<V: Column + Copy>: Storage + Reserve {
         requires in_range { range.«end» ≤ length (V.format.rows (V.content view)) }
         ensures ok { OnOk result (Copied Self.format (Self.content self.old) (Self.content self.new) range.start (take (range.«end» - range.start) (drop range.start (V.format.rows (V.content view))))) }
         ensures err { IfErr result (λ e. Refused Self.format (Self.content self.old) (Self.content self.new) (take (range.«end» - range.start) (drop range.start (V.format.rows (V.content view)))) e) };
+
+    /// As `extend_from_self`, where the range is one of the view's rows; else None, and nothing changes.
+    final fn extend_checked(
+        &mut self,
+        view: V,
+        range: Range<usize>,
+    ) -> Option<Result<(), GrowError>>
+    where
+        V: Len,
+        requires sound { IsSound Self.format (Self.content self.old) }
+        requires view_sound { IsSound V.format (V.content view) }
+        ensures range { IsSome result ↔ ((range.start ≤ range.«end») × (range.«end» ≤ length (V.format.rows (V.content view)))) }
+        ensures ok { IfSome result (λ r. OnOk r (Copied Self.format (Self.content self.old) (Self.content self.new) range.start (take (range.«end» - range.start) (drop range.start (V.format.rows (V.content view)))))) }
+        ensures err { IfSome result (λ r. IfErr r (λ e. Refused Self.format (Self.content self.old) (Self.content self.new) (take (range.«end» - range.start) (drop range.start (V.format.rows (V.content view)))) e)) }
+        ensures stays { IfNone result (Self.content self.new ≡ Self.content self.old) }
+    {
+        if range.start > range.end || range.end > view.len() {
+            return None;
+        }
+        Some(self.extend_from_self(view, range))
+    }
 
     /// Makes room for the rows of the views; the rows stay.
     final fn reserve_for<I: Iterator<Item = V> + Drop>(&mut self, views: I) -> Result<(), GrowError>
@@ -79,9 +100,10 @@ pub trait Borrow<'a>: Column {
     /// of it.
     type Parts: Item;
 
-    /// The view of the column. Needs no memory.
+    /// The view of the column, well formed where the column is. Needs no memory.
     fn borrow(&'a self) -> Self::Borrowed
-        ensures { Self.Borrowed.content result ≡ Self.content self.now };
+        ensures content { Self.Borrowed.content result ≡ Self.content self.now }
+        ensures sound { IsSound Self.format (Self.content self.now) → IsSound Self.Borrowed.format (Self.Borrowed.content result) };
 
     ghost same_format: { Self.Borrowed.format ≡ Self.format };
 }

@@ -17,4 +17,4 @@ pub mod viewed;
 pub mod words;
 pub mod writer;
 
-pub use columnar_base::{element, fault, metered, tally, traits, truth, view};
+pub use columnar_base::{element, fault, iter, metered, tally, traits, truth, view};

@@ -7,6 +7,8 @@ ghost use Rattle.columnar_core.specs.Bounds.{numbers};
 ghost use Rattle.columnar_lists.specs.Lists.{lists_format, shifted};
 ghost use Rattle.columnar_lists.specs.ListLaws.{same_lists, lists_lawful, lists_storable};
 
+mod push;
+
 use columnar_base::fault::{GrowError, StoreFault};
 use columnar_base::slice::Slice;
 use columnar_base::tally::Tally;
@@ -26,7 +28,7 @@ use std::ops::Range;
 
 /// A column of lists. List i has the values from bound i - 1, or from 0 where there is none, up to bound i; it is
 /// well formed where the bounds never fall and the last one is the number of the values, 0 where there is none.
-#[derive(Clone, Copy, Drop)]
+#[derive(Clone, Copy, PartialEq, Drop)]
 pub struct Vecs<TC, BC = Vec<u64>> {
     /// Where each list ends.
     pub bounds: BC,
@@ -73,26 +75,28 @@ impl<TC: Index + Copy, BC: Offsets> Index for Vecs<TC, BC> {
     }
 }
 
+impl<'x, TC: Index, BC: Offsets> Index for &'x Vecs<TC, BC>
+where
+    &'x TC: Index,
+{
+    type Ref = Slice<&'x TC>;
+
+    fn get(&self, index: usize) -> Slice<&'x TC> {
+        let column: &'x Vecs<TC, BC> = *self;
+        let lower = start_of(&column.bounds, index);
+        let upper = column.bounds.offset(index);
+        Slice {
+            lower: lower as usize,
+            upper: upper as usize,
+            slice: &column.values,
+        }
+    }
+}
+
 impl<TC: Clear, BC: Clear> Clear for Vecs<TC, BC> {
     fn clear(&mut self) {
         self.bounds.clear();
         self.values.clear();
-    }
-}
-
-impl<V: Index + Copy, TC: ExtendFrom<V>, BC: Offsets + Push<u64>> Push<Slice<V>> for Vecs<TC, BC> {
-    fn push(&mut self, item: Slice<V>) -> Result<(), GrowError> {
-        let before = self.values.len();
-        self.values
-            .extend_from_self(item.slice, item.lower..item.upper)?;
-        let end = self.values.len();
-        match self.bounds.push(end as u64) {
-            Ok(()) => Ok(()),
-            Err(error) => {
-                self.values.truncate(before);
-                Err(error)
-            }
-        }
     }
 }
 

@@ -3,7 +3,6 @@
 use super::{bytes_of, opened, refusal, row_of, variant, writes};
 use crate::bytes::indexed::encode;
 use crate::bytes::stash::Stash;
-use crate::common::PushSlice;
 use crate::fault::GrowError;
 use crate::primitive::offsets::{Fixeds, Strides};
 use crate::primitive::{Bools, Chars, Durations, Empties, Isizes, U128s};

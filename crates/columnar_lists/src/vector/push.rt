@@ -1,0 +1,159 @@
+//! What can be pushed into a column of lists, each as one list.
+ghost use Rattle.std.specs.Prelude.{◌≡◌, ◌≤◌, ◌∷◌, [], List, length, map, All, OnOk, IfErr};
+ghost use Rattle.std.specs.Iterator.{IsFinite, HoldsAlong, Drains, Yields};
+ghost use Rattle.columnar_base.specs.Row.{list, number};
+ghost use Rattle.columnar_base.specs.Format.{IsSound};
+ghost use Rattle.columnar_base.specs.Change.{Took, Refused, WasCut};
+ghost use Rattle.columnar_lists.specs.Lists.{lists_format};
+
+use super::Vecs;
+use columnar_base::fault::GrowError;
+use columnar_base::slice::Slice;
+use columnar_base::traits::{Column, Index, Item, Push, PushInto, PushRef};
+use columnar_core::container::{ExtendFrom, Truncate};
+use columnar_core::offsets::Offsets;
+
+// Ends a list whose items stand behind the first `before` values; where the bounds refuse its end, these are taken back.
+fn end_list<TC: Truncate, BC: Push<u64>>(
+    bounds: &mut BC,
+    values: &mut TC,
+    before: usize,
+) -> Result<(), GrowError>
+    requires bounds { IsSound BC.format (BC.content bounds.old) }
+    requires values { IsSound TC.format (TC.content values.old) }
+    requires in_range { before ≤ length (TC.format.rows (TC.content values.old)) }
+    ensures ok { OnOk result (Took BC.format (BC.content bounds.old) (BC.content bounds.new) (number (length (TC.format.rows (TC.content values.old))) ∷ [])) }
+    ensures kept { OnOk result (TC.content values.new ≡ TC.content values.old) }
+    ensures err { IfErr result (λ e. Refused BC.format (BC.content bounds.old) (BC.content bounds.new) (number (length (TC.format.rows (TC.content values.old))) ∷ []) e) }
+    ensures cut { IfErr result (λ e. WasCut TC.format (TC.content values.old) (TC.content values.new) before) }
+{
+    let end = values.len();
+    match bounds.push(end as u64) {
+        Ok(()) => Ok(()),
+        Err(error) => {
+            values.truncate(before);
+            Err(error)
+        }
+    }
+}
+
+// Takes rows alike to all that comes of `items`, or none of them.
+fn take_items<I: Iterator<Item: Item> + Drop, TC: Truncate + Push<I::Item>>(
+    values: &mut TC,
+    items: I,
+) -> Result<(), GrowError>
+    requires sound { IsSound TC.format (TC.content values.old) }
+    requires callable { I.can_next items }
+    requires finite { IsFinite (I.remaining items) }
+    requires valid { HoldsAlong I.next_gives items (All I.Item.valid) }
+    ensures ok { OnOk result ((xs : List I.Item) × (Drains I.next_gives items xs × Took TC.format (TC.content values.old) (TC.content values.new) (map I.Item.meaning xs))) }
+    ensures err { IfErr result (λ e. (xs : List I.Item) × (rest : I) × (Yields I.next_gives items xs rest × Refused TC.format (TC.content values.old) (TC.content values.new) (map I.Item.meaning xs) e)) }
+{
+    let before = values.len();
+    match values.extend(items) {
+        Ok(()) => Ok(()),
+        Err(error) => {
+            values.truncate(before);
+            Err(error)
+        }
+    }
+}
+
+impl<TC: Column, BC: Column> Vecs<TC, BC> {
+    // Adds a list of rows alike to the items, or is refused, as a push.
+    fn push_items<T: Item>(&mut self, items: &[T]) -> Result<(), GrowError>
+    where
+        TC: Truncate + PushRef<T>,
+        BC: Offsets + Push<u64>,
+        requires sound { IsSound (lists_format BC.format TC.format) (⟦<Vecs<TC, BC> as Column>⟧.content self.old) }
+        requires valid { All T.valid items.now }
+        ensures ok { OnOk result (Took (lists_format BC.format TC.format) (⟦<Vecs<TC, BC> as Column>⟧.content self.old) (⟦<Vecs<TC, BC> as Column>⟧.content self.new) (list (map T.meaning items.now) ∷ [])) }
+        ensures err { IfErr result (λ e. Refused (lists_format BC.format TC.format) (⟦<Vecs<TC, BC> as Column>⟧.content self.old) (⟦<Vecs<TC, BC> as Column>⟧.content self.new) (list (map T.meaning items.now) ∷ []) e) }
+    {
+        let before = self.values.len();
+        self.values.push_slice(items)?;
+        end_list(&mut self.bounds, &mut self.values, before)
+    }
+
+    /// Adds one list, of rows alike to all that comes of `items`, or is refused and leaves the rows and the lengths of
+    /// all parts. Asks that the items come to an end.
+    pub fn push_iter<I: Iterator<Item: Item> + Drop>(&mut self, items: I) -> Result<(), GrowError>
+    where
+        TC: Truncate + Push<I::Item>,
+        BC: Offsets + Push<u64>,
+        requires sound { IsSound (lists_format BC.format TC.format) (⟦<Vecs<TC, BC> as Column>⟧.content self.old) }
+        requires callable { I.can_next items }
+        requires finite { IsFinite (I.remaining items) }
+        requires valid { HoldsAlong I.next_gives items (All I.Item.valid) }
+        ensures ok { OnOk result ((xs : List I.Item) × (Drains I.next_gives items xs × Took (lists_format BC.format TC.format) (⟦<Vecs<TC, BC> as Column>⟧.content self.old) (⟦<Vecs<TC, BC> as Column>⟧.content self.new) (list (map I.Item.meaning xs) ∷ []))) }
+        ensures err { IfErr result (λ e. (xs : List I.Item) × (rest : I) × (Yields I.next_gives items xs rest × Refused (lists_format BC.format TC.format) (⟦<Vecs<TC, BC> as Column>⟧.content self.old) (⟦<Vecs<TC, BC> as Column>⟧.content self.new) (list (map I.Item.meaning xs) ∷ []) e)) }
+    {
+        let before = self.values.len();
+        take_items(&mut self.values, items)?;
+        end_list(&mut self.bounds, &mut self.values, before)
+    }
+}
+
+/// A column of lists takes what can be pushed into it: ranges of a view, slices and vectors.
+impl<P: PushInto<Vecs<TC, BC>>, TC: Column, BC: Column> Push<P> for Vecs<TC, BC> {
+    fn push(&mut self, item: P) -> Result<(), GrowError> {
+        item.push_into(self)
+    }
+}
+
+/// The rows of the range are copied at once.
+impl<V: Index + Copy, TC: ExtendFrom<V>, BC: Offsets + Push<u64>> PushInto<Vecs<TC, BC>>
+    for Slice<V> {
+    fn push_into(self, column: &mut Vecs<TC, BC>) -> Result<(), GrowError> {
+        let before = column.values.len();
+        column
+            .values
+            .extend_from_self(self.slice, self.lower..self.upper)?;
+        end_list(&mut column.bounds, &mut column.values, before)
+    }
+}
+
+/// The items are pushed by reference.
+impl<'x, T: Item, TC: Truncate + PushRef<T>, BC: Offsets + Push<u64>> PushInto<Vecs<TC, BC>>
+    for &'x [T] {
+    fn push_into(self, column: &mut Vecs<TC, BC>) -> Result<(), GrowError> {
+        column.push_items(self)
+    }
+}
+
+/// The items are pushed by reference.
+impl<'x, T: Item, TC: Truncate + PushRef<T>, BC: Offsets + Push<u64>> PushInto<Vecs<TC, BC>>
+    for &'x Vec<T> {
+    fn push_into(self, column: &mut Vecs<TC, BC>) -> Result<(), GrowError> {
+        column.push_items(self.as_slice())
+    }
+}
+
+/// The items are pushed by reference, and then let go.
+impl<T: Item + Drop, TC: Truncate + PushRef<T>, BC: Offsets + Push<u64>> PushInto<Vecs<TC, BC>>
+    for Vec<T> {
+    fn push_into(self, column: &mut Vecs<TC, BC>) -> Result<(), GrowError> {
+        column.push_items(self.as_slice())
+    }
+}
+
+impl<'x, T: Item, TC: Truncate + PushRef<T>, BC: Offsets + Push<u64>> PushRef<&'x [T]>
+    for Vecs<TC, BC> {
+    fn push_ref(&mut self, item: &&'x [T]) -> Result<(), GrowError> {
+        self.push_items(*item)
+    }
+}
+
+impl<T: Item, TC: Truncate + PushRef<T>, BC: Offsets + Push<u64>> PushRef<Vec<T>>
+    for Vecs<TC, BC> {
+    fn push_ref(&mut self, item: &Vec<T>) -> Result<(), GrowError> {
+        self.push_items(item.as_slice())
+    }
+}
+
+impl<V: Index + Copy, TC: ExtendFrom<V>, BC: Offsets + Push<u64>> PushRef<Slice<V>>
+    for Vecs<TC, BC> {
+    fn push_ref(&mut self, item: &Slice<V>) -> Result<(), GrowError> {
+        (*item).push_into(self)
+    }
+}

@@ -1,0 +1,18 @@
+//! Tests of the columns of values, and of the layers below them, by their public calls alone. They stand here and not in
+//! the layers' own crates, since a crate with tests is proved twice: once without them, and once with them.
+#![tactic(auto)]
+
+#[cfg(test)]
+mod bools;
+#[cfg(test)]
+mod byte_slices;
+#[cfg(test)]
+mod numbers;
+#[cfg(test)]
+mod offsets;
+#[cfg(test)]
+mod pairs;
+#[cfg(test)]
+mod tally;
+#[cfg(test)]
+mod values;

@@ -15,6 +15,8 @@ use std::marker::PhantomData;
 /// A column that can stand in a store of bytes; names no lifetime. All of its calls ask that the type is representable:
 /// at most 2^60 slices, of elements of 1 to 2^63 - 1 bytes.
 pub trait Stored: Column {
+    ghost use Rattle.columnar_core.specs.Column.{byte_slices_left};
+
     /// How many slices the type has.
     fn slice_count() -> usize
         requires { IsTrue (representable Self.format) }
@@ -78,6 +80,33 @@ pub trait Stored: Column {
         ensures stays { OnErr result (offset.new ≡ offset.old) }
     {
         Self::validate_tallied(store, offset, &mut Tally::new())
+    }
+
+    /// The slices of the column in order, each with the alignment of its elements.
+    final fn as_bytes<'s, 'a>(&'s self) -> ByteSlices<'s, 'a, Self>
+    where
+        Self: AsBytes<'a> + Sized,
+        requires { IsTrue (representable Self.format) }
+        ensures { byte_slices_left result ≡ slices_of (Self.content self.entry.now) }
+    {
+        ByteSlices::new(self)
+    }
+
+    /// The view of the next slices that `decode` gives, which moves past them. Asks that they are there; the view is
+    /// well formed where `validate` accepts them.
+    final fn from_bytes<'a>(slices: &mut Decode<'a>) -> Self
+    where
+        Self: FromBytes<'a> + Sized,
+        requires representable { IsTrue (representable Self.format) }
+        requires room { Self.format.count ≤ length (slices_left slices.old) }
+        ensures content { Self.content result ≡ Self.format.build (slices_left slices.old) }
+        ensures rest { slices_left slices.new ≡ drop Self.format.count (slices_left slices.old) }
+    {
+        let store = slices.store;
+        let mut index = slices.index.min(store.len());
+        let view = Self::from_store(&store, &mut index);
+        slices.index = index;
+        view
     }
 
     ghost storable: { IsStorable Self.format };
@@ -200,19 +229,4 @@ impl<'s, 'a, V: AsBytes<'a>> Iterator for ByteSlices<'s, 'a, V> {
         };
         (left, Some(left))
     }
-}
-
-/// The view of the next slices that `decode` gives, which moves past them. Asks that they are there; the view is well
-/// formed where `validate` accepts them.
-pub fn from_bytes<'a, V: FromBytes<'a>>(slices: &mut Decode<'a>) -> V
-    requires representable { IsTrue (representable V.format) }
-    requires room { V.format.count ≤ length (slices_left slices.old) }
-    ensures content { V.content result ≡ V.format.build (slices_left slices.old) }
-    ensures rest { slices_left slices.new ≡ drop V.format.count (slices_left slices.old) }
-{
-    let store = slices.store;
-    let mut index = slices.index.min(store.len());
-    let view = V::from_store(&store, &mut index);
-    slices.index = index;
-    view
 }

@@ -160,7 +160,7 @@ pub trait Index: Column {
         requires { IsSound Self.format (Self.content self.now) }
         ensures { rows_left result ≡ Self.format.rows (Self.content self.now) }
     {
-        IterOwn::new(0, self)
+        IterOwn::<&Self>::new(0, self)
     }
 
     /// The rows in their order.
@@ -170,7 +170,7 @@ pub trait Index: Column {
         requires { IsSound Self.format (Self.content self) }
         ensures { rows_left result ≡ Self.format.rows (Self.content self) }
     {
-        IterOwn::new(0, self)
+        IterOwn::<Self>::new(0, self)
     }
 
     /// The last row, None where there is none.

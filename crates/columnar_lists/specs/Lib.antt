@@ -1,5 +1,6 @@
 pub mod Lists
 pub mod CutLaws
 pub mod ListLaws
+pub mod ListPushes
 pub mod Cut
 pub mod CutIs

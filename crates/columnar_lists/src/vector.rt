@@ -1,5 +1,6 @@
 //! Lists of rows: their items one after another in one column, and where each list ends in another.
 ghost use Rattle.std.specs.Prelude.{◌≡◌, ℕ, ◌+◌, ◌-◌, ◌^◌, ◌<◌, ◌≤◌, length, ◌∷◌, slice_get, Some, take, drop, OnOk, IfErr};
+ghost use Rattle.columnar_base.specs.Row.{number};
 ghost use Rattle.columnar_base.specs.Format.{both, IsSound};
 ghost use Rattle.columnar_base.specs.Change.{Took, Refused};
 ghost use Rattle.columnar_base.specs.TwoParts.{two_counted};
@@ -49,6 +50,18 @@ fn start_of<BC: Offsets>(bounds: &BC, index: usize) -> u64
     }
 }
 
+// Where list `index` begins, and where it ends.
+fn range_of<BC: Offsets>(bounds: &BC, index: usize) -> (usize, usize)
+    requires sound { IsSound BC.format (BC.content bounds.now) }
+    requires in_range { index < length (BC.format.rows (BC.content bounds.now)) }
+    ensures lower { slice_get (0 ∷ numbers (BC.format.rows (BC.content bounds.now))) index ≡ Some result.0 }
+    ensures upper { slice_get (BC.format.rows (BC.content bounds.now)) index ≡ Some (number result.1) }
+{
+    let lower = start_of(bounds, index);
+    let upper = bounds.offset(index);
+    (lower as usize, upper as usize)
+}
+
 impl<TC: Column, BC: Column> Column for Vecs<TC, BC> {
     ghost format = { lists_format BC.format TC.format };
 
@@ -65,13 +78,8 @@ impl<TC: Index + Copy, BC: Offsets> Index for Vecs<TC, BC> {
     type Ref = Slice<TC>;
 
     fn get(&self, index: usize) -> Slice<TC> {
-        let lower = start_of(&self.bounds, index);
-        let upper = self.bounds.offset(index);
-        Slice {
-            lower: lower as usize,
-            upper: upper as usize,
-            slice: self.values,
-        }
+        let (lower, upper) = range_of(&self.bounds, index);
+        Slice::new(lower, upper, self.values)
     }
 }
 
@@ -83,13 +91,8 @@ where
 
     fn get(&self, index: usize) -> Slice<&'x TC> {
         let column: &'x Vecs<TC, BC> = *self;
-        let lower = start_of(&column.bounds, index);
-        let upper = column.bounds.offset(index);
-        Slice {
-            lower: lower as usize,
-            upper: upper as usize,
-            slice: &column.values,
-        }
+        let (lower, upper) = range_of(&column.bounds, index);
+        Slice::new(lower, upper, &column.values)
     }
 }
 

@@ -1,21 +1,22 @@
 //! A log of events: when each came, from whom where that is known, and its tags.
-ghost use Rattle.std.specs.Prelude.{OnOk, OnErr, IfOk, ◌≡◌};
+ghost use Rattle.std.specs.Prelude.{IfErr, IfOk, ◌≡◌, length};
 ghost use Rattle.columnar.specs.Format.{IsSound};
+ghost use Rattle.columnar.specs.Accepted.{IsFirstFault};
 ghost use Rattle.columnar.specs.Stashes.{stash_content};
 
-use columnar::bytes::stash::{run, Command, Reply, Stash};
+use columnar::bytes::stash::{Command, Reply, Stash, run};
 use columnar::fault::{GrowError, StoreFault};
 use columnar::{Borrow, Column, Index, Len, Options, Push, PushRef, Vecs};
 use std::alloc::Global;
-use std::ops::Range;
+use std::io::{self, Write};
 
 /// When, who, and which tags, each in a column of its own.
 pub type Columns = (Vec<u64>, (Options<Vec<u64>>, Vecs<Vec<u32>>));
 
-/// One event, as it comes.
+/// One event, as it is kept elsewhere.
 pub type Event = (u64, (Option<u64>, Vec<u32>));
 
-/// The events, in a column or in bytes that were accepted.
+/// Events in the order in which they came, in a column or in bytes that were accepted.
 #[derive(Drop)]
 pub struct Log {
     stash: Stash<Columns, Vec<u8>>,
@@ -30,33 +31,79 @@ impl Log {
         }
     }
 
-    /// A log that was written. The bytes are tested, and not copied; the fault says which rule they break, and where.
-    pub fn open(alloc: Global, bytes: Vec<u8>) -> Result<Log, StoreFault> {
+    /// A log that was written. The bytes are tested, and not copied; the fault is the first rule that they break, at its
+    /// slice.
+    pub fn open(alloc: Global, bytes: Vec<u8>) -> Result<Log, StoreFault>
+        ensures { IfErr result (IsFirstFault ⟦<Columns as Column>⟧.format bytes.items) }
+    {
         let stash = Stash::try_from_bytes(alloc, bytes)?;
         Ok(Log { stash })
     }
 
-    /// Adds an event, or leaves the log where memory is refused.
+    /// The bytes of the log; None where memory is refused.
+    pub fn written(&self, alloc: Global) -> Option<Vec<u8>> {
+        let mut bytes = Vec::new(alloc);
+        match self.stash.write_bytes(&mut bytes) {
+            Ok(()) => Some(bytes),
+            Err(_) => None,
+        }
+    }
+
+    /// Adds an event; a refusal leaves the log.
     pub fn record(&mut self, time: u64, user: Option<u64>, tags: &[u32]) -> Result<(), GrowError> {
         self.stash.push((time, (user, tags)))
     }
 
-    /// Adds an event that stands elsewhere, or leaves the log where memory is refused.
+    /// Adds an event that is kept elsewhere; a refusal leaves the log.
     pub fn record_event(&mut self, event: &Event) -> Result<(), GrowError> {
         self.stash.push_ref(event)
     }
 
-    /// The number of events.
-    pub fn len(&self) -> usize {
-        self.stash.len()
-    }
-
-    /// How many of the first `n` events have a user; None where there are not as many events.
-    pub fn users_before(&self, n: usize) -> Option<usize> {
-        let users = self.stash.borrow().1.0.indexes;
-        if n > users.len() {
+    /// Adds the events `from..to` of another log, or answers None where it has not as many.
+    pub fn copy(&mut self, other: &Log, from: usize, to: usize) -> Option<Result<(), GrowError>> {
+        if from > to || to > other.stash.len() {
             return None;
         }
-        Some(users.rank(n))
+        Some(self.stash.extend_from_self(other.stash.borrow(), from..to))
+    }
+
+    /// Keeps the first `n` events, or answers None where there are not as many.
+    pub fn cut(&mut self, n: usize) -> Option<Result<(), GrowError>> {
+        if n > self.stash.len() {
+            return None;
+        }
+        Some(self.stash.truncate(n))
+    }
+
+    /// Runs commands, which copy from another log, with a reply for each.
+    pub fn run(
+        self,
+        alloc: Global,
+        other: &Log,
+        commands: &[Command<Event>],
+    ) -> (Log, Result<Vec<Reply>, GrowError>) {
+        let (stash, replies) = run(alloc, self.stash, other.stash.borrow(), commands);
+        (Log { stash }, replies)
+    }
+
+    /// The number of events whose user is known, by rank.
+    pub fn known_users(&self) -> usize {
+        let (_, (users, _)) = self.stash.borrow();
+        users.indexes.rank(users.len())
+    }
+
+    /// Prints each event on a line: the time, the user or a dash, and the tags.
+    pub fn print<O: Write>(&self, out: &mut O) -> io::Result<()> {
+        for (time, (user, tags)) in self.stash.borrow().into_index_iter() {
+            match user {
+                Some(user) => write!(out, "{time} {user}")?,
+                None => write!(out, "{time} -")?,
+            }
+            for tag in tags.into_iter() {
+                write!(out, " {tag}")?;
+            }
+            writeln!(out)?;
+        }
+        Ok(())
     }
 }

@@ -22,10 +22,8 @@ fn end_list<TC: Truncate, BC: Push<u64>>(
     requires bounds { IsSound BC.format (BC.content bounds.old) }
     requires values { IsSound TC.format (TC.content values.old) }
     requires in_range { before ≤ length (TC.format.rows (TC.content values.old)) }
-    ensures ok { OnOk result (Took BC.format (BC.content bounds.old) (BC.content bounds.new) (number (length (TC.format.rows (TC.content values.old))) ∷ [])) }
-    ensures kept { OnOk result (TC.content values.new ≡ TC.content values.old) }
-    ensures err { IfErr result (λ e. Refused BC.format (BC.content bounds.old) (BC.content bounds.new) (number (length (TC.format.rows (TC.content values.old))) ∷ []) e) }
-    ensures cut { IfErr result (λ e. WasCut TC.format (TC.content values.old) (TC.content values.new) before) }
+    ensures ok { OnOk result (Took BC.format (BC.content bounds.old) (BC.content bounds.new) (number (length (TC.format.rows (TC.content values.old))) ∷ []) × (TC.content values.new ≡ TC.content values.old)) }
+    ensures err { IfErr result (λ e. Refused BC.format (BC.content bounds.old) (BC.content bounds.new) (number (length (TC.format.rows (TC.content values.old))) ∷ []) e × WasCut TC.format (TC.content values.old) (TC.content values.new) before) }
 {
     let end = values.len();
     match bounds.push(end as u64) {

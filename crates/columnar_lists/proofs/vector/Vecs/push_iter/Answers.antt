@@ -1,0 +1,24 @@
+use Rattle.columnar_base.specs.ChangeLaws.{passed_on}
+use Rattle.columnar_lists.specs.ListLaws.{lists_parts}
+use Rattle.columnar_lists.specs.ListPushes.{items_not_taken, on_drained, on_not_drained}
+use Rattle.columnar_lists.proofs.vector.Vecs.push_iter.Goals as goal
+
+pub len-before-requires : goal.len-before-requires
+len-before-requires g c = (lists_parts g.BC.Column.format g.TC.Column.format c.requires.sound).values
+
+pub take_items-requires-clause-sound : goal.take_items-requires-clause-sound
+take_items-requires-clause-sound g c = (lists_parts g.BC.Column.format g.TC.Column.format c.requires.sound).values
+
+pub returns-in_err-take_items-clause-err : goal.returns-in_err-take_items-clause-err
+returns-in_err-take_items-clause-err g c =
+    let p = c.in_err-take_items.ensures.err in
+    rw (passed_on c.from_residual.result c.from_residual.ensures.1) ((p.0, p.1, (p.2.0, items_not_taken g.BC.Column.format g.TC.Column.format c.requires.sound p.2.1)))
+
+pub end_list-requires-clause-bounds : goal.end_list-requires-clause-bounds
+end_list-requires-clause-bounds g c = (lists_parts g.BC.Column.format g.TC.Column.format c.requires.sound).bounds
+
+pub returns-clause-ok : goal.returns-clause-ok
+returns-clause-ok g c = let p = c.in_ok-take_items.ensures.ok in on_drained c.end_list.result g.BC.Column.format g.TC.Column.format (g.BC.Column.content c.end_list.new.bounds) (g.TC.Column.content c.end_list.new.values) g.I.Iterator.next_gives c.args.items g.I.Item.Item.meaning p.0 g.met.BC.Offsets.bounds c.requires.sound p.1.0 p.1.1 c.end_list.ensures.ok
+
+pub returns-clause-err : goal.returns-clause-err
+returns-clause-err g c = let p = c.in_ok-take_items.ensures.ok in on_not_drained c.end_list.result g.BC.Column.format g.TC.Column.format (g.BC.Column.content c.end_list.new.bounds) (g.TC.Column.content c.end_list.new.values) c.len-before.result g.I.Iterator.next_gives c.args.items g.I.Item.Item.meaning p.0 c.len-before.ensures g.met.TC.Truncate.lawful c.requires.sound p.1.0 p.1.1 c.end_list.ensures.err

@@ -1,0 +1,101 @@
+//! Examples of programs that use columns: a log of events, which is written, opened, read in place and changed.
+#![tactic(auto)]
+
+mod log;
+
+use columnar::bytes::stash::Command;
+use columnar::fault::GrowError;
+use log::Log;
+use std::alloc::Global;
+use std::io::{self, Write};
+use std::process::ExitCode;
+
+// Why the example did not come to its end
+enum Failure {
+    Growth,
+    Output,
+}
+
+impl From<GrowError> for Failure {
+    fn from(_error: GrowError) -> Failure {
+        Failure::Growth
+    }
+}
+
+impl From<AllocError> for Failure {
+    fn from(_error: AllocError) -> Failure {
+        Failure::Growth
+    }
+}
+
+impl From<io::Error> for Failure {
+    fn from(_error: io::Error) -> Failure {
+        Failure::Output
+    }
+}
+
+fn main(rt: HostRuntime) -> ExitCode {
+    let mut out = rt.stdout();
+    match events(rt.alloc(), &mut out) {
+        Ok(()) => ExitCode::SUCCESS,
+        Err(_) => ExitCode::FAILURE,
+    }
+}
+
+// Three events are recorded, written and opened; what was opened is then changed.
+fn events<O: Write>(alloc: Global, out: &mut O) -> Result<(), Failure> {
+    let mut log = Log::new(alloc);
+    log.record(12, Some(7), &[1, 2])?;
+    log.record(15, None, &[])?;
+    let tags = vec![in alloc; 5u32]?;
+    log.record_event(&(20, (Some(9), tags)))?;
+    log.print(out)?;
+    writeln!(out, "known users: {}", log.known_users())?;
+    refused(alloc, &log, out)?;
+    changed(alloc, &log, out)
+}
+
+// The bytes of the log, spoilt in three ways, and why each is refused.
+fn refused<O: Write>(alloc: Global, log: &Log, out: &mut O) -> Result<(), Failure> {
+    for (at, byte) in [(0u64, 1u8), (8, 0), (88, 9)] {
+        let Some(mut bytes) = log.written(alloc) else {
+            return Err(Failure::Growth);
+        };
+        if let Some(spoilt) = bytes.get_mut(at as usize) {
+            *spoilt = byte;
+        }
+        match Log::open(alloc, bytes) {
+            Ok(_) => writeln!(out, "byte {at} is {byte}: accepted")?,
+            Err(fault) => writeln!(out, "byte {at} is {byte}: {fault}")?,
+        }
+    }
+    Ok(())
+}
+
+// The log, opened from its bytes: a range of it is copied, it is cut, and commands are run.
+fn changed<O: Write>(alloc: Global, log: &Log, out: &mut O) -> Result<(), Failure> {
+    let Some(bytes) = log.written(alloc) else {
+        return Err(Failure::Growth);
+    };
+    let Ok(mut opened) = Log::open(alloc, bytes) else {
+        return Err(Failure::Growth);
+    };
+    if let Some(copied) = opened.copy(log, 1, 3) {
+        copied?;
+    }
+    if let Some(cut) = opened.cut(4) {
+        cut?;
+    }
+    let tags = vec![in alloc; 8u32, 8]?;
+    let commands = [
+        Command::Push((31, (None, tags))),
+        Command::Copy(0, 9),
+        Command::Reopen,
+    ];
+    let (after, replies) = opened.run(alloc, log, commands.as_slice());
+    after.print(out)?;
+    for reply in replies? {
+        writeln!(out, "{reply:?}")?;
+    }
+    Ok(())
+}

@@ -79,7 +79,11 @@ impl<TC: Index + Copy, BC: Offsets> Index for Vecs<TC, BC> {
 
     fn get(&self, index: usize) -> Slice<TC> {
         let (lower, upper) = range_of(&self.bounds, index);
-        Slice::new(lower, upper, self.values)
+        Slice {
+            lower,
+            upper,
+            slice: self.values,
+        }
     }
 }
 
@@ -92,7 +96,11 @@ where
     fn get(&self, index: usize) -> Slice<&'x TC> {
         let column: &'x Vecs<TC, BC> = *self;
         let (lower, upper) = range_of(&column.bounds, index);
-        Slice::new(lower, upper, &column.values)
+        Slice {
+            lower,
+            upper,
+            slice: &column.values,
+        }
     }
 }
 

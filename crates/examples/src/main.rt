@@ -6,11 +6,12 @@ mod log;
 use columnar::bytes::stash::Command;
 use columnar::fault::GrowError;
 use log::Log;
-use std::alloc::Global;
+use std::alloc::{AllocError, Global};
 use std::io::{self, Write};
 use std::process::ExitCode;
 
 // Why the example did not come to its end
+#[derive(Clone, Copy)]
 enum Failure {
     Growth,
     Output,
@@ -47,7 +48,7 @@ fn events<O: Write>(alloc: Global, out: &mut O) -> Result<(), Failure> {
     let mut log = Log::new(alloc);
     log.record(12, Some(7), &[1, 2])?;
     log.record(15, None, &[])?;
-    let tags = vec![in alloc; 5u32]?;
+    let tags = Vec::from_slice(alloc, &[5u32])?;
     log.record_event(&(20, (Some(9), tags)))?;
     log.print(out)?;
     writeln!(out, "known users: {}", log.known_users())?;
@@ -86,7 +87,7 @@ fn changed<O: Write>(alloc: Global, log: &Log, out: &mut O) -> Result<(), Failur
     if let Some(cut) = opened.cut(4) {
         cut?;
     }
-    let tags = vec![in alloc; 8u32, 8]?;
+    let tags = Vec::from_slice(alloc, &[8u32, 8])?;
     let commands = [
         Command::Push((31, (None, tags))),
         Command::Copy(0, 9),

@@ -5,8 +5,8 @@ use Rattle.columnar_lists.specs.CutLaws.{cut_get, number_get}
 use Rattle.columnar_lists.specs.ListLaws.{lists_parts, lists_within, piece_sound}
 use Rattle.columnar_lists.proofs.vector.VecsIndex.get.Goals as goal
 
-pub range_of-requires : goal.range_of-requires
-range_of-requires g c = record {
+pub range_of-lower-requires : goal.range_of-lower-requires
+range_of-lower-requires g c = record {
   sound = (lists_parts g.BC.Column.format g.TC.Column.format c.requires.sound).bounds;
   in_range = lists_within g.BC.Column.format g.TC.Column.format (g.BC.Column.content c.args.self.now.bounds) (g.TC.Column.content c.args.self.now.values) c.args.index c.requires.in_range;
 }
@@ -14,7 +14,7 @@ range_of-requires g c = record {
 pub returns-clause-row : goal.returns-clause-row
 returns-clause-row g c =
     let rs : List Row = g.BC.Column.format.rows (g.BC.Column.content c.args.self.now.bounds) in
-    cut_get c.args.index 0 (numbers rs) (g.TC.Column.format.rows (g.TC.Column.content c.args.self.now.values)) c.range_of.result.0 c.range_of.result.1 c.range_of.ensures.lower (number_get rs c.args.index c.range_of.result.1 c.range_of.ensures.upper)
+    cut_get c.args.index 0 (numbers rs) (g.TC.Column.format.rows (g.TC.Column.content c.args.self.now.values)) c.range_of-lower.result.0 c.range_of-lower.result.1 c.range_of-lower.ensures.lower (number_get rs c.args.index c.range_of-lower.result.1 c.range_of-lower.ensures.upper)
 
 pub returns-clause-valid : goal.returns-clause-valid
-returns-clause-valid g c = piece_sound g.BC.Column.format g.TC.Column.format c.args.index c.requires.sound c.range_of.ensures.lower c.range_of.ensures.upper
+returns-clause-valid g c = piece_sound g.BC.Column.format g.TC.Column.format c.args.index c.requires.sound c.range_of-lower.ensures.lower c.range_of-lower.ensures.upper

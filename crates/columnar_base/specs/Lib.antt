@@ -26,3 +26,4 @@ pub mod TupleLaws
 pub mod WordViews
 pub mod WordViewLaws
 pub mod OptionRows
+pub mod ResultRows

@@ -1,7 +1,8 @@
-//! Truth values and options as rows.
+//! Truth values, options and results as rows.
 ghost use Rattle.std.specs.Prelude.{ℕ};
 ghost use Rattle.columnar_base.specs.Row.{truth};
 ghost use Rattle.columnar_base.specs.OptionRows.{option_row, option_valid};
+ghost use Rattle.columnar_base.specs.ResultRows.{result_row, result_valid};
 
 use crate::traits::Item;
 
@@ -15,4 +16,10 @@ impl<T: Item> Item for Option<T> {
     ghost meaning = { option_row T.meaning };
 
     ghost valid = { option_valid T.valid };
+}
+
+impl<T: Item, E: Item> Item for Result<T, E> {
+    ghost meaning = { result_row T.meaning E.meaning };
+
+    ghost valid = { result_valid T.valid E.valid };
 }

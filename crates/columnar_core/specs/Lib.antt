@@ -32,5 +32,6 @@ pub use Rattle.columnar_base.specs.Elements
 pub use Rattle.columnar_base.specs.ElementLaws
 pub use Rattle.columnar_base.specs.Views
 pub use Rattle.columnar_base.specs.OptionRows
+pub use Rattle.columnar_base.specs.ResultRows
 pub use Rattle.columnar_base.specs.WordViews
 pub use Rattle.columnar_base.specs.WordViewLaws

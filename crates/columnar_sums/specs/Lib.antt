@@ -10,3 +10,7 @@ pub mod RankBytes
 pub mod Options
 pub mod WeaveLaws
 pub mod OptionLaws
+pub mod Results
+pub mod WeaveBoth
+pub mod ResultLaws
+pub mod Marked

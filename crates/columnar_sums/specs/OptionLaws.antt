@@ -1,4 +1,4 @@
-use Rattle.std.proofs.Common.{◌≡◌, ℕ, ◌+◌, ◌-◌, ◌*◌, ◌<◌, ◌≤◌, Bool, true, false, List, [], ◌∷◌, ◌++◌, length, take, drop, map, refl, sym, ◌∙◌, ap, arith, pred, length-append, length-take, length-drop}
+use Rattle.std.proofs.Common.{◌≡◌, ℕ, ◌+◌, ◌-◌, ◌*◌, ◌<◌, ◌≤◌, Bool, true, false, List, [], ◌∷◌, ◌++◌, length, take, drop, map, refl, sym, ◌∙◌, ap, arith, pred, length-append, length-take, ⊎_elim}
 use Rattle.std.specs.Prelude.{slice_get, Some, ◌||◌}
 use Rattle.std.proofs.lemmas.List.{map-append, length-map, take-map, drop-map, drop-drop}
 use Rattle.std.proofs.Math.Nat.{mul-le-mul_right}
@@ -17,8 +17,9 @@ use Rattle.columnar_sums.specs.Counting.{ones}
 use Rattle.columnar_sums.specs.RankColumns.{ranks_bits, ranks_format}
 use Rattle.columnar_sums.specs.RankLaws.{SoundRanks, ranks_parts, ranks_form, ranks_lawful, ranks_storable}
 use Rattle.columnar_sums.specs.Options.{weave, somes, inner_of, bare_option, options_level, option_alike, options_refuses, options_format, AreSome}
+use Rattle.columnar_sums.specs.Marked.{NeitherTook}
 use Rattle.columnar_sums.specs.CountLaws.{ones_zero, ones_true, ones_false, ones_le}
-use Rattle.columnar_sums.specs.WeaveLaws.{ones_nil, ones_first, ones_cut, ones_grows, ones_over, ones_most, ones_both, ones_taken, ones_before, bit_of_row, ones_of_true, ones_of_false, length-weave, weave-append, weave-take, weave-range, weave_some, weave_none, somes-append, somes-weave, weave_alike}
+use Rattle.columnar_sums.specs.WeaveLaws.{ones_nil, ones_first, ones_cut, ones_grows, ones_most, ones_range, ones_both, ones_taken, ones_before, bit_of_row, ones_of_true, ones_of_false, length-weave, weave-append, weave-take, weave-range, weave_some, weave_none, somes-append, somes-weave, weave_alike}
 
 -- what the soundness of options is made of
 pub record SoundOptions (t : Format) (x y : Content) : Type 0 where
@@ -72,7 +73,7 @@ options_more t lt e (part l u x) n rs ss h = h
 options_more t lt e (plain ts) n rs ss h = h
 
 -- what is alike is kin
-options_related : (alike kin : Row → Row → Bool) → ((r s : Row) → alike r s ≡ true → kin r s ≡ true) → (r s : Row) → option_alike alike r s ≡ true → option_alike kin r s ≡ true
+pub options_related : (alike kin : Row → Row → Bool) → ((r s : Row) → alike r s ≡ true → kin r s ≡ true) → (r s : Row) → option_alike alike r s ≡ true → option_alike kin r s ≡ true
 options_related alike kin e r s h =
     let p = and_parts (row_eq (bare_option r) (bare_option s)) (alike (inner_of r) (inner_of s)) h in
     and_from _ _ p.0 (e (inner_of r) (inner_of s) p.1)
@@ -101,22 +102,27 @@ options_none t {x} {y} s u e f =
 
 -- changes
 
--- what stays the same of the bits' trues and of the values stays the same of the options
-options_keeps : (t : Format) (x x' : Content) {y y' : Content} (n : ℕ) {k : ℕ} → ((i : ℕ) → i ≤ n → ones (ranks_bits x') i ≡ ones (ranks_bits x) i) → ones (ranks_bits x) n ≤ k → Keeps t y y' k → Keeps (options_format t) (both x y) (both x' y') n
-options_keeps t x x' {y} {y'} n {k} e l g = record {
-  extents = λ i h.
-      let m = ones_grows (ranks_bits x) i n h in
-      let u = g.extents (ones (ranks_bits x) i) (omega arith) in
-      let v = e i h in
-      rw (v, u) refl;
-  limits = λ i h z rs.
-      let m = ones_grows (ranks_bits x) i n h in
-      let u = g.limits (ones (ranks_bits x) i) (omega arith) z (somes rs) in
-      let v = e i h in
-      rw (v, u) refl;
+-- What stays the same of the values of the set bits, up to n bits.
+pub record Follows (t : Format) (b b' : List Bool) (y y' : Content) (n : ℕ) : Type 0 where
+  pub extents : (i : ℕ) → i ≤ n → t.extent y' (ones b' i) ≡ t.extent y (ones b i)
+  pub limits : (i : ℕ) → i ≤ n → (e : Excess) (rs : List Row) → t.refuses e y' (ones b' i) rs ≡ t.refuses e y (ones b i) rs
+
+pub values_keep : (t : Format) (b b' : List Bool) {y y' : Content} (n : ℕ) {k : ℕ} → ((i : ℕ) → i ≤ n → ones b' i ≡ ones b i) → ones b n ≤ k → Keeps t y y' k → Follows t b b' y y' n
+values_keep t b b' n e l g = record {
+  extents = λ i h. let m = ones_grows b i n h in rw (e i h) (g.extents (ones b i) (omega arith));
+  limits = λ i h z rs. let m = ones_grows b i n h in rw (e i h) (g.limits (ones b i) (omega arith) z rs);
 }
 
-bits_grew : (x x' : Content) (cs : List Bool) → map truth (ranks_bits x') ≡ map truth (ranks_bits x) ++ map truth cs → ranks_bits x' ≡ ranks_bits x ++ cs
+-- what stays the same of the bits' trues and of the values stays the same of the options
+options_keeps : (t : Format) (x x' : Content) {y y' : Content} (n : ℕ) {k : ℕ} → ((i : ℕ) → i ≤ n → ones (ranks_bits x') i ≡ ones (ranks_bits x) i) → ones (ranks_bits x) n ≤ k → Keeps t y y' k → Keeps (options_format t) (both x y) (both x' y') n
+options_keeps t x x' n e l g =
+    let f = values_keep t (ranks_bits x) (ranks_bits x') n e l g in
+    record {
+      extents = λ i h. let u = f.extents i h in rw u refl;
+      limits = λ i h z rs. let u = f.limits i h z (somes rs) in rw u refl;
+    }
+
+pub bits_grew : (x x' : Content) (cs : List Bool) → map truth (ranks_bits x') ≡ map truth (ranks_bits x) ++ map truth cs → ranks_bits x' ≡ ranks_bits x ++ cs
 bits_grew x x' cs h = bits_from_rows (ranks_bits x') (ranks_bits x ++ cs) (h ∙ sym (map-append truth (ranks_bits x) cs))
 
 -- bits, and the values of the set ones
@@ -154,7 +160,7 @@ no_bits (false ∷ b) vs h = cc
 no_bits (true ∷ b) [] h = cc
 no_bits (true ∷ b) (v ∷ vs) h = cc
 
-no_values : (b : List Bool) (vs : List Row) → b ≡ [] → ones b (length b) ≡ length vs → vs ≡ []
+pub no_values : (b : List Bool) (vs : List Row) → b ≡ [] → ones b (length b) ≡ length vs → vs ≡ []
 no_values b [] e l = refl
 no_values b (v ∷ vs) e l =
     let k : ones b (length b) ≡ ones [] 0 = ap (λ (c : List Bool). ones c (length c)) e in
@@ -229,12 +235,9 @@ options_took_some t {x} {x'} {y} {y'} {r} q s g h = options_took t (true ∷ [])
 pub options_took_none : (t : Format) {x x' y : Content} → IsSame t.alike → IsSound (options_format t) (both x y) → Took ranks_format x x' (truth false ∷ []) → Took (options_format t) (both x y) (both x' y) (none ∷ [])
 options_took_none t {x} {x'} {y} q s h = options_took t (false ∷ []) {vs = []} q s ones_of_false h (took_none (options_parts t s).values)
 
--- the value was refused; or a bit was, and the value was taken back
-pub options_refused_value : (t : Format) {x y y' : Content} (r : Row) {error : GrowError} → IsSound (options_format t) (both x y) → Refused t y y' (r ∷ []) error → Refused (options_format t) (both x y) (both x y') (some r ∷ []) error
-options_refused_value t {x} {y} {y'} r s g = options_refused_values t (true ∷ []) (r ∷ []) s ones_of_true (unchanged (options_parts t s).bits) g
-
-pub options_refused_true : (t : Format) {x x' y y' : Content} (r : Row) {error : GrowError} → IsSound (options_format t) (both x y) → Refused ranks_format x x' (truth true ∷ []) error → Stayed t y y' → Refused (options_format t) (both x y) (both x' y') (some r ∷ []) error
-options_refused_true t {x} {x'} {y} {y'} r s g h = options_refused_bits t (true ∷ []) (r ∷ []) s g h
+-- the value was refused, or its bit
+pub options_refused_some : (t : Format) {x x' y y' : Content} (r : Row) {error : GrowError} → IsSound (options_format t) (both x y) → NeitherTook t ranks_format y y' x x' (r ∷ []) (truth true ∷ []) error → Refused (options_format t) (both x y) (both x' y') (some r ∷ []) error
+options_refused_some t r s h = ⊎_elim (λ p. options_refused_values t (true ∷ []) (r ∷ []) s ones_of_true p.1 p.0) (λ p. options_refused_bits t (true ∷ []) (r ∷ []) s p.1 p.0) h
 
 pub options_refused_false : (t : Format) {x x' y : Content} {error : GrowError} → IsSound (options_format t) (both x y) → Refused ranks_format x x' (truth false ∷ []) error → Refused (options_format t) (both x y) (both x' y) (none ∷ []) error
 options_refused_false t {x} {x'} {y} s g = options_refused_bits t (false ∷ []) [] s g (unchanged (options_parts t s).values)
@@ -294,13 +297,9 @@ options_range t x y start end l =
 
 -- there are just as many
 pub options_range_level : (t : Format) {x y : Content} (start end : ℕ) → IsSound (options_format t) (both x y) → start ≤ end → end ≤ length (weave (ranks_bits x) (t.rows y)) → ones (take (end - start) (drop start (ranks_bits x))) (length (take (end - start) (drop start (ranks_bits x)))) ≡ length (take (ones (ranks_bits x) end - ones (ranks_bits x) start) (drop (ones (ranks_bits x) start) (t.rows y)))
-options_range_level t {x} {y} start end s l m =
-    let e : start + (end - start) ≡ end = omega arith in
-    let o : ones (ranks_bits x) end ≡ ones (ranks_bits x) start + ones (drop start (ranks_bits x)) (end - start) = ap (ones (ranks_bits x)) (sym e) ∙ ones_over (ranks_bits x) start (end - start) in
-    let h = options_top t x y end s m in
-    ones_taken (end - start) (drop start (ranks_bits x)) ∙ sym (rw (length-take, length-drop) (omega (arith, o, h)))
+options_range_level t {x} {y} start end s l m = ones_range (ranks_bits x) (t.rows y) start end (options_parts t s).level l (options_within t x y end m)
 
-bits_range : (b : List Bool) (start n : ℕ) → take n (drop start (map truth b)) ≡ map truth (take n (drop start b))
+pub bits_range : (b : List Bool) (start n : ℕ) → take n (drop start (map truth b)) ≡ map truth (take n (drop start b))
 bits_range b start n = ap (take n) (drop-map truth start b) ∙ take-map truth n (drop start b)
 
 pub options_copied_range : (t u : Format) {x x' y y' : Content} (v w : Content) (start end : ℕ) → IsSame t.alike → IsSound (options_format t) (both x y) → IsSound (options_format u) (both v w) → start ≤ end → end ≤ length (weave (ranks_bits v) (u.rows w)) → Copied ranks_format x x' start (take (end - start) (drop start (map truth (ranks_bits v)))) → Copied t y y' (ones (ranks_bits v) start) (take (ones (ranks_bits v) end - ones (ranks_bits v) start) (drop (ones (ranks_bits v) start) (u.rows w))) → Copied (options_format t) (both x y) (both x' y') start (take (end - start) (drop start (weave (ranks_bits v) (u.rows w))))

@@ -1,5 +1,5 @@
 -- Bits and the values of the set ones.
-use Rattle.std.proofs.Common.{◌≡◌, ℕ, zero, suc, ◌+◌, ◌-◌, ◌<◌, ◌≤◌, Bool, true, false, List, [], ◌∷◌, ◌++◌, length, take, drop, map, refl, sym, ◌∙◌, ap, arith, pred, append_assoc, subst}
+use Rattle.std.proofs.Common.{◌≡◌, ℕ, zero, suc, ◌+◌, ◌-◌, ◌<◌, ◌≤◌, Bool, true, false, List, [], ◌∷◌, ◌++◌, length, take, drop, map, refl, sym, ◌∙◌, ap, arith, pred, append_assoc, subst, length-take, length-drop}
 use Rattle.std.specs.Prelude.{slice_get, Some}
 use Rattle.std.proofs.lemmas.Bool.{and_parts, and_from}
 use Rattle.columnar_core.specs.Row.{Row, truth, unit, none, some}
@@ -76,6 +76,14 @@ ones_before (true ∷ b) zero h = omega (arith, ones_zero (true ∷ b), ones_tru
 ones_before (false ∷ b) zero h = cc
 ones_before (true ∷ b) (suc i) h = omega (arith, ones_true b i, ones_before b i h, ones_true b (length b))
 ones_before (false ∷ b) (suc i) h = omega (arith, ones_false b i, ones_before b i h, ones_false b (length b))
+
+-- A range of bits has as many trues as values lie between the ranks of its ends.
+pub ones_range : (b : List Bool) (vs : List Row) (start end : ℕ) → ones b (length b) ≡ length vs → start ≤ end → end ≤ length b → ones (take (end - start) (drop start b)) (length (take (end - start) (drop start b))) ≡ length (take (ones b end - ones b start) (drop (ones b start) vs))
+ones_range b vs start end e l m =
+    let d : start + (end - start) ≡ end = omega arith in
+    let o : ones b end ≡ ones b start + ones (drop start b) (end - start) = ap (ones b) (sym d) ∙ ones_over b start (end - start) in
+    let h = ones_most b end m in
+    ones_taken (end - start) (drop start b) ∙ sym (rw (length-take, length-drop) (omega (arith, o, h, e)))
 
 -- bits as rows
 

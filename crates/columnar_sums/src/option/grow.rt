@@ -2,6 +2,7 @@
 ghost use Rattle.columnar_sums.specs.OptionLaws.{options_lawful, same_options};
 
 use super::Options;
+use crate::marked::{push_marked, push_ref_marked};
 use crate::rank_select::RankSelect;
 use columnar_core::container::{
     Borrow, Container, ExtendFrom, Reborrow, ReborrowRef, Reserve, Storage, Truncate,
@@ -61,21 +62,11 @@ impl<TC: Reserve> Reserve for Options<TC, Vec<u64>, Vec<u64>, [u64; 2]> {
 }
 
 /// A value is pushed first, and then its bit; where the bit is refused, the value is taken back.
-impl<T: Item + Drop, TC: Truncate + Push<T>> Push<Option<T>>
+impl<T: Item, TC: Truncate + Push<T>> Push<Option<T>>
     for Options<TC, Vec<u64>, Vec<u64>, [u64; 2]> {
     fn push(&mut self, item: Option<T>) -> Result<(), GrowError> {
         match item {
-            Some(value) => {
-                let before = self.somes.len();
-                self.somes.push(value)?;
-                match Push::<bool>::push(&mut self.indexes, true) {
-                    Ok(()) => Ok(()),
-                    Err(error) => {
-                        self.somes.truncate(before);
-                        Err(error)
-                    }
-                }
-            }
+            Some(value) => push_marked(&mut self.somes, value, &mut self.indexes, true),
             None => Push::<bool>::push(&mut self.indexes, false),
         }
     }
@@ -93,17 +84,7 @@ impl<T: Item, TC: Truncate + PushRef<T>> PushRef<Option<T>>
     for Options<TC, Vec<u64>, Vec<u64>, [u64; 2]> {
     fn push_ref(&mut self, item: &Option<T>) -> Result<(), GrowError> {
         match item {
-            Some(value) => {
-                let rows = self.somes.len();
-                self.somes.push_ref(value)?;
-                match Push::<bool>::push(&mut self.indexes, true) {
-                    Ok(()) => Ok(()),
-                    Err(error) => {
-                        self.somes.truncate(rows);
-                        Err(error)
-                    }
-                }
-            }
+            Some(value) => push_ref_marked(&mut self.somes, value, &mut self.indexes, true),
             None => Push::<bool>::push(&mut self.indexes, false),
         }
     }

@@ -1,25 +1,19 @@
 use Rattle.std.proofs.lemmas.Result.{on_ok_weaker, IfErr-weaker}
-use Rattle.columnar_sums.specs.OptionLaws.{options_parts, options_took_some, options_took_none, options_refused_value, options_refused_true, options_refused_false}
-use Rattle.columnar_core.specs.ChangeLaws.{passed_on, undone}
+use Rattle.columnar_sums.specs.Marked.{on_ok_both}
+use Rattle.columnar_sums.specs.OptionLaws.{options_parts, options_took_some, options_took_none, options_refused_some, options_refused_false}
 use Rattle.columnar_sums.proofs.option.grow.OptionsAnyVecU64VecU64ArrayU642PushRefOptionAnyImpl6a947abb.push_ref.Goals as goal
 
-pub len-rows-requires : goal.len-rows-requires
-len-rows-requires g c = (options_parts g.TC.Column.format c.requires.sound).values
+pub push_ref_marked-requires-clause-values : goal.push_ref_marked-requires-clause-values
+push_ref_marked-requires-clause-values g c = (options_parts g.TC.Column.format c.requires.sound).values
 
-pub push_ref-requires-clause-sound : goal.push_ref-requires-clause-sound
-push_ref-requires-clause-sound g c = (options_parts g.TC.Column.format c.requires.sound).values
+pub returns-in-Some-clause-ok : goal.returns-in-Some-clause-ok
+returns-in-Some-clause-ok g c = on_ok_both c.push_ref_marked.result (λ h k. rw c.in-Some.is (options_took_some g.TC.Column.format g.met.TC.Truncate.lawful.same c.requires.sound h k)) c.push_ref_marked.ensures.value c.push_ref_marked.ensures.bit
 
-pub returns-in_err-push_ref-in-Some-clause-err : goal.returns-in_err-push_ref-in-Some-clause-err
-returns-in_err-push_ref-in-Some-clause-err g c = rw (passed_on c.from_residual.result c.from_residual.ensures.1) (rw c.in-Some.is (options_refused_value g.TC.Column.format (g.T.Item.meaning c.in-Some.value) c.requires.sound c.in_err-push_ref-in-Some.ensures.err))
-
-pub returns-in-Ok-clause-ok : goal.returns-in-Ok-clause-ok
-returns-in-Ok-clause-ok g c = rw c.in-Some.is (options_took_some g.TC.Column.format g.met.TC.Truncate.lawful.same c.requires.sound c.in_ok-push_ref-in-Some.ensures.ok c.in-Ok.ensures.ok)
-
-pub returns-in-Err-clause-err : goal.returns-in-Err-clause-err
-returns-in-Err-clause-err g c = rw c.in-Some.is (options_refused_true g.TC.Column.format (g.T.Item.meaning c.in-Some.value) c.requires.sound c.in-Err.ensures.err (undone g.met.TC.Truncate.lawful (options_parts g.TC.Column.format c.requires.sound).values c.in_ok-push_ref-in-Some.ensures.ok.grew (rw c.len-rows.ensures at c.truncate.ensures)))
+pub returns-in-Some-clause-err : goal.returns-in-Some-clause-err
+returns-in-Some-clause-err g c = IfErr-weaker c.push_ref_marked.result _ _ (λ e h. rw c.in-Some.is (options_refused_some g.TC.Column.format (g.T.Item.meaning c.in-Some.value) c.requires.sound h)) c.push_ref_marked.ensures.err
 
 pub returns-in-None-clause-ok : goal.returns-in-None-clause-ok
-returns-in-None-clause-ok g c = on_ok_weaker c.push-in-None.result (λ h. rw c.in-None.is (options_took_none g.TC.Column.format g.met.TC.Truncate.lawful.same c.requires.sound h)) c.push-in-None.ensures.ok
+returns-in-None-clause-ok g c = on_ok_weaker c.push.result (λ h. rw c.in-None.is (options_took_none g.TC.Column.format g.met.TC.Truncate.lawful.same c.requires.sound h)) c.push.ensures.ok
 
 pub returns-in-None-clause-err : goal.returns-in-None-clause-err
-returns-in-None-clause-err g c = IfErr-weaker c.push-in-None.result _ _ (λ e h. rw c.in-None.is (options_refused_false g.TC.Column.format c.requires.sound h)) c.push-in-None.ensures.err
+returns-in-None-clause-err g c = IfErr-weaker c.push.result _ _ (λ e h. rw c.in-None.is (options_refused_false g.TC.Column.format c.requires.sound h)) c.push.ensures.err

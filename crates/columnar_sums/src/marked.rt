@@ -1,0 +1,64 @@
+//! A value in one column, and its bit in another.
+ghost use Rattle.std.specs.Prelude.{[], ◌∷◌, OnOk, IfErr};
+ghost use Rattle.columnar_core.specs.Row.{truth};
+ghost use Rattle.columnar_core.specs.Format.{IsSound};
+ghost use Rattle.columnar_core.specs.Change.{Took};
+ghost use Rattle.columnar_sums.specs.RankColumns.{ranks_format, owned_ranks};
+ghost use Rattle.columnar_sums.specs.Marked.{NeitherTook};
+
+use crate::rank_select::RankSelect;
+use columnar_core::container::Truncate;
+use columnar_core::fault::GrowError;
+use columnar_core::traits::{Item, Len, Push, PushRef};
+
+type Held = RankSelect<Vec<u64>, Vec<u64>, [u64; 2]>;
+
+// Pushes a value, and then its bit; both or neither. Where the bit is refused, the value is taken back.
+pub(crate) fn push_marked<T: Item, TC: Truncate + Push<T>>(
+    values: &mut TC,
+    item: T,
+    indexes: &mut Held,
+    bit: bool,
+) -> Result<(), GrowError>
+    requires values { IsSound TC.format (TC.content values.old) }
+    requires valid { T.valid item }
+    requires bits { IsSound ranks_format (owned_ranks indexes.old) }
+    ensures value { OnOk result (Took TC.format (TC.content values.old) (TC.content values.new) (T.meaning item ∷ [])) }
+    ensures bit { OnOk result (Took ranks_format (owned_ranks indexes.old) (owned_ranks indexes.new) (truth bit ∷ [])) }
+    ensures err { IfErr result (λ e. NeitherTook TC.format ranks_format (TC.content values.old) (TC.content values.new) (owned_ranks indexes.old) (owned_ranks indexes.new) (T.meaning item ∷ []) (truth bit ∷ []) e) }
+{
+    let before = values.len();
+    values.push(item)?;
+    match Push::<bool>::push(indexes, bit) {
+        Ok(()) => Ok(()),
+        Err(error) => {
+            values.truncate(before);
+            Err(error)
+        }
+    }
+}
+
+// The same of a value by reference.
+pub(crate) fn push_ref_marked<T: Item, TC: Truncate + PushRef<T>>(
+    values: &mut TC,
+    item: &T,
+    indexes: &mut Held,
+    bit: bool,
+) -> Result<(), GrowError>
+    requires values { IsSound TC.format (TC.content values.old) }
+    requires valid { T.valid item.now }
+    requires bits { IsSound ranks_format (owned_ranks indexes.old) }
+    ensures value { OnOk result (Took TC.format (TC.content values.old) (TC.content values.new) (T.meaning item.now ∷ [])) }
+    ensures bit { OnOk result (Took ranks_format (owned_ranks indexes.old) (owned_ranks indexes.new) (truth bit ∷ [])) }
+    ensures err { IfErr result (λ e. NeitherTook TC.format ranks_format (TC.content values.old) (TC.content values.new) (owned_ranks indexes.old) (owned_ranks indexes.new) (T.meaning item.now ∷ []) (truth bit ∷ []) e) }
+{
+    let rows = values.len();
+    values.push_ref(item)?;
+    match Push::<bool>::push(indexes, bit) {
+        Ok(()) => Ok(()),
+        Err(error) => {
+            values.truncate(rows);
+            Err(error)
+        }
+    }
+}

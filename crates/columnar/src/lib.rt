@@ -10,6 +10,7 @@ pub mod primitive;
 pub mod sums;
 #[cfg(test)]
 mod tests;
+pub mod tuple;
 pub mod vector;
 
 pub use columnar_core::bytes::{AsBytes, Check, FromBytes, Stored};

@@ -1,6 +1,7 @@
 //! Tuples of columns of one length, side by side: a column of tuples.
+ghost use Rattle.std.specs.Prelude.{◌≡◌};
 ghost use Rattle.columnar_base.specs.Row.{tuple};
-ghost use Rattle.columnar_base.specs.Format.{both};
+ghost use Rattle.columnar_base.specs.Format.{both, IsSound};
 ghost use Rattle.columnar_base.specs.Tuples.{pair_format};
 ghost use Rattle.columnar_base.specs.TupleLaws.{pair_lawful};
 
@@ -37,6 +38,16 @@ impl<A: Index, B: Index> Index for (A, B) {
         let second = self.1.get(index);
         (first, second)
     }
+}
+
+/// The parts of a pair of columns, each well formed, as the pair is.
+pub fn parts<A: Column, B: Column>(pair: (A, B)) -> (A, B)
+    requires { IsSound (pair_format A.format B.format) (both (A.content pair.0) (B.content pair.1)) }
+    ensures first { IsSound A.format (A.content result.0) }
+    ensures second { IsSound B.format (B.content result.1) }
+    ensures pair { result ≡ pair }
+{
+    pair
 }
 
 /// Rows are read through a reference as those of the parts are through one.

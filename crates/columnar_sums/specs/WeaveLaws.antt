@@ -152,6 +152,14 @@ somes-weave (false ∷ b) vs e = somes-weave b vs (sym (ones_false b (length b))
 somes-weave (true ∷ b) (v ∷ vs) e = ap (λ t. v ∷ t) (somes-weave b vs (ap pred (sym (ones_true b (length b)) ∙ e)))
 somes-weave (true ∷ b) [] e = absurd (omega (arith, ones_true b (length b)))
 
+-- the values of the first n rows
+pub length-somes : (n : ℕ) (b : List Bool) (vs : List Row) → length (somes (take n (weave b vs))) ≡ ones b n
+length-somes zero b vs = sym (ones_zero b)
+length-somes (suc n) [] vs = sym (ones_nil (suc n))
+length-somes (suc n) (false ∷ b) vs = length-somes n b vs ∙ sym (ones_false b n)
+length-somes (suc n) (true ∷ b) (v ∷ vs) = ap suc (length-somes n b vs) ∙ sym (ones_true b n)
+length-somes (suc n) (true ∷ b) [] = ap suc (length-somes n b []) ∙ sym (ones_true b n)
+
 -- row i
 
 pub weave_some : (i : ℕ) (b : List Bool) (vs : List Row) (v : Row) → slice_get b i ≡ Some true → slice_get vs (ones b i) ≡ Some v → slice_get (weave b vs) i ≡ Some (some v)

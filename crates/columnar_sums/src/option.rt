@@ -1,9 +1,9 @@
 //! Rows that may be absent.
-ghost use Rattle.std.specs.Prelude.{◌≡◌, ◌↔◌, ℕ, IfSome, IsSome, IsTrue, map};
+ghost use Rattle.std.specs.Prelude.{◌≡◌, ◌↔◌, ◌≤◌, ℕ, IfSome, IsSome, IsTrue, length, map, take};
 ghost use Rattle.columnar_core.specs.Row.{some};
 ghost use Rattle.columnar_core.specs.Format.{both, IsSound};
 ghost use Rattle.columnar_sums.specs.RankColumns.{ranks_content};
-ghost use Rattle.columnar_sums.specs.Options.{options_format, AreSome, AreNone};
+ghost use Rattle.columnar_sums.specs.Options.{options_format, somes, AreSome, AreNone};
 
 mod bytes;
 mod grow;
@@ -72,6 +72,15 @@ impl<TC: Len, CC: Words, VC: Words, WC: Words> Options<TC, CC, VC, WC> {
         ensures { IsTrue result ↔ AreNone ((options_format TC.format).rows (both (ranks_content CC.bytes VC.bytes WC.bytes self.now.indexes) (TC.content self.now.somes))) }
     {
         self.somes.len() == 0
+    }
+
+    /// How many of the first `n` rows have a value. Asks that there are as many rows.
+    pub fn rank(&self, n: usize) -> usize
+        requires sound { IsSound (options_format TC.format) (both (ranks_content CC.bytes VC.bytes WC.bytes self.now.indexes) (TC.content self.now.somes)) }
+        requires in_range { n ≤ length ((options_format TC.format).rows (both (ranks_content CC.bytes VC.bytes WC.bytes self.now.indexes) (TC.content self.now.somes))) }
+        ensures { result ≡ length (somes (take n ((options_format TC.format).rows (both (ranks_content CC.bytes VC.bytes WC.bytes self.now.indexes) (TC.content self.now.somes))))) }
+    {
+        self.indexes.rank(n)
     }
 }
 

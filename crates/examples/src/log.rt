@@ -6,6 +6,7 @@ ghost use Rattle.columnar.specs.Stashes.{stash_content};
 
 use columnar::bytes::stash::{Command, Reply, Stash, run};
 use columnar::fault::{GrowError, StoreFault};
+use columnar::tuple::parts;
 use columnar::{Borrow, Column, Index, Len, Options, Push, PushRef, Vecs};
 use std::alloc::Global;
 use std::io::{self, Write};
@@ -88,8 +89,9 @@ impl Log {
 
     /// The number of events whose user is known, by rank.
     pub fn known_users(&self) -> usize {
-        let (_, (users, _)) = self.stash.borrow();
-        users.indexes.rank(users.len())
+        let (_, rest) = parts(self.stash.borrow());
+        let (users, _) = parts(rest);
+        users.rank(users.len())
     }
 
     /// Prints each event on a line: the time, the user or a dash, and the tags.

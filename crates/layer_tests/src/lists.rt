@@ -8,7 +8,7 @@ use columnar_core::container::{
 };
 use columnar_core::fault::StoreFault;
 use columnar_core::slice::Slice;
-use columnar_core::traits::{Clear, Index, Len, Push};
+use columnar_core::traits::{Clear, Index, Item, Len, Push, PushRef};
 use columnar_core::view::View;
 use columnar_lists::vector::Vecs;
 use std::test::Fail;
@@ -47,6 +47,24 @@ fn pushed<V: Len + Copy, C: Push<Slice<V>>>(
         slice: view,
     };
     column.push(item).is_ok()
+}
+
+// Pushes an item as one list; false where the push is refused.
+fn takes<T: Item, C: Push<T>>(column: &mut C, item: T) -> bool
+    requires sound { IsSound C.format (C.content column.old) }
+    requires valid { T.valid item }
+    ensures { IsSound C.format (C.content column.new) }
+{
+    column.push(item).is_ok()
+}
+
+// The same of an item by reference.
+fn takes_ref<T: Item, C: PushRef<T>>(column: &mut C, item: &T) -> bool
+    requires sound { IsSound C.format (C.content column.old) }
+    requires valid { T.valid item.now }
+    ensures { IsSound C.format (C.content column.new) }
+{
+    column.push_ref(item).is_ok()
 }
 
 // Copies rows of a view behind those of a container; false where they are not there, or where the copy is refused.
@@ -95,6 +113,42 @@ fn lists_of_words(rt: HostRuntime) -> Result<(), Fail> {
     assert_eq!(rt; copy.bounds.as_slice(), [2, 2, 7].as_slice());
     lists.clear();
     assert!(rt; lists.is_empty());
+    Ok(())
+}
+
+#[test]
+fn lists_are_pushed_from_slices_and_vectors(rt: HostRuntime) -> Result<(), Fail> {
+    let owned = Vec::from_slice(rt.alloc(), &[3u64])?;
+    let pair = [1u64, 2];
+    let view = View::from_slice(pair.as_slice());
+    let mut lists = Lists::empty(rt.alloc());
+    assert!(rt; takes(&mut lists, pair.as_slice()));
+    assert!(rt; takes(&mut lists, &pair[..0]));
+    assert!(rt; takes(&mut lists, &owned));
+    assert!(rt; takes_ref(&mut lists, &owned));
+    assert!(rt; takes_ref(&mut lists, &pair.as_slice()));
+    assert!(rt; takes_ref(&mut lists, &Slice::new(1, 2, view)));
+    assert!(rt; takes(&mut lists, owned));
+    assert!(rt; lists.push_iter(pair.iter().copied()).is_ok());
+    assert_eq!(rt; lists.bounds.as_slice(), [2, 2, 3, 4, 6, 7, 8, 10].as_slice());
+    assert_eq!(rt;
+        lists.values.as_slice(),
+        [1, 2, 3, 3, 1, 2, 2, 3, 1, 2].as_slice()
+    );
+    Ok(())
+}
+
+#[test]
+fn lists_of_lists_are_pushed_from_slices(rt: HostRuntime) -> Result<(), Fail> {
+    let first = [1u64, 2];
+    let second = [3u64];
+    let mut nested = Nested::empty(rt.alloc());
+    let both = [first.as_slice(), second.as_slice()];
+    assert!(rt; takes(&mut nested, both.as_slice()));
+    assert!(rt; takes(&mut nested, &both[..1]));
+    assert_eq!(rt; nested.bounds.as_slice(), [2, 3].as_slice());
+    assert_eq!(rt; nested.values.bounds.as_slice(), [2, 3, 5].as_slice());
+    assert_eq!(rt; nested.values.values.as_slice(), [1, 2, 3, 1, 2].as_slice());
     Ok(())
 }
 

@@ -4,10 +4,12 @@ ghost use Rattle.columnar_base.specs.Format.{IsSound};
 
 use columnar_base::fault::StoreFault;
 use columnar_base::traits::{Clear, Column, Index, Len, Push, PushRef};
+use columnar_base::iter::IterOwn;
+use columnar_base::slice::Slice;
 use columnar_base::view::View;
 use columnar_core::bytes::{AsBytes, Check, Stored};
 use columnar_core::container::{
-    Borrow, Container, ContainerBytes, ExtendFrom, Reborrow, ReborrowRef, Storage,
+    Borrow, Container, ContainerBytes, ExtendFrom, Reborrow, ReborrowRef, Storage, Truncate,
 };
 use std::num::Wrapping;
 use std::test::Fail;
@@ -112,6 +114,45 @@ fn slices_arrays_and_references_are_columns(rt: HostRuntime) -> Result<(), Fail>
     assert_eq!(rt; Len::len(&shared), 3);
     let lent = &mut column;
     assert_eq!(rt; Len::len(&lent), 3);
+    Ok(())
+}
+
+// What the rows that an iterator has left add up to.
+fn sum_of<S: Index<Ref = u64> + Len + Drop>(rows: IterOwn<S>) -> u64 {
+    let mut sum = 0u64;
+    for row in rows {
+        sum = sum.wrapping_add(row);
+    }
+    sum
+}
+
+#[test]
+fn rows_are_iterated(rt: HostRuntime) -> Result<(), Fail> {
+    let items = [7u64, 8, 9];
+    let view = View::from_slice(items.as_slice());
+    assert_eq!(rt; sum_of(view.into_index_iter()), 24);
+    assert_eq!(rt; sum_of(view.index_iter()), 24);
+    assert_eq!(rt; sum_of(Slice::new(1, 3, view).into_iter()), 17);
+    assert_eq!(rt; sum_of(IterOwn::new(2, view)), 9);
+    let mut rows = IterOwn::new(5, view);
+    assert_eq!(rt; rows.size_hint(), (0, Some(0)));
+    assert_eq!(rt; rows.next(), None);
+    assert_eq!(rt; ExactSizeIterator::len(&IterOwn::new(1, view)), 2);
+    Ok(())
+}
+
+#[test]
+fn numbers_and_ranges_are_tested(rt: HostRuntime) -> Result<(), Fail> {
+    let items = [7u64, 8, 9];
+    let view = View::from_slice(items.as_slice());
+    assert_eq!(rt; view.get_checked(2), Some(9));
+    assert_eq!(rt; view.get_checked(3), None);
+    let mut column = <Vec<u64> as Storage>::empty(rt.alloc());
+    assert!(rt; matches!(column.extend_checked(view, 1..3), Some(Ok(()))));
+    assert!(rt; column.extend_checked(view, 1..4).is_none());
+    assert_eq!(rt; column.truncate_checked(3), None);
+    assert_eq!(rt; column.truncate_checked(1), Some(()));
+    assert_eq!(rt; column.as_slice(), [8].as_slice());
     Ok(())
 }
 

@@ -28,6 +28,8 @@ type Lists = Vecs<Pairs, Vec<u64>>;
 
 type Beside = (Vec<u64>, Lists);
 
+type Numbered = Vecs<Vec<u64>>;
+
 // Four numbers, and one more
 static NUMBERS: [u64; 6] = [16, 48, 1, 2, 3, 4];
 
@@ -545,6 +547,33 @@ fn columns_of_lists(rt: HostRuntime) -> Result<(), Fail> {
     };
     assert!(rt; both_pushes_keep::<_, Lists>(alloc, Slice::new(0, 2, pairs), &trial));
     assert!(rt; calls_keep::<_, Lists>(alloc, source.borrow(), &trial));
+    Ok(())
+}
+
+// A list is pushed as a slice of numbers, and a vector of them by reference
+#[test]
+fn columns_of_slices(rt: HostRuntime) -> Result<(), Fail> {
+    let alloc = rt.alloc();
+    let before = [24, 56, 88, 1, 2, 3, 4, 1, 2, 3, 4];
+    let after = [24, 64, 112, 1, 2, 3, 4, 6, 1, 2, 3, 4, 5, 6];
+    let trial = Trial {
+        before: before.as_slice(),
+        rows: 4,
+        after: after.as_slice(),
+        source: before.as_slice(),
+        taken: 0,
+        into: before.as_slice(),
+        with_taken: before.as_slice(),
+    };
+    assert!(rt; is_lawful::<Numbered>(alloc, &trial));
+    assert!(rt; both_pushes_keep::<&[u64], Numbered>(alloc, FIRSTS.as_slice(), &trial));
+    let Ok(item) = FIRSTS.to_vec(alloc) else {
+        return Ok(());
+    };
+    let Some(mut stash) = opened::<Numbered>(alloc, trial.before) else {
+        return Ok(());
+    };
+    assert!(rt; push_ref_keeps(&mut stash, &item, trial.before, trial.after));
     Ok(())
 }
 

@@ -4,7 +4,7 @@ ghost use Rattle.columnar_core.specs.Format.{IsSound};
 use super::{bytes_of, has, opened, refused, row_at, variant, writes};
 use columnar::bytes::stash::{AlignedBytes, ByteStore, Command, Refusal, Reply, Stash, run};
 use columnar::common::View;
-use columnar::{Borrow, Check, Clear, Len, Push, PushRef, Stored, Vecs};
+use columnar::{Borrow, Check, Clear, Len, Options, Push, PushRef, Stored, Vecs};
 use std::rc::RcSlice;
 use std::test::Fail;
 
@@ -375,5 +375,31 @@ fn a_run_over_pairs(rt: HostRuntime) -> Result<(), Fail> {
     );
     assert_eq!(rt; variant(&stash), 1);
     assert!(rt; writes(&stash, [24, 40, 56, 1, 6, 10, 60].as_slice()));
+    Ok(())
+}
+
+// Whose, of how many years where that is known, and the marks
+type Marks = (Vec<u64>, (Options<Vec<u32>>, Vecs<Vec<u16>>));
+
+#[test]
+fn a_run_over_rows_with_lists(rt: HostRuntime) -> Result<(), Fail> {
+    let alloc = rt.alloc();
+    let marks = Vec::from_slice(alloc, &[3u16, 5])?;
+    let commands = [
+        Command::Push((7u64, (Some(12u32), marks))),
+        Command::Copy(0, 1),
+        Command::Reopen,
+    ];
+    let source = Stash::<Marks, Vec<u8>>::empty(alloc);
+    let (stash, replies) = run(
+        alloc,
+        Stash::<Marks, Vec<u8>>::empty(alloc),
+        source.borrow(),
+        commands.as_slice(),
+    );
+    assert_eq!(rt; replies?.as_slice(), [DONE, RANGE, DONE].as_slice());
+    // The words of the slices: 7; no count, the bit 1 in a tail of one, 12; the end 2, and 3 and 5.
+    let words = [64, 72, 72, 72, 88, 92, 104, 108, 7, 1, 1, 12, 2, 327683];
+    assert!(rt; writes(&stash, words.as_slice()));
     Ok(())
 }

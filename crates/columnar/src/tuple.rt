@@ -1,0 +1,3 @@
+//! Tuples of columns.
+
+pub use columnar_core::tuple::parts;

@@ -2,6 +2,7 @@
 
 pub mod offsets;
 
+pub use columnar_core::byte_slice::flat::SlicedArray;
 pub use columnar_core::vector::Sliced;
 pub use columnar_primitive::bools::Bools;
 pub use columnar_primitive::chars::Chars;

@@ -1,10 +1,13 @@
 //! Examples of programs that use columns: a log of events, which is written, opened, read in place and changed.
 #![tactic(auto)]
 
+mod level;
 mod log;
 
 use columnar::bytes::stash::Command;
 use columnar::fault::GrowError;
+use columnar::{Borrow, Index, Push, Storage};
+use level::{Level, Levels};
 use log::Log;
 use std::alloc::{AllocError, Global};
 use std::io::{self, Write};
@@ -37,10 +40,26 @@ impl From<io::Error> for Failure {
 
 fn main(rt: HostRuntime) -> ExitCode {
     let mut out = rt.stdout();
-    match events(rt.alloc(), &mut out) {
+    match shown(rt.alloc(), &mut out) {
         Ok(()) => ExitCode::SUCCESS,
         Err(_) => ExitCode::FAILURE,
     }
+}
+
+fn shown<O: Write>(alloc: Global, out: &mut O) -> Result<(), Failure> {
+    events(alloc, out)?;
+    levels(alloc, out)
+}
+
+// A column of values of one's own type.
+fn levels<O: Write>(alloc: Global, out: &mut O) -> Result<(), Failure> {
+    let mut column = Levels::empty(alloc);
+    column.push(Level::Warning)?;
+    column.push(Level::Note)?;
+    for level in column.borrow().into_index_iter() {
+        writeln!(out, "{level:?}")?;
+    }
+    Ok(())
 }
 
 // Three events are recorded, written and opened; what was opened is then changed.

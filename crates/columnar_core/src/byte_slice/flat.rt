@@ -9,13 +9,13 @@ use columnar_base::element::Primitive;
 use std::num::Wrapping;
 
 /// A number whose arrays stand in a slice one behind the other.
-pub trait Flat<const N: usize>: Sliced + Primitive {
+pub trait SlicedArray<const N: usize>: Sliced + Primitive {
     /// The numbers of the arrays.
     fn flat(arrays: &[[Self; N]]) -> &[Self]
         ensures { result.now ≡ flat_map (λ x. x) arrays.now };
 }
 
-impl<T: Flat<N>, const N: usize> Sliced for [T; N] {
+impl<T: SlicedArray<N>, const N: usize> Sliced for [T; N] {
     fn align() -> u64 {
         T::align()
     }
@@ -39,97 +39,97 @@ fn has_its_length<T, const N: usize>(_array: &[T; N])
     ensures { length _array.now ≡ N }
 {}
 
-impl<const N: usize> Flat<N> for u8 {
+impl<const N: usize> SlicedArray<N> for u8 {
     fn flat(arrays: &[[u8; N]]) -> &[u8] {
         arrays.as_flattened()
     }
 }
 
-impl<const N: usize> Flat<N> for u16 {
+impl<const N: usize> SlicedArray<N> for u16 {
     fn flat(arrays: &[[u16; N]]) -> &[u16] {
         arrays.as_flattened()
     }
 }
 
-impl<const N: usize> Flat<N> for u32 {
+impl<const N: usize> SlicedArray<N> for u32 {
     fn flat(arrays: &[[u32; N]]) -> &[u32] {
         arrays.as_flattened()
     }
 }
 
-impl<const N: usize> Flat<N> for u64 {
+impl<const N: usize> SlicedArray<N> for u64 {
     fn flat(arrays: &[[u64; N]]) -> &[u64] {
         arrays.as_flattened()
     }
 }
 
-impl<const N: usize> Flat<N> for i8 {
+impl<const N: usize> SlicedArray<N> for i8 {
     fn flat(arrays: &[[i8; N]]) -> &[i8] {
         arrays.as_flattened()
     }
 }
 
-impl<const N: usize> Flat<N> for i16 {
+impl<const N: usize> SlicedArray<N> for i16 {
     fn flat(arrays: &[[i16; N]]) -> &[i16] {
         arrays.as_flattened()
     }
 }
 
-impl<const N: usize> Flat<N> for i32 {
+impl<const N: usize> SlicedArray<N> for i32 {
     fn flat(arrays: &[[i32; N]]) -> &[i32] {
         arrays.as_flattened()
     }
 }
 
-impl<const N: usize> Flat<N> for i64 {
+impl<const N: usize> SlicedArray<N> for i64 {
     fn flat(arrays: &[[i64; N]]) -> &[i64] {
         arrays.as_flattened()
     }
 }
 
-impl<const N: usize> Flat<N> for Wrapping<u8> {
+impl<const N: usize> SlicedArray<N> for Wrapping<u8> {
     fn flat(arrays: &[[Wrapping<u8>; N]]) -> &[Wrapping<u8>] {
         arrays.as_flattened()
     }
 }
 
-impl<const N: usize> Flat<N> for Wrapping<u16> {
+impl<const N: usize> SlicedArray<N> for Wrapping<u16> {
     fn flat(arrays: &[[Wrapping<u16>; N]]) -> &[Wrapping<u16>] {
         arrays.as_flattened()
     }
 }
 
-impl<const N: usize> Flat<N> for Wrapping<u32> {
+impl<const N: usize> SlicedArray<N> for Wrapping<u32> {
     fn flat(arrays: &[[Wrapping<u32>; N]]) -> &[Wrapping<u32>] {
         arrays.as_flattened()
     }
 }
 
-impl<const N: usize> Flat<N> for Wrapping<u64> {
+impl<const N: usize> SlicedArray<N> for Wrapping<u64> {
     fn flat(arrays: &[[Wrapping<u64>; N]]) -> &[Wrapping<u64>] {
         arrays.as_flattened()
     }
 }
 
-impl<const N: usize> Flat<N> for Wrapping<i8> {
+impl<const N: usize> SlicedArray<N> for Wrapping<i8> {
     fn flat(arrays: &[[Wrapping<i8>; N]]) -> &[Wrapping<i8>] {
         arrays.as_flattened()
     }
 }
 
-impl<const N: usize> Flat<N> for Wrapping<i16> {
+impl<const N: usize> SlicedArray<N> for Wrapping<i16> {
     fn flat(arrays: &[[Wrapping<i16>; N]]) -> &[Wrapping<i16>] {
         arrays.as_flattened()
     }
 }
 
-impl<const N: usize> Flat<N> for Wrapping<i32> {
+impl<const N: usize> SlicedArray<N> for Wrapping<i32> {
     fn flat(arrays: &[[Wrapping<i32>; N]]) -> &[Wrapping<i32>] {
         arrays.as_flattened()
     }
 }
 
-impl<const N: usize> Flat<N> for Wrapping<i64> {
+impl<const N: usize> SlicedArray<N> for Wrapping<i64> {
     fn flat(arrays: &[[Wrapping<i64>; N]]) -> &[Wrapping<i64>] {
         arrays.as_flattened()
     }

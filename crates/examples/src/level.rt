@@ -1,0 +1,65 @@
+//! How grave an event is: a value type of one's own, each value kept as a number of 16 bits.
+ghost use Rattle.std.specs.Prelude.{◌≡◌, true};
+ghost use Rattle.columnar.specs.Row.{Row};
+
+use columnar::Item;
+use columnar::primitive::{Coded, Codes, Rule};
+
+/// How grave an event is.
+#[derive(Clone, Copy, Debug, PartialEq, Eq)]
+pub enum Level {
+    /// It is told.
+    Note,
+    /// It should be looked at.
+    Warning,
+    /// Something was not done.
+    Failure,
+}
+
+/// A column of them.
+pub type Levels = Codes<Vec<u16>, Level>;
+
+impl Item for Level {
+    ghost use Rattle.examples.specs.Levels.{level_row};
+
+    ghost meaning = { level_row };
+
+    ghost valid = { λ x. Unit {0} };
+}
+
+impl Rule for Level {
+    ghost use Rattle.examples.specs.Levels.{is_level};
+
+    type Code = u16;
+
+    ghost is_code = { is_level };
+
+    fn fits(code: u16) -> bool {
+        code < 3
+    }
+}
+
+impl Coded for Level {
+    ghost row_of = { λ r. r };
+
+    fn code(self) -> u16 {
+        match self {
+            Level::Note => 0,
+            Level::Warning => 1,
+            Level::Failure => 2,
+        }
+    }
+
+    fn from_code(code: u16) -> Level {
+        match code {
+            0 => Level::Note,
+            1 => Level::Warning,
+            2 => Level::Failure,
+            _ => unreachable!(),
+        }
+    }
+
+    fn always_fits() -> bool {
+        false
+    }
+}

@@ -16,3 +16,4 @@ pub mod Refs
 pub mod RefLaws
 pub mod Push
 pub mod Trees
+pub mod TreesLaws

@@ -17,3 +17,5 @@ pub mod RefLaws
 pub mod Push
 pub mod Trees
 pub mod TreesLaws
+pub mod NodeRefs
+pub mod PushTurns

@@ -11,6 +11,8 @@ use Rattle.columnar_nested.specs.Layouts.{passed_layout, rule_passed}
 use Rattle.columnar_nested.specs.Nodes.{first_kid, length-roots, first_kid-after}
 use Rattle.columnar_nested.specs.NodeLaws.{IsNode, layout_node, layout_root, starts-length, own_bound}
 use Rattle.columnar_nested.specs.Refs.{node_at, IsRef, IsKidOf, IsWalkFrom}
+use Rattle.columnar_nested.specs.TreeRows.{tree_row, kids_of}
+use Rattle.columnar_nested.specs.TreeRowLaws.{length-kids}
 
 pub length-nodes : {groups bounds : List ℕ} (values : List Row) → IsTreeRule groups bounds (length values) → length (nodes (trees_of bounds values)) ≡ length values
 length-nodes {groups} {bounds} values r =
@@ -156,3 +158,7 @@ walk_ends_soon {groups} {bounds} {n} r i (k ∷ ks) l w =
     let h = walk_ends_soon r k ks b.1 w.1 in
     let c = b.0 in
     omega (arith, h, c)
+
+-- a number of a kid, where kids are rows
+pub kid_in_range : (bounds : List ℕ) (values : List Row) (i : ℕ) {c : ℕ} → c < length (kids_of (tree_row (node_at bounds values i))) → c < width (node_at bounds values i).kids
+kid_in_range bounds values i {c} h = let l = length-kids (node_at bounds values i) in omega (arith, h, l)

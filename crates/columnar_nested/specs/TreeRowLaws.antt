@@ -66,3 +66,7 @@ tree_same same e =
         let w = and_parts (row_eq (bare_tree s) (bare_tree t)) (all_alike same (level_values (s ∷ [])) (level_values (t ∷ []))) k in
         and_from _ _ (p.transitive r s t u.0 w.0) (alike_on same e (level_values (r ∷ [])) (level_values (s ∷ [])) (level_values (t ∷ [])) u.1 w.1);
     }
+
+-- kid i of a node
+pub kid_row : (n : Node Row) (i : ℕ) {k : Node Row} → slice_get (roots n.kids) i ≡ Some k → slice_get (kids_of (tree_row n)) i ≡ Some (tree_row k)
+kid_row n i {k} h = ap (λ rs. slice_get rs i) (kids_are n) ∙ tree_rows_get n.kids i k h

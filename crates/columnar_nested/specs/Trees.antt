@@ -1,9 +1,10 @@
 -- Columns of trees: where each tree begins, where the kids of each node end, and the values of the nodes.
-use Rattle.std.specs.Prelude.{ℕ, suc, Bool, true, false, List, [], ◌∷◌, ◌++◌, length, ◌+◌, ◌*◌, drop, ◌||◌, slice_index}
+use Rattle.std.specs.Prelude.{ℕ, suc, Bool, true, false, List, [], ◌∷◌, ◌++◌, length, ◌+◌, ◌*◌, drop, ◌||◌, slice_index, Vec}
+use Rattle.std.specs.Global.{Global}
 use Rattle.columnar_base.specs.Row.{Row}
 use Rattle.columnar_base.specs.Format.{Format, Content, slice, both, part, plain, Fault, two_broken, Excess, IsSound}
 use Rattle.columnar_base.specs.Elements.{words_format, past_count, first_slice}
-use Rattle.columnar_base.specs.WordViews.{words_in, bytes_of}
+use Rattle.columnar_base.specs.WordViews.{words_in, bytes_of, le_bytes}
 use Rattle.columnar_nested.specs.Layout.{IsTreeRule}
 use Rattle.columnar_nested.specs.Pass.{accepts}
 use Rattle.columnar_nested.specs.Reading.{trees_of}
@@ -103,3 +104,7 @@ trees_format v = record {
 -- what a column of trees holds
 abbrev pub trees_content : {V B : Type 0} → (B → List ℕ) → (V → Content) → Trees V B → Content
 trees_content bytes values t = both (slice (bytes t.groups)) (both (slice (bytes t.bounds)) (values t.values))
+
+-- what one holds that owns its words
+abbrev pub owned_trees : {V : Type 0} → (V → Content) → Trees V (Vec ℕ Global) → Content
+owned_trees values t = trees_content (λ (v : Vec ℕ Global). le_bytes v.items) values t

@@ -1,6 +1,6 @@
 -- What the soundness of a column of trees is made of, and what its growth and a refusal leave.
-use Rattle.std.proofs.Common.{◌≡◌, ℕ, zero, suc, ◌+◌, ◌*◌, ◌/◌, ◌%◌, ◌<◌, ◌≤◌, Bool, true, false, ◌&&◌, ◌||◌, List, [], ◌∷◌, ◌++◌, map, length, refl, sym, ◌∙◌, ap, subst, arith, length-append}
-use Rattle.std.specs.Prelude.{slice_index}
+use Rattle.std.proofs.Common.{◌≡◌, ℕ, zero, suc, ◌+◌, ◌-◌, ◌*◌, ◌<◌, ◌≤◌, Bool, true, false, ◌&&◌, ◌||◌, List, [], ◌∷◌, ◌++◌, map, length, refl, sym, ◌∙◌, ap, subst, arith, length-append}
+use Rattle.std.specs.Prelude.{slice_index, slice_get, Some}
 use Rattle.std.proofs.lemmas.Bool.{and_from, or_left, or_right}
 use Rattle.std.proofs.lemmas.List.{length-map, get_or_append_left}
 use Rattle.std.proofs.Math.Seq.{get_or-append_seam}
@@ -22,10 +22,11 @@ use Rattle.columnar_nested.specs.Reading.{trees_of}
 use Rattle.columnar_nested.specs.Layouts.{layout_read, layout_rule, passed_layout, rule_passed}
 use Rattle.columnar_nested.specs.NodeLaws.{layout_pushed, starts-length}
 use Rattle.columnar_nested.specs.Pass.{accepts, accepts_rule, rule_accepts}
-use Rattle.columnar_nested.specs.RefLaws.{count_groups, group_within}
+use Rattle.columnar_nested.specs.RefLaws.{count_groups, group_within, IsRoot, root_facts}
+use Rattle.columnar_nested.specs.Refs.{node_at, IsRef}
 use Rattle.columnar_nested.specs.Shapes.{Refit, refit}
 use Rattle.columnar_nested.specs.TreeRows.{tree_rows, tree_row, level_values, bare_tree, tree_alike}
-use Rattle.columnar_nested.specs.TreeRowLaws.{tree_rows-joined, length-tree_rows, level_values-more, level_values-one}
+use Rattle.columnar_nested.specs.TreeRowLaws.{tree_rows-joined, length-tree_rows, level_values-more, level_values-one, tree_rows_get}
 use Rattle.columnar_nested.specs.Trees.{words_of, nodes_format, trees_keep, trees_format, trees_rows, end_of_trees, trees_refuses, nodes_refuses}
 
 pub nodes_two : (v : Format) → TwoParts (nodes_format v) words_format v (λ y z. true) 0
@@ -222,3 +223,38 @@ trees_refused v {x} {y} {z} {z'} n {error} i t c =
           ∙ (ap (λ i. past_count e (suc (length (trees_rows v (both x (both y z)))) + 1) || nodes_refuses v e (both y z) i (values_of (level_order (tree_and n.value n.kids no_trees)))) k
           ∙ or_right (past_count e (suc (length (trees_rows v (both x (both y z)))) + 1)) (refuses_more (nodes_format v) e (both y z) (values_of (level_order (tree_and n.value n.kids no_trees)))) h)) c;
     }
+
+pub same_trees : {v w : Format} → v ≡ w → trees_format v ≡ trees_format w
+same_trees e = ap trees_format e
+
+-- what reading tree t rests on
+pub tree_facts : (v : Format) (x y z : Content) (t : ℕ) → IsSound (trees_format v) (both x (both y z)) → t < length (trees_rows v (both x (both y z))) → IsRoot (words_of x) (words_of y) (v.rows z) t
+tree_facts v x y z t s h =
+    let w = length-tree_rows (trees_of (words_of y) (v.rows z)) in
+    root_facts (v.rows z) t (trees_parts v x y z s).rule (omega (arith, h, w))
+
+pub tree_read : (v : Format) (x y z : Content) (t : ℕ) → IsSound (trees_format v) (both x (both y z)) → t < length (trees_rows v (both x (both y z))) → slice_get (trees_rows v (both x (both y z))) t ≡ Some (tree_row (node_at (words_of y) (v.rows z) (slice_index (words_of x) t)))
+tree_read v x y z t s h = tree_rows_get (trees_of (words_of y) (v.rows z)) t (node_at (words_of y) (v.rows z) (slice_index (words_of x) t)) (tree_facts v x y z t s h).tree_at
+
+pub tree_values : (v : Format) (x y z : Content) → IsSound (trees_format v) (both x (both y z)) → IsSound v z
+tree_values v x y z s = (trees_parts v x y z s).values
+
+-- the root is the node before its first kid
+pub root_ref : {bounds : List ℕ} {n g r u : ℕ} → slice_index bounds g ≡ g → IsRef bounds n g (slice_index bounds g + 1) (slice_index bounds (g + 1)) → r ≡ g → u ≡ slice_index bounds (r + 1) → IsRef bounds n r (r + 1) u
+root_ref {bounds} {n} {g} {r} {u} o f e h = record {
+    rule = f.rule;
+    within = rw e f.within;
+    low = rw e (ap (λ i. i + 1) (sym o) ∙ f.low);
+    high = h ∙ rw e f.high;
+  }
+
+pub len_trees : (v : Format) (x y z : Content) {n : ℕ} → IsSound (trees_format v) (both x (both y z)) → n ≡ length (words_of x) → n - 1 ≡ length (trees_rows v (both x (both y z)))
+len_trees v x y z {n} s e =
+    let k = count_trees v x y z (trees_parts v x y z s) in
+    omega (arith, k, e)
+
+-- the number behind a root's is at most the number of bounds
+pub root_next : (v : Format) (x y z : Content) (t : ℕ) {r m : ℕ} → IsSound (trees_format v) (both x (both y z)) → t < length (trees_rows v (both x (both y z))) → r ≡ slice_index (words_of x) t → m ≡ length (words_of y) → r + 1 < m
+root_next v x y z t {r} {m} s h e f =
+    let b = (tree_facts v x y z t s h).bound_in in
+    omega (arith, b, e, f)

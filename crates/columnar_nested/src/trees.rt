@@ -5,9 +5,13 @@ ghost use Rattle.columnar_base.specs.Format.{IsSound};
 ghost use Rattle.columnar_base.specs.WordViews.{words_in, le_bytes, view_bytes};
 ghost use Rattle.columnar_nested.specs.Trees.{trees_format, trees_content};
 
+mod grow;
+mod read;
+
 use columnar_base::traits::Column;
 use columnar_base::view::View;
 use columnar_core::words::word_at;
+pub use read::TreesRef;
 
 /// Words that can be the groups and the bounds of trees: those of a `Vec`, of a view, or of a reference to either.
 pub trait NodeBounds {

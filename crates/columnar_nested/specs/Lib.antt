@@ -19,3 +19,4 @@ pub mod Trees
 pub mod TreesLaws
 pub mod NodeRefs
 pub mod PushTurns
+pub mod PushLaws

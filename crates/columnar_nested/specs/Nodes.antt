@@ -22,7 +22,7 @@ roots-joined no_trees g = refl
 roots-joined (tree_and v k r) g = ap (λ x. record { value = v; kids = k } ∷ x) (roots-joined r g)
 
 -- all nodes but the roots, in order
-abbrev below : {X : Type 0} → List (List X) → List X
+abbrev pub below : {X : Type 0} → List (List X) → List X
 below [] = []
 below (x ∷ xs) = in_line xs
 
@@ -43,7 +43,7 @@ head-levels no_trees = refl
 head-levels (tree_and v k r) = head-beside (record { value = v; kids = k } ∷ []) (levels k) (levels r) ∙ ap (λ x. record { value = v; kids = k } ∷ x) (head-levels r)
 
 -- the roots stand first
-order-roots : {A : Type 0} (f : Forest A) → level_order f ≡ roots f ++ below (levels f)
+pub order-roots : {A : Type 0} (f : Forest A) → level_order f ≡ roots f ++ below (levels f)
 order-roots f = in_line-parts (levels f) ∙ ap (λ x. x ++ below (levels f)) (head-levels f)
 
 get-front : {X : Type 0} (xs ys : List X) (i : ℕ) (x : X) → slice_get xs i ≡ Some x → slice_get (xs ++ ys) i ≡ Some x

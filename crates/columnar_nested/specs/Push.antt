@@ -16,7 +16,7 @@ as_forest-append : {T B : Type 0} (m : T → B) (ts us : List (Tree T)) → tree
 as_forest-append m [] us = refl
 as_forest-append m (t ∷ ts) us = ap (tree_and (node_of m t).value (node_of m t).kids) (as_forest-append m ts us)
 
-width-as_forest : {T B : Type 0} (m : T → B) (ts : List (Tree T)) → width (trees_as_forest m ts) ≡ length ts
+pub width-as_forest : {T B : Type 0} (m : T → B) (ts : List (Tree T)) → width (trees_as_forest m ts) ≡ length ts
 width-as_forest m [] = refl
 width-as_forest m (t ∷ ts) = ap suc (width-as_forest m ts)
 

@@ -20,3 +20,4 @@ pub mod TreesLaws
 pub mod NodeRefs
 pub mod PushTurns
 pub mod PushLaws
+pub mod PushedLaws

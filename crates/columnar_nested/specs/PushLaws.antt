@@ -9,6 +9,8 @@ use Rattle.columnar_base.specs.Change.{Took, IsTrueOf}
 use Rattle.columnar_base.specs.ChangeLaws.{took_none, took_twice, true_from}
 use Rattle.columnar_base.specs.AlikeLaws.{alike_length}
 use Rattle.columnar_base.specs.Elements.{past_count}
+use Rattle.columnar_base.specs.WordViews.{words_in, le_bytes}
+use Rattle.columnar_base.specs.WordViewLaws.{words_pushed}
 use Rattle.columnar_base.specs.declared.fault.GrowError.{GrowError}
 use Rattle.columnar_nested.specs.Forest.{Forest, no_trees, tree_and, Node, width, roots, level_order}
 use Rattle.columnar_nested.specs.Nodes.{order-roots, length-roots, below}
@@ -36,25 +38,25 @@ laid_start m before s h e = record {
 
 -- one turn, for a node that is met with the trees `rest` behind it
 pub laid_more : (T : Type 0) (m : T → Row) {valid : T → Type 0} {v : Format} {old now next : Content} {before bounds bounds' : List ℕ} {root : Tree T} {todo todo' : List (Tree T)} (t : Tree T) (rest : List (Tree T)) (b : ℕ)
-  → Laid m valid v old now before bounds root todo → todo ≡ t ∷ rest → b ≡ (length (v.rows now) + length rest + 1) + length (out-Tree T t).kids.items
+  → Laid m valid v old now before bounds root todo → todo ≡ t ∷ rest → b ≡ (length (v.rows now) + length rest + 1) + length (out-Tree T t).kids.items → b < 2 ^ 64
   → Took v now next (m (out-Tree T t).value ∷ []) → bounds' ≡ bounds ++ b ∷ [] → todo' ≡ rest ++ (out-Tree T t).kids.items
   → Laid m valid v old next before bounds' root todo'
-laid_more T m {valid} {v} {old} {now} {next} {before} {bounds} {bounds'} {root} {todo} {todo'} t rest b l e h k f q =
+laid_more T m {valid} {v} {old} {now} {next} {before} {bounds} {bounds'} {root} {todo} {todo'} t rest b l e h fit k f q =
     let tv = turn_values T Row m t rest in
     let tb = turn_bounds T Row m t rest (length (v.rows now)) b h in
     let n : length (v.rows next) ≡ length (v.rows now) + 1 = took_count k in
     let p1 : l.taken ++ added_values m (t ∷ rest) ≡ added_values m (root ∷ []) = ap (λ ts. l.taken ++ added_values m ts) (sym e) ∙ l.values in
-    let p2 : bounds ++ added_bounds m (length (v.rows now)) (t ∷ rest) ≡ before ++ added_bounds m (length (v.rows old)) (root ∷ []) = ap (λ ts. bounds ++ added_bounds m (length (v.rows now)) ts) (sym e) ∙ l.ends in
+    let p2 : words_in (le_bytes bounds) ++ added_bounds m (length (v.rows now)) (t ∷ rest) ≡ words_in (le_bytes before) ++ added_bounds m (length (v.rows old)) (root ∷ []) = ap (λ ts. words_in (le_bytes bounds) ++ added_bounds m (length (v.rows now)) ts) (sym e) ∙ l.ends in
     let a : All valid ((out-Tree T t).value ∷ added_values (λ x. x) (rest ++ (out-Tree T t).kids.items)) = subst (All valid) (ap (added_values (λ x. x)) e ∙ turn_values T T (λ x. x) t rest) l.valid_left in
     let g = length-append bounds (b ∷ []) in
     record {
       taken = l.taken ++ m (out-Tree T t).value ∷ [];
       took = took_twice l.took k;
       values = ap (λ ts. (l.taken ++ m (out-Tree T t).value ∷ []) ++ added_values m ts) q ∙ (append_assoc l.taken (m (out-Tree T t).value ∷ []) (added_values m (rest ++ (out-Tree T t).kids.items)) ∙ (ap (λ vs. l.taken ++ vs) (sym tv) ∙ p1));
-      ends = ap (λ bs. bs ++ added_bounds m (length (v.rows next)) todo') f
-        ∙ (ap (λ ts. (bounds ++ b ∷ []) ++ added_bounds m (length (v.rows next)) ts) q
-        ∙ (ap (λ i. (bounds ++ b ∷ []) ++ added_bounds m i (rest ++ (out-Tree T t).kids.items)) n
-        ∙ (append_assoc bounds (b ∷ []) (added_bounds m (length (v.rows now) + 1) (rest ++ (out-Tree T t).kids.items)) ∙ (ap (λ bs. bounds ++ bs) (sym tb) ∙ p2))));
+      ends = ap (λ bs. bs ++ added_bounds m (length (v.rows next)) todo') (ap (λ bs. words_in (le_bytes bs)) f ∙ words_pushed bounds b fit)
+        ∙ (ap (λ ts. (words_in (le_bytes bounds) ++ b ∷ []) ++ added_bounds m (length (v.rows next)) ts) q
+        ∙ (ap (λ i. (words_in (le_bytes bounds) ++ b ∷ []) ++ added_bounds m i (rest ++ (out-Tree T t).kids.items)) n
+        ∙ (append_assoc (words_in (le_bytes bounds)) (b ∷ []) (added_bounds m (length (v.rows now) + 1) (rest ++ (out-Tree T t).kids.items)) ∙ (ap (λ bs. words_in (le_bytes bounds) ++ bs) (sym tb) ∙ p2))));
       kept = ap (take (length before)) f ∙ (take-append-le (length before) bounds (b ∷ []) l.longer ∙ l.kept);
       longer = let o = l.longer in omega (arith, ap length f, g, o);
       valid_left = subst (λ ts. All valid (added_values (λ x. x) ts)) (sym q) (λ k d i. a (suc k) d (omega (arith, i)));
@@ -72,8 +74,8 @@ laid_values {m = m} {v = v} {old = old} {now = now} {root = root} l e =
     let h : l.taken ≡ added_values m (root ∷ []) = sym (append-nil l.taken) ∙ (ap (λ ts. l.taken ++ added_values m ts) (sym e) ∙ l.values) in
     subst (λ vs. Took v old now vs) h l.took
 
-pub laid_bounds : {T : Type 0} {m : T → Row} {valid : T → Type 0} {v : Format} {old now : Content} {before bounds : List ℕ} {root : Tree T} {todo : List (Tree T)} → Laid m valid v old now before bounds root todo → todo ≡ [] → bounds ≡ before ++ added_bounds m (length (v.rows old)) (root ∷ [])
-laid_bounds {m = m} {v = v} {now = now} {bounds = bounds} l e = sym (append-nil bounds) ∙ (ap (λ ts. bounds ++ added_bounds m (length (v.rows now)) ts) (sym e) ∙ l.ends)
+pub laid_bounds : {T : Type 0} {m : T → Row} {valid : T → Type 0} {v : Format} {old now : Content} {before bounds : List ℕ} {root : Tree T} {todo : List (Tree T)} → Laid m valid v old now before bounds root todo → todo ≡ [] → words_in (le_bytes bounds) ≡ words_in (le_bytes before) ++ added_bounds m (length (v.rows old)) (root ∷ [])
+laid_bounds {m = m} {v = v} {now = now} {bounds = bounds} l e = sym (append-nil (words_in (le_bytes bounds))) ∙ (ap (λ ts. words_in (le_bytes bounds) ++ added_bounds m (length (v.rows now)) ts) (sym e) ∙ l.ends)
 
 -- a value is refused
 pub laid_refused : (T : Type 0) (m : T → Row) {valid : T → Type 0} {v : Format} {old now : Content} {before bounds : List ℕ} (y : Content) (root : Tree T) {todo : List (Tree T)} (t : Tree T) (rest : List (Tree T)) (error : GrowError) → IsLawful v

@@ -3,7 +3,7 @@ ghost use Rattle.std.specs.Prelude.{◌≡◌, ◌+◌, ◌^◌, ◌≤◌, ◌+
 ghost use Rattle.columnar_base.specs.Row.{Row};
 ghost use Rattle.columnar_base.specs.Change.{Took, Refused, IsTrueOf};
 ghost use Rattle.columnar_base.specs.Format.{IsSound, slice, both};
-ghost use Rattle.columnar_base.specs.WordViews.{le_bytes};
+ghost use Rattle.columnar_base.specs.WordViews.{words_in, le_bytes};
 ghost use Rattle.columnar_nested.specs.TreeValues.{added_values, added_bounds, values_in};
 ghost use Rattle.columnar_nested.specs.Trees.{trees_format, nodes_format, owned_trees};
 
@@ -38,7 +38,7 @@ fn lay<T: Item + Drop, TC: PushRef<T> + Truncate>(
     requires sound { IsSound TC.format (TC.content values.old) }
     requires valid { All T.valid (values_in root) }
     ensures values { OnOk result (Took TC.format (TC.content values.old) (TC.content values.new) (added_values T.meaning (root ∷ []))) }
-    ensures bounds { OnOk result (bounds.new.items ≡ bounds.old.items ++ added_bounds T.meaning (length (TC.format.rows (TC.content values.old))) (root ∷ [])) }
+    ensures bounds { OnOk result (words_in (le_bytes bounds.new.items) ≡ words_in (le_bytes bounds.old.items) ++ added_bounds T.meaning (length (TC.format.rows (TC.content values.old))) (root ∷ [])) }
     ensures begun { (some : List Row) × Took TC.format (TC.content values.old) (TC.content values.new) some }
     ensures kept { take (length bounds.old.items) bounds.new.items ≡ bounds.old.items }
     ensures cause { IfErr result (λ e. IsTrueOf e (nodes_format TC.format) (both (slice (le_bytes bounds.old.items)) (TC.content values.old)) (added_values T.meaning (root ∷ []))) }

@@ -52,5 +52,5 @@ loop-node-preserved g c =
     let l2 : c.len-in-Some.result ≡ length c.pop_front.new.self.items = c.len-in-Some.ensures ∙ c.pop_front.new.self.ok.0 in
     let l3 : c.len-in-Some-2.result ≡ length (out-Tree g.row.T.Denot c.in-Some.node).kids.items = c.len-in-Some-2.ensures ∙ (out-Tree g.row.T.Denot c.in-Some.node).kids.ok.0 in
     let d : c.in-Some-bound_of.bound ≡ (c.len.result + c.len-in-Some.result + 1) + c.len-in-Some-2.result = c.in-Some-bound_of.ensures.some in
-    laid_more g.row.T.Denot g.T.Item.meaning c.in-Some.node c.pop_front.new.self.items c.in-Some-bound_of.bound c.loop-node.invariant c.in-Some.ensures.items (rw (l1, l2, l3) at d)
+    laid_more g.row.T.Denot g.T.Item.meaning c.in-Some.node c.pop_front.new.self.items c.in-Some-bound_of.bound c.loop-node.invariant c.in-Some.ensures.items (rw (l1, l2, l3) at d) (omega arith)
       c.in_ok-push_ref.ensures.ok c.in_ok-push.ensures.items (c.in_ok-append.ensures.items ∙ ap (λ x. c.pop_front.new.self.items ++ x) c.from_vec-next.ensures.items)

@@ -7,12 +7,15 @@ use Rattle.columnar_base.specs.ChangeLaws.{undone}
 use Rattle.columnar_base.specs.Elements.{words_format, word_row_of}
 use Rattle.columnar_base.specs.ElementLaws.{elements_sound, word_element}
 use Rattle.columnar_base.specs.WordViews.{words_in, le_bytes}
-use Rattle.columnar_base.specs.WordViewLaws.{words_pushed}
+use Rattle.columnar_base.specs.WordViewLaws.{words_pushed, words_back, length-words_in, length-le_bytes}
 use Rattle.columnar_base.specs.declared.fault.GrowError.{GrowError}
-use Rattle.columnar_nested.specs.Layout.{totals, kid_counts}
+use Rattle.std.specs.Prelude.{slice_set}
+use Rattle.columnar_nested.specs.Layout.{totals, kid_counts, IsTreeRule}
+use Rattle.columnar_nested.specs.Layouts.{layout_rule}
+use Rattle.columnar_nested.specs.NodeLaws.{layout_none}
 use Rattle.columnar_nested.specs.TreeValues.{node_of, in_order, tree_meaning, added_values, added_bounds}
 use Rattle.columnar_nested.specs.Trees.{trees_format, nodes_format}
-use Rattle.columnar_nested.specs.TreesLaws.{trees_took, trees_refused, trees_parts, tree_values, OneMore}
+use Rattle.columnar_nested.specs.TreesLaws.{trees_took, trees_refused, trees_parts, trees_sound, tree_values, count_trees, OneMore}
 use Rattle.columnar_nested.specs.declared.tree.Tree.{Tree}
 
 words_sound : (xs : List ℕ) → IsSound words_format (slice (le_bytes xs))
@@ -46,3 +49,39 @@ tree_refused m v groups bounds mid {groups'} {bounds'} {z} {w} {z'} t {c} {n} er
     let st : Stayed v z z' = undone law (tree_values v (slice (le_bytes groups)) (slice (le_bytes bounds)) z s) (b.1).grew (subst (λ i. WasCut v w z' i) f cut) in
     let u : bounds' ≡ bounds = h ∙ (ap (λ i. take i mid) e ∙ k) in
     rw (g, u) (trees_refused v (node_of m t) s st a)
+
+words_of_zero : (xs : List ℕ) → xs ≡ 0 ∷ [] → words_in (le_bytes xs) ≡ 0 ∷ []
+words_of_zero xs e = ap (λ ys. words_in (le_bytes ys)) e ∙ (words_pushed [] 0 (omega arith) ∙ ap (λ ys. ys ++ 0 ∷ []) (words_back []))
+
+-- no trees: one 0 each
+pub none_sound : (v : Format) (groups bounds : List ℕ) (z : Content) → groups ≡ 0 ∷ [] → bounds ≡ 0 ∷ [] → IsSound v z → v.rows z ≡ [] → IsSound (trees_format v) (held_trees groups bounds z)
+none_sound v groups bounds z g b s e =
+    let l : IsTreeRule (0 ∷ []) (0 ∷ []) 0 = layout_rule (layout_none Row) in
+    trees_sound v (slice (le_bytes groups)) (slice (le_bytes bounds)) z (record {
+      groups = words_sound groups;
+      bounds = words_sound bounds;
+      values = s;
+      rule = rw (words_of_zero groups g, words_of_zero bounds b, e) l;
+    })
+
+pub none_rows : (v : Format) (groups bounds : List ℕ) (z : Content) → bounds ≡ 0 ∷ [] → (trees_format v).rows (held_trees groups bounds z) ≡ []
+none_rows v groups bounds z b = rw (words_of_zero bounds b) refl
+
+-- there is at least one word each
+pub groups_there : (v : Format) (groups bounds : List ℕ) (z : Content) → IsSound (trees_format v) (held_trees groups bounds z) → 0 < length groups
+groups_there v groups bounds z s =
+    let c = count_trees v (slice (le_bytes groups)) (slice (le_bytes bounds)) z (trees_parts v (slice (le_bytes groups)) (slice (le_bytes bounds)) z s) in
+    let l = length-words_in (le_bytes groups) in
+    let b = length-le_bytes groups in
+    omega (arith, c, l, b)
+
+pub bounds_there : (v : Format) (groups bounds : List ℕ) (z : Content) → IsSound (trees_format v) (held_trees groups bounds z) → 0 < length bounds
+bounds_there v groups bounds z s =
+    let c = (trees_parts v (slice (le_bytes groups)) (slice (le_bytes bounds)) z s).rule.count in
+    let l = length-words_in (le_bytes bounds) in
+    let b = length-le_bytes bounds in
+    omega (arith, c, l, b)
+
+pub set_first : (xs : List ℕ) → 0 < length xs → slice_set (take 1 xs) 0 0 ≡ 0 ∷ []
+set_first [] h = absurd (omega (arith, h))
+set_first (x ∷ xs) h = refl

@@ -21,3 +21,4 @@ pub mod NodeRefs
 pub mod PushTurns
 pub mod PushLaws
 pub mod PushedLaws
+pub mod JudgeLaws

@@ -1,7 +1,7 @@
 -- The rule as one pass over the bounds tests it, beside the groups.
 use Rattle.std.proofs.Common.{◌≡◌, ℕ, zero, suc, ◌+◌, ◌-◌, ◌<◌, ◌≤◌, Bool, true, false, cond, ◌&&◌, List, [], ◌∷◌, ◌++◌, length, map, refl, sym, ◌∙◌, ap, subst, arith, inl, inr, get_or, drop}
 use Rattle.std.proofs.Math.Seq.{drop-cons, drop-length}
-use Rattle.std.specs.Prelude.{nat_eq, nat_le}
+use Rattle.std.specs.Prelude.{nat_eq, nat_le, slice_index}
 use Rattle.std.proofs.lemmas.Bool.{and_parts, and_from, eq-eqb, eqb-true, leb-true, le-leb, cases_lt, cases_eq, ne_eqb, false≢true}
 use Rattle.columnar_nested.specs.Layout.{IsTreeRule, own_places, keeps, bounds_keep}
 use Rattle.columnar_nested.specs.Layouts.{IsPassed, IsOne, rule_one, one_rule, rule_passed, passed_rule}
@@ -151,3 +151,19 @@ turn_end xs gs j last met n h m =
     let b = nil-drop gs met m in
     ap (λ x. follow j last x (drop met gs) n) a ∙ ap (λ x. nat_eq last n && (nat_eq j (suc n) && x)) b
 
+
+-- one turn, with the bound b that was read: it starts a tree, or it does not
+pub met_one : (xs gs : List ℕ) (j last met n b : ℕ) → b ≡ slice_index xs j → j < length xs → last ≤ b → b ≡ j → met < length gs → slice_index gs met ≡ b
+  → follow j last (drop j xs) (drop met gs) n ≡ follow (j + 1) b (drop (j + 1) xs) (drop (met + 1) gs) n
+met_one xs gs j last met n b e h l q m k = turn_meet xs gs j last met n h (omega (arith, e, l)) (sym e ∙ q) m (k ∙ e) ∙ ap (λ x. follow (j + 1) x (drop (j + 1) xs) (drop (met + 1) gs) n) (sym e)
+
+pub met_none : (xs gs : List ℕ) (j last met n b : ℕ) → b ≡ slice_index xs j → j < length xs → last ≤ b → j < b
+  → follow j last (drop j xs) (drop met gs) n ≡ follow (j + 1) b (drop (j + 1) xs) (drop met gs) n
+met_none xs gs j last met n b e h l k = turn_skip xs (drop met gs) j last n h (omega (arith, e, l)) (omega (arith, e, k)) ∙ ap (λ x. follow (j + 1) x (drop (j + 1) xs) (drop met gs) n) (sym e)
+
+-- all bounds were met
+pub met_all : (xs gs : List ℕ) (j last met n : ℕ) → j ≡ length xs → met ≤ length gs → last ≡ n → length xs ≡ suc n → follow j last (drop j xs) (drop met gs) n ≡ nat_eq met (length gs)
+met_all xs gs j last met n h m e c =
+    let p : nat_eq last n ≡ true = eq-eqb last n e in
+    let q : nat_eq j (suc n) ≡ true = eq-eqb j (suc n) (h ∙ c) in
+    turn_end xs gs j last met n h m ∙ rw (p, q) refl

@@ -6,7 +6,7 @@ use Rattle.std.proofs.lemmas.List.{length-map, get_or_append_left}
 use Rattle.std.proofs.Math.Seq.{get_or-append_seam}
 use Rattle.columnar_base.specs.Row.{Row, row_eq}
 use Rattle.columnar_base.specs.RowLaws.{is-row_eq}
-use Rattle.columnar_base.specs.Format.{Format, Content, slice, both, part, plain, IsSound, IsStorable, Excess, too_many, misplaced, refuses_more, all_alike, lengths}
+use Rattle.columnar_base.specs.Format.{Format, Content, slice, both, part, plain, IsSound, IsStorable, Excess, too_many, misplaced, refuses_more, all_alike, slices_of}
 use Rattle.columnar_base.specs.Change.{Keeps, Grew, Stayed, Took, Refused, IsTrueOf}
 use Rattle.columnar_base.specs.ChangeLaws.{true_from}
 use Rattle.columnar_base.specs.AlikeLaws.{alike_length}
@@ -258,3 +258,8 @@ pub root_next : (v : Format) (x y z : Content) (t : ℕ) {r m : ℕ} → IsSound
 root_next v x y z t {r} {m} s h e f =
     let b = (tree_facts v x y z t s h).bound_in in
     omega (arith, b, e, f)
+
+-- ---- slices of bytes
+
+pub trees_counted : (v : Format) (groups bounds : List ℕ) (z : Content) → length (slices_of z) ≡ v.count → length (slices_of (both (slice groups) (both (slice bounds) z))) ≡ 2 + v.count
+trees_counted v groups bounds z h = omega (arith, h)

@@ -5,6 +5,7 @@ ghost use Rattle.columnar_base.specs.Format.{IsSound};
 ghost use Rattle.columnar_base.specs.WordViews.{words_in, le_bytes, view_bytes};
 ghost use Rattle.columnar_nested.specs.Trees.{trees_format, trees_content};
 
+mod bytes;
 mod grow;
 mod read;
 

@@ -1,3 +1,4 @@
+use Rattle.columnar_nested.specs.JudgeLaws.{turns_both}
 use Rattle.columnar_nested.specs.PushLaws.{laid_start}
 use Rattle.columnar_nested.specs.TreesLaws.{trees_took, trees_refused}
 use Rattle.columnar_nested.specs.Push.{turn_bounds}

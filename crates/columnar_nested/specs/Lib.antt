@@ -22,3 +22,5 @@ pub mod PushTurns
 pub mod PushLaws
 pub mod PushedLaws
 pub mod JudgeLaws
+pub mod Weights
+pub mod WeightLaws

@@ -12,7 +12,7 @@ use Rattle.columnar_nested.specs.declared.tree.Tree.TheFolds.{fold_out-Tree}
 pub node_of-out : (T B : Type 0) (m : T → B) (t : Tree T) → node_of m t ≡ record { value = m (out-Tree T t).value; kids = trees_as_forest m (out-Tree T t).kids.items }
 node_of-out T B m = fold_out-Tree T (Node B) (node_step m)
 
-as_forest-append : {T B : Type 0} (m : T → B) (ts us : List (Tree T)) → trees_as_forest m (ts ++ us) ≡ joined (trees_as_forest m ts) (trees_as_forest m us)
+pub as_forest-append : {T B : Type 0} (m : T → B) (ts us : List (Tree T)) → trees_as_forest m (ts ++ us) ≡ joined (trees_as_forest m ts) (trees_as_forest m us)
 as_forest-append m [] us = refl
 as_forest-append m (t ∷ ts) us = ap (tree_and (node_of m t).value (node_of m t).kids) (as_forest-append m ts us)
 
@@ -20,7 +20,7 @@ pub width-as_forest : {T B : Type 0} (m : T → B) (ts : List (Tree T)) → widt
 width-as_forest m [] = refl
 width-as_forest m (t ∷ ts) = ap suc (width-as_forest m ts)
 
-in_order-step : (T B : Type 0) (m : T → B) (t : Tree T) (ts : List (Tree T)) → in_order m (t ∷ ts) ≡ node_of m t ∷ in_order m (ts ++ (out-Tree T t).kids.items)
+pub in_order-step : (T B : Type 0) (m : T → B) (t : Tree T) (ts : List (Tree T)) → in_order m (t ∷ ts) ≡ node_of m t ∷ in_order m (ts ++ (out-Tree T t).kids.items)
 in_order-step T B m t ts =
     let o = node_of-out T B m t in
     let k : (node_of m t).kids ≡ trees_as_forest m (out-Tree T t).kids.items = ap (λ x. x.kids) o in

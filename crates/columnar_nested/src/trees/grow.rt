@@ -46,7 +46,7 @@ fn lay<T: Item + Drop, TC: PushRef<T> + Truncate>(
     let mut todo = VecDeque::new(*root.kids.allocator());
     todo.push_back(root)?;
     while let Some(node) = todo.pop_front() {
-        let Tree { value, kids } = node;
+        let (value, kids) = node.into_parts();
         let Some(bound) = bound_of(values.len(), todo.len(), kids.len()) else {
             return Err(GrowError::Length);
         };

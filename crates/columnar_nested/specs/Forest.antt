@@ -1,0 +1,42 @@
+-- Trees, and their nodes level by level.
+use Rattle.std.specs.Prelude.{ℕ, suc, zero, List, [], ◌∷◌, ◌++◌}
+
+-- trees side by side: none, or a tree (its value and its kids) and the rest
+pub data Forest (A : Type 0) : Type 0 where
+  no_trees : Forest A
+  tree_and : A → Forest A → Forest A → Forest A
+
+-- a node of a tree, with all that is below it
+pub record Node (A : Type 0) : Type 0 where
+  pub value : A
+  pub kids : Forest A
+
+-- the number of trees
+abbrev pub width : {A : Type 0} → Forest A → ℕ
+width no_trees = 0
+width (tree_and v k r) = suc (width r)
+
+-- the roots
+abbrev pub roots : {A : Type 0} → Forest A → List (Node A)
+roots no_trees = []
+roots (tree_and v k r) = record { value = v; kids = k } ∷ roots r
+
+-- the levels of two forests side by side
+abbrev pub beside : {X : Type 0} → List (List X) → List (List X) → List (List X)
+beside [] ys = ys
+beside (x ∷ xs) [] = x ∷ xs
+beside (x ∷ xs) (y ∷ ys) = (x ++ y) ∷ beside xs ys
+
+-- level 0 has the roots, level 1 their kids, and so on
+abbrev pub levels : {A : Type 0} → Forest A → List (List (Node A))
+levels no_trees = []
+levels (tree_and v k r) = beside ((record { value = v; kids = k } ∷ []) ∷ levels k) (levels r)
+
+-- lists one after another
+abbrev pub in_line : {X : Type 0} → List (List X) → List X
+in_line [] = []
+in_line (x ∷ xs) = x ++ in_line xs
+
+-- all nodes, level 0, then level 1, and so on
+abbrev pub level_order : {A : Type 0} → Forest A → List (Node A)
+level_order f = in_line (levels f)

@@ -1,0 +1,20 @@
+-- A node of stored trees: what it means, and what its reads ask.
+use Rattle.std.specs.Prelude.{ℕ, List, length, ◌≡◌}
+use Rattle.columnar_base.specs.Row.{Row}
+use Rattle.columnar_base.specs.Format.{Format, Content, IsSound}
+use Rattle.columnar_base.specs.WordViews.{words_in}
+use Rattle.columnar_nested.specs.Refs.{node_at, IsRef}
+use Rattle.columnar_nested.specs.TreeRows.{tree_row}
+use Rattle.columnar_nested.specs.declared.trees.read.TreesRef.{TreesRef}
+
+-- the tree below it, as a row
+abbrev pub ref_row : {V B : Type 0} → (B → List ℕ) → (V → List Row) → TreesRef V B → Row
+ref_row bytes rows r = tree_row (node_at (words_in (bytes r.bounds)) (rows r.values) r.index)
+
+-- Its values are well formed, its bounds keep the rule of trees, and it knows where its kids begin and end.
+pub record IsNodeOf (values : Format) (z : Content) (bounds : List ℕ) (index lower upper : ℕ) : Type 0 where
+  pub sound : IsSound values z
+  pub stands : IsRef bounds (length (values.rows z)) index lower upper
+
+abbrev pub ref_valid : {V B : Type 0} → (B → List ℕ) → Format → (V → Content) → TreesRef V B → Type 0
+ref_valid bytes values content r = IsNodeOf values (content r.values) (words_in (bytes r.bounds)) r.index r.lower r.upper

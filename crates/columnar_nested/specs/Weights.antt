@@ -1,0 +1,17 @@
+-- What the nodes of trees weigh together.
+use Rattle.std.specs.Prelude.{ℕ, List, [], ◌∷◌, ◌+◌}
+use Rattle.columnar_nested.specs.Forest.{Node}
+use Rattle.columnar_nested.specs.TreeValues.{in_order}
+use Rattle.columnar_nested.specs.declared.tree.Tree.{Tree}
+
+abbrev pub total : {X : Type 0} → (X → ℕ) → List X → ℕ
+total h [] = 0
+total h (x ∷ xs) = h x + total h xs
+
+-- h says what a node weighs
+abbrev pub weight : {T : Type 0} → (Node T → ℕ) → List (Tree T) → ℕ
+weight h ts = total h (in_order (λ x. x) ts)
+
+-- the number of nodes
+abbrev pub count : {T : Type 0} → List (Tree T) → ℕ
+count ts = weight (λ n. 1) ts

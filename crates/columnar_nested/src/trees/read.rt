@@ -1,0 +1,132 @@
+//! Trees that are read in place, node by node.
+ghost use Rattle.std.specs.Prelude.{◌≡◌, ◌<◌, length, slice_get, Some};
+ghost use Rattle.columnar_nested.specs.NodeRefs.{ref_row, ref_valid};
+ghost use Rattle.columnar_nested.specs.TreeRows.{value_of, kids_of};
+ghost use Rattle.columnar_nested.specs.TreesLaws.{same_trees};
+
+use super::{NodeBounds, Trees};
+use columnar_base::traits::{Column, Index, Item, Len};
+use columnar_base::view::View;
+use columnar_core::container::{Borrow, Named, Reborrow};
+use columnar_core::words::word_count;
+
+/// A node of stored trees, with all that is below it. Its calls ask that it is valid, which it is where it came of a
+/// well-formed column of trees, or of a valid node's `child`.
+#[derive(Clone, Copy)]
+pub struct TreesRef<V, B> {
+    index: usize,
+    lower: usize,
+    upper: usize,
+    values: V,
+    bounds: B,
+}
+
+impl<V: Column, B: NodeBounds> Item for TreesRef<V, B> {
+    ghost meaning = { λ r. ref_row B.bytes (λ v. V.format.rows (V.content v)) r };
+
+    ghost valid = { λ r. ref_valid B.bytes V.format V.content r };
+}
+
+impl<V: Column, B: NodeBounds> TreesRef<V, B> {
+    /// The number of kids.
+    pub fn kids(&self) -> usize
+        requires { ⟦<TreesRef<V, B> as Item>⟧.valid self.now }
+        ensures { result ≡ length (kids_of (⟦<TreesRef<V, B> as Item>⟧.meaning self.now)) }
+    {
+        self.upper - self.lower
+    }
+}
+
+impl<V: Index, B: NodeBounds> TreesRef<V, B> {
+    /// The row of the node's own value.
+    pub fn value(&self) -> V::Ref
+        requires { ⟦<TreesRef<V, B> as Item>⟧.valid self.now }
+        ensures row { V.Ref.meaning result ≡ value_of (⟦<TreesRef<V, B> as Item>⟧.meaning self.now) }
+        ensures valid { V.Ref.valid result }
+    {
+        self.values.get(self.index)
+    }
+}
+
+impl<V: Column + Copy, B: NodeBounds + Copy> TreesRef<V, B> {
+    /// Kid `index`. Asks that it is below the number of kids. The kid is valid too, and its number is greater than this
+    /// node's.
+    pub fn child(&self, index: usize) -> Self
+        requires valid { ⟦<TreesRef<V, B> as Item>⟧.valid self.now }
+        requires in_range { index < length (kids_of (⟦<TreesRef<V, B> as Item>⟧.meaning self.now)) }
+        ensures kid { slice_get (kids_of (⟦<TreesRef<V, B> as Item>⟧.meaning self.now)) index ≡ Some (⟦<TreesRef<V, B> as Item>⟧.meaning result) }
+        ensures valid { ⟦<TreesRef<V, B> as Item>⟧.valid result }
+        ensures later { self.now.index < result.index }
+    {
+        let child = self.lower + index;
+        TreesRef {
+            index: child,
+            lower: self.bounds.bound(child) as usize,
+            upper: self.bounds.bound(child + 1) as usize,
+            values: self.values,
+            bounds: self.bounds,
+        }
+    }
+}
+
+impl<TC: Column, BC: NodeBounds> Len for Trees<TC, BC> {
+    fn len(&self) -> usize {
+        word_count(self.groups.words()) - 1
+    }
+}
+
+impl<TC: Column + Copy, BC: NodeBounds + Copy> Index for Trees<TC, BC> {
+    type Ref = TreesRef<TC, BC>;
+
+    fn get(&self, index: usize) -> TreesRef<TC, BC> {
+        // There are fewer than 2^61 bounds, so the number behind a node's is one of 64 bits.
+        let _count = word_count(self.bounds.words());
+        let root = self.groups.bound(index) as usize;
+        TreesRef {
+            index: root,
+            lower: root + 1,
+            upper: self.bounds.bound(root + 1) as usize,
+            values: self.values,
+            bounds: self.bounds,
+        }
+    }
+}
+
+impl<'a, TC: Borrow<'a>> Borrow<'a> for Trees<TC, Vec<u64>> {
+    type Ref = TreesRef<TC::Borrowed, View<'a, u64>>;
+
+    type Borrowed = Trees<TC::Borrowed, View<'a, u64>>;
+
+    type Parts = Named<TC::Ref, TC::Parts>;
+
+    ghost same_format = { same_trees TC.same_format };
+
+    fn borrow(&'a self) -> Trees<TC::Borrowed, View<'a, u64>> {
+        let groups = View::from_slice(self.groups.as_slice());
+        let bounds = View::from_slice(self.bounds.as_slice());
+        let values = self.values.borrow();
+        Trees {
+            groups,
+            bounds,
+            values,
+        }
+    }
+}
+
+impl<'a, 'b, TC: Reborrow<'b>> Reborrow<'b> for Trees<TC, View<'a, u64>>
+where
+    'a: 'b,
+{
+    type Short = Trees<TC::Short, View<'b, u64>>;
+
+    ghost same_short = { same_trees TC.same_short };
+
+    fn reborrow(self) -> Trees<TC::Short, View<'b, u64>> {
+        let values = self.values.reborrow();
+        Trees {
+            groups: self.groups,
+            bounds: self.bounds,
+            values,
+        }
+    }
+}

@@ -15,6 +15,11 @@ pub use Rattle.columnar_core.specs.Sent
 pub use Rattle.columnar_sums.specs.Counting
 pub use Rattle.columnar_sums.specs.RankColumns
 pub use Rattle.columnar_sums.specs.Options
+pub use Rattle.columnar_sums.specs.Results
+pub use Rattle.columnar_nested.specs.Forest
+pub use Rattle.columnar_nested.specs.Layout
+pub use Rattle.columnar_nested.specs.TreeRows
+pub use Rattle.columnar_nested.specs.Trees
 pub use Rattle.columnar_lists.specs.Lists
 pub use Rattle.columnar_lists.specs.Cut
 pub use Rattle.columnar_bytes.specs.Machine

@@ -3,6 +3,7 @@
 //! Each item stands here at the path that it has in Rust's `columnar`; what is this library's own stands beside it.
 #![tactic(auto)]
 
+pub mod adts;
 pub mod bytes;
 pub mod common;
 pub mod fault;
@@ -26,3 +27,4 @@ pub use columnar_core::traits::{
 pub use columnar_lists::vector::Vecs;
 pub use columnar_sums::option::Options;
 pub use columnar_sums::rank_select::{RankSelect, RankSelectCursor};
+pub use columnar_sums::result::Results;

@@ -2,3 +2,4 @@
 
 pub mod option;
 pub mod rank_select;
+pub mod result;

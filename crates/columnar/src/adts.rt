@@ -1,0 +1,3 @@
+//! Columns of data that refer to themselves.
+
+pub mod tree;

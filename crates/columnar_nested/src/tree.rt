@@ -1,6 +1,7 @@
 //! Trees of values.
-ghost use Rattle.std.specs.Prelude.{All};
+ghost use Rattle.std.specs.Prelude.{◌≡◌, All};
 ghost use Rattle.columnar_nested.specs.TreeValues.{tree_meaning, values_in};
+ghost use Rattle.columnar_nested.specs.declared.tree.Tree.TheViews.{out-Tree};
 
 use columnar_base::traits::Item;
 use std::collections::VecDeque;
@@ -22,7 +23,10 @@ impl<T: Item> Item for Tree<T> {
 
 impl<T> Tree<T> {
     /// The value and the kids.
-    pub fn into_parts(self) -> (T, Vec<Tree<T>>) {
+    pub fn into_parts(self) -> (T, Vec<Tree<T>>)
+        ensures value { result.0 ≡ (out-Tree T self).value }
+        ensures kids { result.1 ≡ (out-Tree T self).kids }
+    {
         let Tree { value, kids } = self;
         (value, kids)
     }

@@ -87,11 +87,27 @@ impl Held {
         ensures no_memory { length (ranked_bits self.old) % 64 < 63 → IsOk result }
         ensures sound { IsSound ranks_format (owned_ranks self.new) }
     {
-        let len = self.values.len();
-        if len % 1024 < 1023 {
+        if self.values.len() % 1024 < 1023 {
             self.values.push_bit(bit)?;
             return Ok(());
         }
+        self.push_counted(bit)
+    }
+
+    // As `push_bit`, of a bit that completes 1024; apart, so that the push of any other is small.
+    #[cold]
+    #[inline(never)]
+    fn push_counted(&mut self, bit: bool) -> Result<(), GrowError>
+        requires sound { IsSound ranks_format (owned_ranks self.old) }
+        requires completes { length (ranked_bits self.old) % 1024 ≡ 1023 }
+        ensures ok { OnOk result (ranked_bits self.new ≡ ranked_bits self.old ++ bit ∷ []) }
+        ensures err { OnErr result (Stayed ranks_format (owned_ranks self.old) (owned_ranks self.new)) }
+        ensures length { result ≡ Err GrowError.Length → 2 ^ 64 ≤ length (ranked_bits self.old) + 1 }
+        ensures full { 2 ^ 64 ≤ length (ranked_bits self.old) + 1 → result ≡ Err GrowError.Length }
+        ensures kinds { IfErr result IsOfGrowth }
+        ensures sound { IsSound ranks_format (owned_ranks self.new) }
+    {
+        let len = self.values.len();
         if len == usize::MAX {
             return Err(GrowError::Length);
         }

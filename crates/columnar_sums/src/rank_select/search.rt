@@ -50,7 +50,9 @@ pub(crate) fn rank_in<L>(
     let block = index / 64;
     let chunk = block / 16;
     let mut sum = ones_before(counts, chunk, tally) as usize;
-    for at in 16 * chunk..block {
+    // All that stand before word `block`. They are whole words, so no turn asks whether it reads the tail.
+    let whole = block.min(words.len() - 1);
+    for at in 16 * chunk..whole {
         tally.tick();
         sum += words.read(at, tally).count_ones() as usize;
     }

@@ -1,48 +1,36 @@
--- Elements behind those of a `Vec`.
-use Rattle.std.proofs.Common.{◌≡◌, ℕ, suc, ◌+◌, ◌-◌, ◌≤◌, List, [], ◌∷◌, ◌++◌, take, drop, map, length, zero, refl, sym, ◌∙◌, arith, append-nil, append_assoc}
-use Rattle.std.specs.Prelude.{slice_get, Some}
-use Rattle.std.proofs.lemmas.List.{map-append, take-map}
-use Rattle.std.proofs.Math.Seq.{take-append_seam}
+-- Elements behind those of a `Vec`, read from bytes.
+use Rattle.std.proofs.Common.{◌≡◌, ℕ, suc, ◌+◌, ◌*◌, List, [], ◌∷◌, ◌++◌, take, drop, map, zero, refl, sym, ◌∙◌, arith, append-nil, append_assoc}
+use Rattle.std.specs.List.{flat_map}
+use Rattle.std.proofs.lemmas.List.{take-map}
 use Rattle.columnar_base.specs.Row.{Row}
 use Rattle.columnar_base.specs.Elements.{elements, elements_rows}
-use Rattle.columnar_base.specs.ElementLaws.{IsElement, rows_typed}
-use Rattle.columnar_base.specs.ChangeLaws.{slice_get-drop, take-suc_get}
+use Rattle.columnar_base.specs.ElementLaws.{IsElement, rows_typed, read_more}
 
 pub map_drop : {A B : Type 0} (f : A → B) (n : ℕ) (xs : List A) → drop n (map f xs) ≡ map f (drop n xs)
 map_drop f zero xs = refl
 map_drop f (suc n) [] = refl
 map_drop f (suc n) (x ∷ xs) = map_drop f n xs
 
-abbrev nothing : List ℕ
-nothing = []
-
-take-nil : (n : ℕ) → take n nothing ≡ nothing
-take-nil zero = refl
-take-nil (suc n) = refl
-
--- the old elements, and then some whose rows are these
-pub record Appended {T : Type 0} (meaning : T → Row) (old new : List T) (rows : List Row) : Type 0 where
+-- the old elements, and then those whose bytes these are
+pub record Appended {T : Type 0} (bytes : T → List ℕ) (old new : List T) (bs : List ℕ) : Type 0 where
   pub fresh : List T
   pub items : new ≡ old ++ fresh
-  pub means : map meaning fresh ≡ rows
+  pub same : flat_map bytes fresh ≡ bs
 
-pub appended_none : {T : Type 0} (meaning : T → Row) (old : List T) (rs : List Row) (start : ℕ) → Appended meaning old old (take (start - start) (drop start rs))
-appended_none meaning old rs start = let e : start - start ≡ 0 = omega arith in record { fresh = []; items = sym (append-nil old); means = rw e refl }
+pub appended_none : {T : Type 0} (bytes : T → List ℕ) (old new : List T) (size : ℕ) (bs : List ℕ) → new ≡ old → Appended bytes old new (take (size * 0) bs)
+appended_none bytes old new size bs h = let e : size * 0 ≡ 0 = omega arith in record { fresh = []; items = h ∙ sym (append-nil old); same = rw e refl }
 
-pub appended_more : {T : Type 0} {meaning : T → Row} {old mid new : List T} (rs : List Row) (start i : ℕ) (x : T) → start ≤ i → slice_get rs i ≡ Some (meaning x) → Appended meaning old mid (take (i - start) (drop start rs)) → new ≡ mid ++ x ∷ [] → Appended meaning old new (take (i + 1 - start) (drop start rs))
-appended_more {T} {meaning} {old} {mid} {new} rs start i x l h a e =
-    let d = slice_get-drop start rs i (i - start) (meaning x) (omega arith) h in
-    let t = take-suc_get (i - start) (drop start rs) (meaning x) d in
-    let k : suc (i - start) ≡ i + 1 - start = omega arith in
+pub appended_more : {T : Type 0} {bytes : T → List ℕ} {old mid new : List T} (size i : ℕ) (x : T) (bs : List ℕ) → bytes x ≡ take size (drop (size * i) bs) → Appended bytes old mid (take (size * i) bs) → new ≡ mid ++ x ∷ [] → Appended bytes old new (take (size * (i + 1)) bs)
+appended_more {T} {bytes} {old} size i x bs h a e =
     record {
       fresh = a.fresh ++ x ∷ [];
       items = e ∙ (rw a.items (append_assoc old a.fresh (x ∷ [])));
-      means = rw (map-append, a.means, ← k) (sym t);
+      same = read_more bytes size i a.fresh (a.fresh ++ x ∷ []) x bs a.same h refl;
     }
 
--- cut back to the old length
-pub appended_back : {T : Type 0} {meaning : T → Row} {old mid : List T} {rs : List Row} (n : ℕ) → Appended meaning old mid rs → n ≡ length old → take n mid ≡ old
-appended_back {T} {meaning} {old} {mid} n a e = rw (a.items, e) (take-append_seam old a.fresh)
+-- all bytes are read, and none stood before
+pub appended_all : {T : Type 0} {bytes : T → List ℕ} {old new : List T} {bs : List ℕ} → old ≡ [] → Appended bytes old new bs → flat_map bytes new ≡ bs
+appended_all {T} {bytes} e a = rw (a.items, e) a.same
 
 -- the rows of a range of elements
 pub piece_means : {T : Type 0} {size : ℕ} {bytes : T → List ℕ} {row_of : List ℕ → Row} {meaning : T → Row} → IsElement size bytes row_of meaning → (xs ys : List T) (start n : ℕ) → ys ≡ take n (drop start xs) → map meaning ys ≡ take n (drop start (elements_rows size row_of (elements bytes xs)))

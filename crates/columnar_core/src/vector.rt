@@ -1,5 +1,5 @@
 //! Columns of elements in a `Vec`, as containers.
-ghost use Rattle.std.specs.Prelude.{◌≡◌, ◌+◌, ◌-◌, ◌*◌, ◌%◌, ◌<◌, ◌≤◌, ◌++◌, length, take, drop, OnOk, OnErr, IfOk, IfErr, refl};
+ghost use Rattle.std.specs.Prelude.{◌≡◌, ◌+◌, ◌-◌, ◌*◌, ◌%◌, ◌<◌, ◌≤◌, ◌/◌, ◌++◌, length, vec_len, vec_capacity, take, drop, OnOk, OnErr, IfOk, IfErr, refl};
 ghost use Rattle.std.specs.List.{flat_map};
 ghost use Rattle.columnar_base.specs.Format.{IsSound};
 ghost use Rattle.columnar_base.specs.Elements.{elements, elements_format, elements_rows};
@@ -30,31 +30,27 @@ pub(crate) fn append_typed<T: Element>(column: &mut Vec<T>, items: &[T]) -> Resu
     Ok(())
 }
 
-// Appends the rows start..end of a view, or none of them.
-fn append_rows<'x, T: Element>(
-    column: &mut Vec<T>,
-    view: View<'x, T>,
-    start: usize,
-    end: usize,
-) -> Result<(), GrowError>
-    requires view_sound { IsSound (elements_format T.size T.align T.row_of) (⟦<View<'x, T> as Column>⟧.content view) }
-    requires ordered { start ≤ end }
-    requires in_range { end ≤ length (elements_rows T.size T.row_of (⟦<View<'x, T> as Column>⟧.content view)) }
-    ensures ok { OnOk result (Appended T.meaning column.old.items column.new.items (take (end - start) (drop start (elements_rows T.size T.row_of (⟦<View<'x, T> as Column>⟧.content view.entry))))) }
+// Appends the elements that the bytes are; there is room for them.
+#[inline]
+fn read_all<T: Element>(column: &mut Vec<T>, bytes: &[u8])
+    requires whole { length bytes.now % T.size ≡ 0 }
+    requires room { vec_len column.old + length bytes.now / T.size ≤ vec_capacity column.old }
+    ensures { Appended T.le_bytes column.old.items column.new.items bytes.now }
+{
+    for i in 0..count_in::<T>(bytes) {
+        column.push_reserved(element_in(bytes, i));
+    }
+}
+
+// Appends the elements that the bytes are; want of memory refuses all of them.
+fn append_bytes<T: Element>(column: &mut Vec<T>, bytes: &[u8]) -> Result<(), GrowError>
+    requires { length bytes.now % T.size ≡ 0 }
+    ensures ok { OnOk result (Appended T.le_bytes column.old.items column.new.items bytes.now) }
     ensures err { OnErr result (column.new.items ≡ column.old.items) }
     ensures memory { IfErr result (λ e. e ≡ GrowError.Memory) }
 {
-    column.reserve(end - start)?;
-    let before = column.as_slice().len();
-    for i in start..end {
-        match column.push(view.get(i)) {
-            Ok(()) => {}
-            Err(_) => {
-                column.truncate(before);
-                return Err(GrowError::Memory);
-            }
-        }
-    }
+    column.reserve(count_in::<T>(bytes))?;
+    read_all(column, bytes);
     Ok(())
 }
 
@@ -68,11 +64,9 @@ impl<'x, T: Viewed + 'x> ExtendFrom<View<'x, T>> for Vec<T> {
         view: View<'x, T>,
         range: Range<usize>,
     ) -> Result<(), GrowError> {
-        match view.items() {
-            Items::Typed(items) => {
-                append_typed(self, elements_between(items, range.start, range.end))
-            }
-            Items::Bytes(_) => append_rows(self, view, range.start, range.end),
+        match view.part(range.start, range.end).items() {
+            Items::Typed(items) => append_typed(self, items),
+            Items::Bytes(bytes) => append_bytes(self, bytes),
         }
     }
 }
@@ -216,12 +210,8 @@ fn elements_of<T: Element>(alloc: Global, bytes: &[u8]) -> Result<Vec<T>, GrowEr
     ensures elements { IfOk result (λ v. flat_map T.le_bytes v.items ≡ bytes.now) }
     ensures memory { IfErr result (λ e. e ≡ GrowError.Memory) }
 {
-    let count = count_in::<T>(bytes);
-    let mut column = Vec::new(alloc);
-    column.reserve(count)?;
-    for i in 0..count {
-        column.push(element_in(bytes, i))?;
-    }
+    let mut column = Vec::with_capacity(alloc, count_in::<T>(bytes))?;
+    read_all(&mut column, bytes);
     Ok(column)
 }
 

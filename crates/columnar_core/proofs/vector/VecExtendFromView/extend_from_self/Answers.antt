@@ -1,23 +1,22 @@
-use Rattle.std.proofs.Common.{◌-◌, ◌≤◌, length, take, drop, sym, subst}
+use Rattle.std.proofs.Common.{◌∙◌, sym, ap, subst}
 use Rattle.std.proofs.lemmas.Result.{on_ok_weaker}
-use Rattle.columnar_base.specs.Format.{Content}
-use Rattle.columnar_base.specs.Elements.{elements, elements_format, elements_rows}
-use Rattle.columnar_base.specs.Change.{Copied}
-use Rattle.columnar_base.specs.ElementLaws.{length-typed, elements_copied}
-use Rattle.columnar_core.specs.Appended.{piece_means}
+use Rattle.columnar_base.specs.Format.{Content, IsSound, slice}
+use Rattle.columnar_base.specs.Elements.{elements_format, elements_rows}
+use Rattle.columnar_base.specs.ElementLaws.{rows_typed, elements_copied, whole_slice}
 use Rattle.columnar_core.proofs.vector.VecExtendFromView.extend_from_self.Goals as goal
 
-pub elements_between-requires-clause-in_range : goal.elements_between-requires-clause-in_range
-elements_between-requires-clause-in_range g c =
-    let P : Content → Type 0 = λ x. c.args.range.«end» ≤ length (elements_rows g.T.Element.size g.T.Element.row_of x) in
-    rw (length-typed g.met.T.Element.element c.in-Typed.items.now) at (subst P (sym c.in-Typed.ensures) c.requires.in_range)
+pub append_bytes-requires : goal.append_bytes-requires
+append_bytes-requires g c =
+    let P : Content → Type 0 = λ x. IsSound (elements_format g.T.Element.size g.T.Element.align g.T.Element.row_of) x in
+    whole_slice g.T.Element.size g.T.Element.row_of c.in-Bytes.bytes.now (subst P (sym c.in-Bytes.ensures) c.part.ensures.sound)
 
 pub returns-in-Typed-clause-ok : goal.returns-in-Typed-clause-ok
 returns-in-Typed-clause-ok g c =
-    let n = c.args.range.«end» - c.args.range.start in
-    let P : Content → Type 0 = λ x. Copied (elements_format g.T.Element.size g.T.Element.align g.T.Element.row_of) (elements g.T.Element.le_bytes c.args.self.now.items) (elements g.T.Element.le_bytes c.append_typed.new.column.items) c.args.range.start (take n (drop c.args.range.start (elements_rows g.T.Element.size g.T.Element.row_of x))) in
-    on_ok_weaker c.append_typed.result (λ e. subst P c.in-Typed.ensures (rw e (elements_copied g.met.T.Element.element c.args.self.now.items c.elements_between.result.now c.args.range.start (take n (drop c.args.range.start (elements_rows g.T.Element.size g.T.Element.row_of (elements g.T.Element.le_bytes c.in-Typed.items.now)))) (piece_means g.met.T.Element.element c.in-Typed.items.now c.elements_between.result.now c.args.range.start n c.elements_between.ensures)))) c.append_typed.ensures.ok
+    let m = sym (rows_typed g.met.T.Element.element c.in-Typed.items.now) ∙ ap (elements_rows g.T.Element.size g.T.Element.row_of) c.in-Typed.ensures ∙ c.part.ensures.rows in
+    on_ok_weaker c.append_typed.result (λ e. rw e (elements_copied g.met.T.Element.element c.args.self.now.items c.in-Typed.items.now c.args.range.start _ m)) c.append_typed.ensures.ok
 
 pub returns-in-Bytes-clause-ok : goal.returns-in-Bytes-clause-ok
 returns-in-Bytes-clause-ok g c =
-    on_ok_weaker c.append_rows.result (λ a. rw a.items (elements_copied g.met.T.Element.element c.args.self.now.items a.fresh c.args.range.start _ a.means)) c.append_rows.ensures.ok
+    on_ok_weaker c.append_bytes.result (λ a.
+    let m = sym (rows_typed g.met.T.Element.element a.fresh) ∙ ap (elements_rows g.T.Element.size g.T.Element.row_of) (ap slice a.same ∙ c.in-Bytes.ensures) ∙ c.part.ensures.rows in
+    rw a.items (elements_copied g.met.T.Element.element c.args.self.now.items a.fresh c.args.range.start _ m)) c.append_bytes.ensures.ok

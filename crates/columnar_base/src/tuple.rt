@@ -1,6 +1,8 @@
 //! Tuples of columns of one length, side by side: a column of tuples.
+ghost use Rattle.std.specs.Prelude.{◌≡◌, ◌≤◌, length};
 ghost use Rattle.columnar_base.specs.Row.{tuple};
-ghost use Rattle.columnar_base.specs.Format.{both};
+ghost use Rattle.columnar_base.specs.Format.{IsSound, both};
+ghost use Rattle.columnar_base.specs.Change.{WasCut};
 ghost use Rattle.columnar_base.specs.Tuples.{pair_format};
 ghost use Rattle.columnar_base.specs.TupleLaws.{pair_lawful};
 
@@ -84,23 +86,35 @@ impl<A: Reserve, B: Reserve> Reserve for (A, B) {
 
 /// A pair takes what can be pushed into it: tuples of items of its parts, by value and by reference.
 impl<P: PushInto<(A, B)>, A: Column, B: Column> Push<P> for (A, B) {
+    #[inline(always)]
     fn push(&mut self, item: P) -> Result<(), GrowError> {
         item.push_into(self)
     }
 }
 
+// Cuts a part to its first `rows` rows, since the other part refused one; the error is given back.
+#[cold]
+#[inline(never)]
+fn taken_back<A: Truncate>(part: &mut A, rows: usize, error: GrowError) -> GrowError
+    requires sound { IsSound A.format (A.content part.old) }
+    requires in_range { rows ≤ length (A.format.rows (A.content part.old)) }
+    ensures cut { WasCut A.format (A.content part.old) (A.content part.new) rows }
+    ensures error { result ≡ error }
+{
+    part.truncate(rows);
+    error
+}
+
 /// Each part takes its own of the item. Where one of them refuses it, neither has taken any.
 impl<S: Item, T: Item + Drop, A: Truncate + Push<S>, B: Push<T>> PushInto<(A, B)> for (S, T) {
+    #[inline(always)]
     fn push_into(self, column: &mut (A, B)) -> Result<(), GrowError> {
         let before = column.0.len();
         let (first, second) = self;
         column.0.push(first)?;
         match column.1.push(second) {
             Ok(()) => Ok(()),
-            Err(error) => {
-                column.0.truncate(before);
-                Err(error)
-            }
+            Err(error) => Err(taken_back(&mut column.0, before, error)),
         }
     }
 }
@@ -108,21 +122,20 @@ impl<S: Item, T: Item + Drop, A: Truncate + Push<S>, B: Push<T>> PushInto<(A, B)
 /// The parts of the item are pushed by reference.
 impl<'x, S: Item, T: Item, A: Truncate + PushRef<S>, B: PushRef<T>> PushInto<(A, B)>
     for &'x (S, T) {
+    #[inline(always)]
     fn push_into(self, column: &mut (A, B)) -> Result<(), GrowError> {
         column.push_ref(self)
     }
 }
 
 impl<S: Item, T: Item, A: Truncate + PushRef<S>, B: PushRef<T>> PushRef<(S, T)> for (A, B) {
+    #[inline(always)]
     fn push_ref(&mut self, item: &(S, T)) -> Result<(), GrowError> {
         let rows = self.0.len();
         self.0.push_ref(&item.0)?;
         match self.1.push_ref(&item.1) {
             Ok(()) => Ok(()),
-            Err(error) => {
-                self.0.truncate(rows);
-                Err(error)
-            }
+            Err(error) => Err(taken_back(&mut self.0, rows, error)),
         }
     }
 }

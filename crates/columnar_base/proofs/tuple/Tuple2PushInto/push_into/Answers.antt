@@ -19,4 +19,4 @@ pub returns-in-Ok-clause-ok : goal.returns-in-Ok-clause-ok
 returns-in-Ok-clause-ok g c = pair_took g.A.Column.format g.B.Column.format c.requires.sound refl c.in_ok-push.ensures.ok c.in-Ok.ensures.ok
 
 pub returns-in-Err-clause-err : goal.returns-in-Err-clause-err
-returns-in-Err-clause-err g c = pair_refused_right g.A.Column.format g.B.Column.format (g.S.Item.meaning c.args.self.0 ∷ []) (g.T.Item.meaning c.args.self.1 ∷ []) c.requires.sound refl (undone g.met.A.Truncate.lawful (pair_parts g.A.Column.format g.B.Column.format c.requires.sound).left c.in_ok-push.ensures.ok.grew (rw c.len-before.ensures at c.truncate.ensures)) c.in-Err.ensures.err
+returns-in-Err-clause-err g c = rw c.taken_back.ensures.error (pair_refused_right g.A.Column.format g.B.Column.format (g.S.Item.meaning c.args.self.0 ∷ []) (g.T.Item.meaning c.args.self.1 ∷ []) c.requires.sound refl (undone g.met.A.Truncate.lawful (pair_parts g.A.Column.format g.B.Column.format c.requires.sound).left c.in_ok-push.ensures.ok.grew (rw c.len-before.ensures at c.taken_back.ensures.cut)) c.in-Err.ensures.err)

@@ -1,4 +1,3 @@
-use Rattle.std.proofs.Common.{◌+◌}
 use Rattle.columnar_base.specs.TwoParts.{representable_left, representable_right, judged_part_at}
 use Rattle.columnar_base.specs.TupleLaws.{pair_two}
 use Rattle.columnar_base.specs.Faults.{fault_of}

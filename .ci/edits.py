@@ -401,7 +401,7 @@ def main(words):
     running = {}
 
     def work(name, needs, libraries):
-        crate = Crate(name, needs, libraries, lambda: max(1, (cores if not log or log.has_ended else cores * 3 // 4) // max(1, len(running))))
+        crate = Crate(name, needs, libraries, lambda: max(1, (cores if not log or log.has_ended else cores // 2) // max(1, len(running))))
         crate.paths = log.paths.get(name, []) if log else []
         counts = 0, len(edits_of(name))
         times.note(name, "edits")
@@ -432,7 +432,7 @@ def main(words):
                     say(f"edits of {name}: not tried: rt ci has not proved it")
                     totals[1] += len(edits_of(name))
                     del left[name]
-                elif len(running) < (cores if not log or log.has_ended else max(1, cores * 3 // 4)) and (not log or name in log.proved):
+                elif len(running) < (cores if not log or log.has_ended else max(1, cores // 2)) and (not log or name in log.proved):
                     libraries = (lambda _: room) if log else (lambda it: f"{ROOT}/crates/{it}/out/rlib")
                     running[name] = threading.Thread(target=work, args=(name, needs, libraries), daemon=True)
                     running[name].start()

@@ -1,11 +1,12 @@
 use Rattle.std.proofs.Common.{◌≡◌, ℕ, zero, suc, ◌+◌, ◌<◌, ◌≤◌, List, [], ◌∷◌, ◌++◌, map, length, refl, sym, ◌∙◌, ap, arith}
-use Rattle.std.specs.Prelude.{sum}
+use Rattle.std.specs.Prelude.{sum, sum_by}
+use Rattle.std.proofs.lemmas.List.Sums.{sum_by-cons, sum-map}
 use Rattle.columnar_nested.specs.Forest.{Node, beside, in_line, levels, level_order}
 use Rattle.columnar_nested.specs.Layout.{values_of}
 use Rattle.columnar_nested.specs.ForestLaws.{levels-joined}
 use Rattle.columnar_nested.specs.TreeValues.{node_of, trees_as_forest, in_order, values_in}
 use Rattle.columnar_nested.specs.Push.{in_order-step, as_forest-append, node_of-out}
-use Rattle.columnar_nested.specs.Weights.{total, weight, count}
+use Rattle.columnar_nested.specs.Weights.{total, weight, count, value_sum}
 use Rattle.columnar_nested.specs.declared.tree.Tree.{Tree}
 use Rattle.columnar_nested.specs.declared.tree.Tree.TheViews.{out-Tree}
 
@@ -87,3 +88,103 @@ queue_left T t u todo us rest e f =
     let k = ap count e in
     let m = ap count f in
     omega (arith, s, k, m)
+
+-- ---- sums of values
+
+sum_by-total : {X : Type 0} (h : X → ℕ) (xs : List X) → sum_by h xs ≡ total h xs
+sum_by-total h [] = refl
+sum_by-total h (x ∷ xs) = sum_by-cons h x xs ∙ ap (λ n. h x + n) (sum_by-total h xs)
+
+-- the sum of the values of a tree, level by level
+pub sum_is : (t : Tree ℕ) → sum (values_in t) ≡ value_sum (t ∷ [])
+sum_is t = sum-map (λ n. n.value) (in_order (λ x. x) (t ∷ [])) ∙ sum_by-total (λ n. n.value) (in_order (λ x. x) (t ∷ []))
+
+pub sum-step : (t : Tree ℕ) (ts : List (Tree ℕ)) → value_sum (t ∷ ts) ≡ (out-Tree ℕ t).value + (value_sum (out-Tree ℕ t).kids.items + value_sum ts)
+sum-step t ts =
+    let e = weight-step ℕ (λ n. n.value) t ts in
+    let v : (node_of (λ x. x) t).value ≡ (out-Tree ℕ t).value = ap (λ n. n.value) (node_of-out ℕ ℕ (λ x. x) t) in
+    omega (arith, e, v)
+
+pub sum-first : (t : Tree ℕ) (ts : List (Tree ℕ)) → value_sum (t ∷ ts) ≡ value_sum (t ∷ []) + value_sum ts
+sum-first t ts = weight-append ℕ (λ n. n.value) (t ∷ []) ts
+
+pub total-push : {X : Type 0} (h : X → ℕ) (xs : List X) (x : X) → total h (xs ++ x ∷ []) ≡ total h xs + h x
+total-push h xs x = let e = total-append h xs (x ∷ []) in omega (arith, e)
+
+-- where the loop stands that sums a tree: the trees `rest` come next, and then those on the stack
+pub record IsSummed (self : Tree ℕ) (sum : ℕ) (rest : List (Tree ℕ)) (later_sum later_count : ℕ) : Type 0 where
+  pub summed : sum + (value_sum rest + later_sum) ≡ value_sum (self ∷ [])
+  pub fewer : count rest + later_count < count (self ∷ [])
+
+pub summed_start : (t : Tree ℕ) (v : ℕ) (kids : List (Tree ℕ)) → v ≡ (out-Tree ℕ t).value → kids ≡ (out-Tree ℕ t).kids.items → IsSummed t v kids 0 0
+summed_start t v kids e f =
+    let s = sum-step t [] in
+    let c = count-step ℕ t [] in
+    let k = ap value_sum f in
+    let n = ap count f in
+    record { summed = omega (arith, e, s, k); fewer = omega (arith, c, n) }
+
+-- a node is met, and its kids come next
+pub summed_kids : (self node : Tree ℕ) (sum : ℕ) (rest later : List (Tree ℕ)) (a b : ℕ) {next : List (Tree ℕ)} {p a' b' more : ℕ} → IsSummed self sum rest a b → rest ≡ node ∷ later → next ≡ (out-Tree ℕ node).kids.items → p ≡ (out-Tree ℕ node).value → a' ≡ a + value_sum later → b' ≡ b + count later → more ≡ sum + p → IsSummed self more next a' b'
+summed_kids self node sum rest later a b {next} {p} {a'} {b'} {more} i e n v f g m =
+    let s = sum-step node later in
+    let c = count-step ℕ node later in
+    let k = ap value_sum n in
+    let o = ap count n in
+    let r = ap value_sum e in
+    let q = ap count e in
+    record { summed = omega (arith, i.summed, s, k, r, v, f, m); fewer = omega (arith, i.fewer, c, o, q, g) }
+
+-- a node is summed by itself, and its later siblings come next
+pub summed_later : (self node : Tree ℕ) (sum : ℕ) (rest later : List (Tree ℕ)) (a b : ℕ) {p more : ℕ} → IsSummed self sum rest a b → rest ≡ node ∷ later → p ≡ value_sum (node ∷ []) → more ≡ sum + p → IsSummed self more later a b
+summed_later self node sum rest later a b {p} {more} i e v m =
+    let s = sum-first node later in
+    let c = count-first ℕ node later in
+    let r = ap value_sum e in
+    let q = ap count e in
+    record { summed = omega (arith, i.summed, s, r, v, m); fewer = omega (arith, i.fewer, c, q) }
+
+-- a part is no more than the whole
+pub summed_within : (self node : Tree ℕ) (sum : ℕ) (rest later : List (Tree ℕ)) (a b : ℕ) → IsSummed self sum rest a b → rest ≡ node ∷ later → sum + value_sum (node ∷ []) ≤ value_sum (self ∷ [])
+summed_within self node sum rest later a b i e =
+    let s = sum-first node later in
+    let r = ap value_sum e in
+    omega (arith, i.summed, s, r)
+
+pub value_within : (node : Tree ℕ) → (out-Tree ℕ node).value ≤ value_sum (node ∷ [])
+value_within node = let s = sum-step node [] in omega (arith, s)
+
+pub node_fewer : (self node : Tree ℕ) (sum : ℕ) (rest later : List (Tree ℕ)) (a b : ℕ) → IsSummed self sum rest a b → rest ≡ node ∷ later → count (node ∷ []) < count (self ∷ [])
+node_fewer self node sum rest later a b i e =
+    let c = count-first ℕ node later in
+    let q = ap count e in
+    omega (arith, i.fewer, c, q)
+
+-- nothing is left of these trees, and the last ones on the stack come next
+pub summed_pop : (self : Tree ℕ) (sum : ℕ) (rest next : List (Tree ℕ)) {a b a' b' : ℕ} → IsSummed self sum rest a b → length rest ≡ 0 → a ≡ a' + value_sum next → b ≡ b' + count next → IsSummed self sum next a' b'
+summed_pop self sum [] next i e f g = record { summed = omega (arith, i.summed, f); fewer = omega (arith, i.fewer, g) }
+summed_pop self sum (t ∷ ts) next i e f g = absurd (omega (arith, e))
+
+pub popped_fewer : (rest next : List (Tree ℕ)) (b b' m m' : ℕ) → length rest ≡ 0 → b ≡ b' + count next → m ≡ m' + 1 → (count next + b') + ((count next + b') + m') < (count rest + b) + ((count rest + b) + m)
+popped_fewer [] next b b' m m' e f g = omega (arith, f, g)
+popped_fewer (t ∷ ts) next b b' m m' e f g = absurd (omega (arith, e))
+
+-- nothing is left at all
+pub summed_all : {X : Type 0} (self : Tree ℕ) (sum : ℕ) (rest : List (Tree ℕ)) (f g : X → ℕ) (todo : List X) → IsSummed self sum rest (total f todo) (total g todo) → length rest ≡ 0 → length todo ≡ 0 → sum ≡ value_sum (self ∷ [])
+summed_all self sum [] f g [] i e h = omega (arith, i.summed)
+summed_all self sum (t ∷ ts) f g todo i e h = absurd (omega (arith, e))
+summed_all self sum [] f g (x ∷ xs) i e h = absurd (omega (arith, h))
+
+-- the kids of a node come next: it is met no more
+pub kids_fewer : (node : Tree ℕ) (rest later next : List (Tree ℕ)) (b b' m m' : ℕ) → rest ≡ node ∷ later → next ≡ (out-Tree ℕ node).kids.items → b' ≡ b + count later → m' ≤ m + 1 → (count next + b') + ((count next + b') + m') < (count rest + b) + ((count rest + b) + m)
+kids_fewer node rest later next b b' m m' e n f l =
+    let c = count-step ℕ node later in
+    let o = ap count n in
+    let q = ap count e in
+    omega (arith, c, o, q, f, l)
+
+pub later_fewer : (node : Tree ℕ) (rest later : List (Tree ℕ)) (b m : ℕ) → rest ≡ node ∷ later → (count later + b) + ((count later + b) + m) < (count rest + b) + ((count rest + b) + m)
+later_fewer node rest later b m e =
+    let c = count-step ℕ node later in
+    let q = ap count e in
+    omega (arith, c, q)

@@ -15,3 +15,7 @@ weight h ts = total h (in_order (λ x. x) ts)
 -- the number of nodes
 abbrev pub count : {T : Type 0} → List (Tree T) → ℕ
 count ts = weight (λ n. 1) ts
+
+-- the sum of the values of trees of numbers
+abbrev pub value_sum : List (Tree ℕ) → ℕ
+value_sum ts = weight (λ n. n.value) ts

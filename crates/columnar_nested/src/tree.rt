@@ -1,8 +1,11 @@
 //! Trees of values.
-ghost use Rattle.std.specs.Prelude.{◌≡◌, All};
+ghost use Rattle.std.specs.Prelude.{◌≡◌, ◌≤◌, ◌+◌, ◌^◌, ℕ, List, [], All, IfOk, OnErr, length, sum, true, false};
 ghost use Rattle.columnar_nested.specs.TreeValues.{tree_meaning, values_in};
+ghost use Rattle.columnar_nested.specs.Weights.{total};
+ghost use Rattle.columnar_nested.specs.declared.tree.Tree.{Tree};
 ghost use Rattle.columnar_nested.specs.declared.tree.Tree.TheViews.{out-Tree};
 
+use columnar_base::fault::SumError;
 use columnar_base::traits::Item;
 use std::collections::VecDeque;
 
@@ -50,6 +53,49 @@ impl<T: Drop> Drop for Tree<T> {
                 None => {
                     todo.destroy_empty();
                     return;
+                }
+            }
+        }
+    }
+}
+
+// Puts trees on the stack, if there are any and it has room for them: how much h they weigh is then added to it.
+fn keep<'a>(todo: &mut Vec<&'a [Tree<usize>]>, later: &'a [Tree<usize>]) -> bool
+    ensures kept { result ≡ true → (h : List (Tree ℕ) → ℕ) → h [] ≡ 0 → total (λ ts. h ts.now) todo.new.items ≡ total (λ ts. h ts.now) todo.old.items + h later.now }
+    ensures refused { result ≡ false → todo.new.items ≡ todo.old.items }
+    ensures longer { length todo.new.items ≤ length todo.old.items + 1 }
+{
+    later.is_empty() || todo.push(later).is_ok()
+}
+
+impl Tree<usize> {
+    /// The sum of all values; Overflow exactly where it passes the largest `usize`. It goes over the nodes by a stack of
+    /// its own; where memory for that is refused, it calls itself for a node that has later siblings.
+    pub fn sum(&self) -> Result<usize, SumError>
+        ensures ok { IfOk result (λ n. n ≡ sum (values_in self.now)) }
+        ensures err { OnErr result (2 ^ 64 ≤ sum (values_in self.now)) }
+    {
+        let mut todo: Vec<&[Tree<usize>]> = Vec::new(*self.kids.allocator());
+        let mut rest = self.kids.as_slice();
+        let mut sum = self.value;
+        loop {
+            match rest.split_first() {
+                None => match todo.pop() {
+                    Some(next) => rest = next,
+                    None => return Ok(sum),
+                },
+                Some((node, later)) => {
+                    let part = if keep(&mut todo, later) {
+                        rest = node.kids.as_slice();
+                        node.value
+                    } else {
+                        rest = later;
+                        node.sum()?
+                    };
+                    let Some(more) = sum.checked_add(part) else {
+                        return Err(SumError::Overflow);
+                    };
+                    sum = more;
                 }
             }
         }

@@ -25,7 +25,7 @@ use Rattle.columnar_nested.specs.declared.tree.Tree.TheViews.{out-Tree}
 pub took_count : {f : Format} {x y : Content} {us : List Row} → Took f x y us → length (f.rows y) ≡ length (f.rows x) + length us
 took_count {f} {x} {y} {us} g = ap length g.grew.rows ∙ (length-append (f.rows x) g.fresh ∙ omega (arith, alike_length f.alike g.fresh us g.alike))
 
-pub laid_start : {T : Type 0} (m : T → Row) {valid : T → Type 0} {v : Format} {old : Content} (before : List ℕ) {root : Tree T} {todo : List (Tree T)} → IsSound v old → All valid (values_in root) → todo ≡ root ∷ [] → Laid m valid v old old before before root todo
+pub laid_start : {T : Type 0} (m : T → Row) {valid : T → Type 0} {v : Format} {old : Content} (before : List ℕ) {root : Tree T} {waiting : List (Tree T)} → IsSound v old → All valid (values_in root) → waiting ≡ root ∷ [] → Laid m valid v old old before before root waiting
 laid_start m before s h e = record {
     taken = [];
     took = took_none s;
@@ -37,11 +37,11 @@ laid_start m before s h e = record {
   }
 
 -- one turn, for a node that is met with the trees `rest` behind it
-pub laid_more : (T : Type 0) (m : T → Row) {valid : T → Type 0} {v : Format} {old now next : Content} {before bounds bounds' : List ℕ} {root : Tree T} {todo todo' : List (Tree T)} (t : Tree T) (rest : List (Tree T)) (b : ℕ)
-  → Laid m valid v old now before bounds root todo → todo ≡ t ∷ rest → b ≡ (length (v.rows now) + length rest + 1) + length (out-Tree T t).kids.items → b < 2 ^ 64
-  → Took v now next (m (out-Tree T t).value ∷ []) → bounds' ≡ bounds ++ b ∷ [] → todo' ≡ rest ++ (out-Tree T t).kids.items
-  → Laid m valid v old next before bounds' root todo'
-laid_more T m {valid} {v} {old} {now} {next} {before} {bounds} {bounds'} {root} {todo} {todo'} t rest b l e h fit k f q =
+pub laid_more : (T : Type 0) (m : T → Row) {valid : T → Type 0} {v : Format} {old now next : Content} {before bounds bounds' : List ℕ} {root : Tree T} {waiting waiting' : List (Tree T)} (t : Tree T) (rest : List (Tree T)) (b : ℕ)
+  → Laid m valid v old now before bounds root waiting → waiting ≡ t ∷ rest → b ≡ (length (v.rows now) + length rest + 1) + length (out-Tree T t).kids.items → b < 2 ^ 64
+  → Took v now next (m (out-Tree T t).value ∷ []) → bounds' ≡ bounds ++ b ∷ [] → waiting' ≡ rest ++ (out-Tree T t).kids.items
+  → Laid m valid v old next before bounds' root waiting'
+laid_more T m {valid} {v} {old} {now} {next} {before} {bounds} {bounds'} {root} {waiting} {waiting'} t rest b l e h fit k f q =
     let tv = turn_values T Row m t rest in
     let tb = turn_bounds T Row m t rest (length (v.rows now)) b h in
     let n : length (v.rows next) ≡ length (v.rows now) + 1 = took_count k in
@@ -53,7 +53,7 @@ laid_more T m {valid} {v} {old} {now} {next} {before} {bounds} {bounds'} {root} 
       taken = l.taken ++ m (out-Tree T t).value ∷ [];
       took = took_twice l.took k;
       values = ap (λ ts. (l.taken ++ m (out-Tree T t).value ∷ []) ++ added_values m ts) q ∙ (append_assoc l.taken (m (out-Tree T t).value ∷ []) (added_values m (rest ++ (out-Tree T t).kids.items)) ∙ (ap (λ vs. l.taken ++ vs) (sym tv) ∙ p1));
-      ends = ap (λ bs. bs ++ added_bounds m (length (v.rows next)) todo') (ap (λ bs. words_in (le_bytes bs)) f ∙ words_pushed bounds b fit)
+      ends = ap (λ bs. bs ++ added_bounds m (length (v.rows next)) waiting') (ap (λ bs. words_in (le_bytes bs)) f ∙ words_pushed bounds b fit)
         ∙ (ap (λ ts. (words_in (le_bytes bounds) ++ b ∷ []) ++ added_bounds m (length (v.rows next)) ts) q
         ∙ (ap (λ i. (words_in (le_bytes bounds) ++ b ∷ []) ++ added_bounds m i (rest ++ (out-Tree T t).kids.items)) n
         ∙ (append_assoc (words_in (le_bytes bounds)) (b ∷ []) (added_bounds m (length (v.rows now) + 1) (rest ++ (out-Tree T t).kids.items)) ∙ (ap (λ bs. words_in (le_bytes bounds) ++ bs) (sym tb) ∙ p2))));
@@ -63,23 +63,23 @@ laid_more T m {valid} {v} {old} {now} {next} {before} {bounds} {bounds'} {root} 
     }
 
 -- its value may be pushed
-pub laid_valid : (T : Type 0) {m : T → Row} {valid : T → Type 0} {v : Format} {old now : Content} {before bounds : List ℕ} {root : Tree T} {todo : List (Tree T)} (t : Tree T) (rest : List (Tree T)) → Laid m valid v old now before bounds root todo → todo ≡ t ∷ rest → valid (out-Tree T t).value
+pub laid_valid : (T : Type 0) {m : T → Row} {valid : T → Type 0} {v : Format} {old now : Content} {before bounds : List ℕ} {root : Tree T} {waiting : List (Tree T)} (t : Tree T) (rest : List (Tree T)) → Laid m valid v old now before bounds root waiting → waiting ≡ t ∷ rest → valid (out-Tree T t).value
 laid_valid T {valid = valid} t rest l e =
     let a : All valid ((out-Tree T t).value ∷ added_values (λ x. x) (rest ++ (out-Tree T t).kids.items)) = subst (All valid) (ap (added_values (λ x. x)) e ∙ turn_values T T (λ x. x) t rest) l.valid_left in
     a 0 (out-Tree T t).value (omega arith)
 
 -- nothing is pending
-pub laid_values : {T : Type 0} {m : T → Row} {valid : T → Type 0} {v : Format} {old now : Content} {before bounds : List ℕ} {root : Tree T} {todo : List (Tree T)} → Laid m valid v old now before bounds root todo → todo ≡ [] → Took v old now (added_values m (root ∷ []))
+pub laid_values : {T : Type 0} {m : T → Row} {valid : T → Type 0} {v : Format} {old now : Content} {before bounds : List ℕ} {root : Tree T} {waiting : List (Tree T)} → Laid m valid v old now before bounds root waiting → waiting ≡ [] → Took v old now (added_values m (root ∷ []))
 laid_values {m = m} {v = v} {old = old} {now = now} {root = root} l e =
     let h : l.taken ≡ added_values m (root ∷ []) = sym (append-nil l.taken) ∙ (ap (λ ts. l.taken ++ added_values m ts) (sym e) ∙ l.values) in
     subst (λ vs. Took v old now vs) h l.took
 
-pub laid_bounds : {T : Type 0} {m : T → Row} {valid : T → Type 0} {v : Format} {old now : Content} {before bounds : List ℕ} {root : Tree T} {todo : List (Tree T)} → Laid m valid v old now before bounds root todo → todo ≡ [] → words_in (le_bytes bounds) ≡ words_in (le_bytes before) ++ added_bounds m (length (v.rows old)) (root ∷ [])
+pub laid_bounds : {T : Type 0} {m : T → Row} {valid : T → Type 0} {v : Format} {old now : Content} {before bounds : List ℕ} {root : Tree T} {waiting : List (Tree T)} → Laid m valid v old now before bounds root waiting → waiting ≡ [] → words_in (le_bytes bounds) ≡ words_in (le_bytes before) ++ added_bounds m (length (v.rows old)) (root ∷ [])
 laid_bounds {m = m} {v = v} {now = now} {bounds = bounds} l e = sym (append-nil (words_in (le_bytes bounds))) ∙ (ap (λ ts. words_in (le_bytes bounds) ++ added_bounds m (length (v.rows now)) ts) (sym e) ∙ l.ends)
 
 -- a value is refused
-pub laid_refused : (T : Type 0) (m : T → Row) {valid : T → Type 0} {v : Format} {old now : Content} {before bounds : List ℕ} (y : Content) (root : Tree T) {todo : List (Tree T)} (t : Tree T) (rest : List (Tree T)) (error : GrowError) → IsLawful v
-  → Laid m valid v old now before bounds root todo → todo ≡ t ∷ rest → IsTrueOf error v now (m (out-Tree T t).value ∷ []) → IsTrueOf error (nodes_format v) (both y old) (added_values m (root ∷ []))
+pub laid_refused : (T : Type 0) (m : T → Row) {valid : T → Type 0} {v : Format} {old now : Content} {before bounds : List ℕ} (y : Content) (root : Tree T) {waiting : List (Tree T)} (t : Tree T) (rest : List (Tree T)) (error : GrowError) → IsLawful v
+  → Laid m valid v old now before bounds root waiting → waiting ≡ t ∷ rest → IsTrueOf error v now (m (out-Tree T t).value ∷ []) → IsTrueOf error (nodes_format v) (both y old) (added_values m (root ∷ []))
 laid_refused T m {valid} {v} {old} {now} y root t rest error law l e c =
     let tv = turn_values T Row m t rest in
     let p : (l.taken ++ m (out-Tree T t).value ∷ []) ++ added_values m (rest ++ (out-Tree T t).kids.items) ≡ added_values m (root ∷ []) =
@@ -99,8 +99,8 @@ as_many T m ts =
     omega (arith, c, o, a, r, w)
 
 -- the next bound would not fit, so there would be too many bounds
-pub laid_too_long : (T : Type 0) (m : T → Row) {valid : T → Type 0} {v : Format} {old now : Content} {before bounds : List ℕ} (y : Content) (root : Tree T) {todo : List (Tree T)} (t : Tree T) (rest : List (Tree T))
-  → Laid m valid v old now before bounds root todo → todo ≡ t ∷ rest → 2 ^ 64 ≤ (length (v.rows now) + length rest + 1) + length (out-Tree T t).kids.items → refuses_more (nodes_format v) too_many (both y old) (added_values m (root ∷ [])) ≡ true
+pub laid_too_long : (T : Type 0) (m : T → Row) {valid : T → Type 0} {v : Format} {old now : Content} {before bounds : List ℕ} (y : Content) (root : Tree T) {waiting : List (Tree T)} (t : Tree T) (rest : List (Tree T))
+  → Laid m valid v old now before bounds root waiting → waiting ≡ t ∷ rest → 2 ^ 64 ≤ (length (v.rows now) + length rest + 1) + length (out-Tree T t).kids.items → refuses_more (nodes_format v) too_many (both y old) (added_values m (root ∷ [])) ≡ true
 laid_too_long T m {valid} {v} {old} {now} y root t rest l e h =
     let n = took_count l.took in
     let tv = ap length (turn_values T Row m t rest) in

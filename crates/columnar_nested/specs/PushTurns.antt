@@ -8,11 +8,11 @@ use Rattle.columnar_nested.specs.TreeValues.{added_values, added_bounds}
 use Rattle.columnar_nested.specs.declared.tree.Tree.{Tree}
 
 -- Some values were taken, and what is pending would add the others; so it is with the bounds.
-pub record Laid {T : Type 0} (m : T → Row) (valid : T → Type 0) (v : Format) (old now : Content) (before bounds : List ℕ) (root : Tree T) (todo : List (Tree T)) : Type 0 where
+pub record Laid {T : Type 0} (m : T → Row) (valid : T → Type 0) (v : Format) (old now : Content) (before bounds : List ℕ) (root : Tree T) (waiting : List (Tree T)) : Type 0 where
   pub taken : List Row
   pub took : Took v old now taken
-  pub values : taken ++ added_values m todo ≡ added_values m (root ∷ [])
-  pub ends : words_in (le_bytes bounds) ++ added_bounds m (length (v.rows now)) todo ≡ words_in (le_bytes before) ++ added_bounds m (length (v.rows old)) (root ∷ [])
+  pub values : taken ++ added_values m waiting ≡ added_values m (root ∷ [])
+  pub ends : words_in (le_bytes bounds) ++ added_bounds m (length (v.rows now)) waiting ≡ words_in (le_bytes before) ++ added_bounds m (length (v.rows old)) (root ∷ [])
   pub kept : take (length before) bounds ≡ before
   pub longer : length before ≤ length bounds
-  pub valid_left : All valid (added_values (λ x. x) todo)
+  pub valid_left : All valid (added_values (λ x. x) waiting)

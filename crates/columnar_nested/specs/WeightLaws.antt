@@ -50,9 +50,9 @@ pub count-first : (T : Type 0) (t : Tree T) (ts : List (Tree T)) → count (t �
 count-first T t ts = count-append T (t ∷ []) ts
 
 -- steps of loops that go over nodes: all weigh at most n, and the kids of the one that is met go behind the others, or not
-pub kids_lighter : (T : Type 0) (t : Tree T) (todo us : List (Tree T)) {n : ℕ} → us ≡ (out-Tree T t).kids.items → count (t ∷ todo) ≤ n → count us < n
-kids_lighter T t todo us e l =
-    let s = count-step T t todo in
+pub kids_lighter : (T : Type 0) (t : Tree T) (waiting us : List (Tree T)) {n : ℕ} → us ≡ (out-Tree T t).kids.items → count (t ∷ waiting) ≤ n → count us < n
+kids_lighter T t waiting us e l =
+    let s = count-step T t waiting in
     let k = ap count e in
     omega (arith, s, k, l)
 
@@ -74,17 +74,17 @@ first_lighter T t ts us e l =
     let k = ap count e in
     omega (arith, s, k, l)
 
-pub queue_fewer : (T : Type 0) (t u : Tree T) (todo us rest : List (Tree T)) → us ≡ todo ++ (out-Tree T t).kids.items → us ≡ u ∷ rest → count (u ∷ rest) < count (t ∷ todo)
-queue_fewer T t u todo us rest e f =
-    let s = count-step T t todo in
-    let a = count-append T todo (out-Tree T t).kids.items in
+pub queue_fewer : (T : Type 0) (t u : Tree T) (waiting us rest : List (Tree T)) → us ≡ waiting ++ (out-Tree T t).kids.items → us ≡ u ∷ rest → count (u ∷ rest) < count (t ∷ waiting)
+queue_fewer T t u waiting us rest e f =
+    let s = count-step T t waiting in
+    let a = count-append T waiting (out-Tree T t).kids.items in
     let k = ap count e in
     let m = ap count f in
     omega (arith, s, a, k, m)
 
-pub queue_left : (T : Type 0) (t u : Tree T) (todo us rest : List (Tree T)) → us ≡ todo → us ≡ u ∷ rest → count (u ∷ rest) < count (t ∷ todo)
-queue_left T t u todo us rest e f =
-    let s = count-step T t todo in
+pub queue_left : (T : Type 0) (t u : Tree T) (waiting us rest : List (Tree T)) → us ≡ waiting → us ≡ u ∷ rest → count (u ∷ rest) < count (t ∷ waiting)
+queue_left T t u waiting us rest e f =
+    let s = count-step T t waiting in
     let k = ap count e in
     let m = ap count f in
     omega (arith, s, k, m)
@@ -170,9 +170,9 @@ popped_fewer [] next b b' m m' e f g = omega (arith, f, g)
 popped_fewer (t ∷ ts) next b b' m m' e f g = absurd (omega (arith, e))
 
 -- nothing is left at all
-pub summed_all : {X : Type 0} (self : Tree ℕ) (sum : ℕ) (rest : List (Tree ℕ)) (f g : X → ℕ) (todo : List X) → IsSummed self sum rest (total f todo) (total g todo) → length rest ≡ 0 → length todo ≡ 0 → sum ≡ value_sum (self ∷ [])
+pub summed_all : {X : Type 0} (self : Tree ℕ) (sum : ℕ) (rest : List (Tree ℕ)) (f g : X → ℕ) (waiting : List X) → IsSummed self sum rest (total f waiting) (total g waiting) → length rest ≡ 0 → length waiting ≡ 0 → sum ≡ value_sum (self ∷ [])
 summed_all self sum [] f g [] i e h = omega (arith, i.summed)
-summed_all self sum (t ∷ ts) f g todo i e h = absurd (omega (arith, e))
+summed_all self sum (t ∷ ts) f g waiting i e h = absurd (omega (arith, e))
 summed_all self sum [] f g (x ∷ xs) i e h = absurd (omega (arith, h))
 
 -- the kids of a node come next: it is met no more

@@ -38,20 +38,20 @@ impl<T> Tree<T> {
 /// Where memory for the queue is refused, the trees that found no place in it are dropped one by one.
 impl<T: Drop> Drop for Tree<T> {
     fn drop(mut self) {
-        let mut todo = VecDeque::new(*self.kids.allocator());
+        let mut waiting = VecDeque::new(*self.kids.allocator());
         loop {
             let Tree { value: _, kids } = self;
             let mut next = VecDeque::from_vec(kids);
-            if let Err(_) = todo.append(&mut next) {
+            if let Err(_) = waiting.append(&mut next) {
                 while let Some(kid) = next.pop_front() {
                     drop(kid);
                 }
             }
             next.destroy_empty();
-            match todo.pop_front() {
+            match waiting.pop_front() {
                 Some(node) => self = node,
                 None => {
-                    todo.destroy_empty();
+                    waiting.destroy_empty();
                     return;
                 }
             }
@@ -60,12 +60,12 @@ impl<T: Drop> Drop for Tree<T> {
 }
 
 // Puts trees on the stack, if there are any and it has room for them: how much h they weigh is then added to it.
-fn keep<'a>(todo: &mut Vec<&'a [Tree<usize>]>, later: &'a [Tree<usize>]) -> bool
-    ensures kept { result ≡ true → (h : List (Tree ℕ) → ℕ) → h [] ≡ 0 → total (λ ts. h ts.now) todo.new.items ≡ total (λ ts. h ts.now) todo.old.items + h later.now }
-    ensures refused { result ≡ false → todo.new.items ≡ todo.old.items }
-    ensures longer { length todo.new.items ≤ length todo.old.items + 1 }
+fn keep<'a>(waiting: &mut Vec<&'a [Tree<usize>]>, later: &'a [Tree<usize>]) -> bool
+    ensures kept { result ≡ true → (h : List (Tree ℕ) → ℕ) → h [] ≡ 0 → total (λ ts. h ts.now) waiting.new.items ≡ total (λ ts. h ts.now) waiting.old.items + h later.now }
+    ensures refused { result ≡ false → waiting.new.items ≡ waiting.old.items }
+    ensures longer { length waiting.new.items ≤ length waiting.old.items + 1 }
 {
-    later.is_empty() || todo.push(later).is_ok()
+    later.is_empty() || waiting.push(later).is_ok()
 }
 
 impl Tree<usize> {
@@ -75,17 +75,17 @@ impl Tree<usize> {
         ensures ok { IfOk result (λ n. n ≡ sum (values_in self.now)) }
         ensures err { OnErr result (2 ^ 64 ≤ sum (values_in self.now)) }
     {
-        let mut todo: Vec<&[Tree<usize>]> = Vec::new(*self.kids.allocator());
+        let mut waiting: Vec<&[Tree<usize>]> = Vec::new(*self.kids.allocator());
         let mut rest = self.kids.as_slice();
         let mut sum = self.value;
         loop {
             match rest.split_first() {
-                None => match todo.pop() {
+                None => match waiting.pop() {
                     Some(next) => rest = next,
                     None => return Ok(sum),
                 },
                 Some((node, later)) => {
-                    let part = if keep(&mut todo, later) {
+                    let part = if keep(&mut waiting, later) {
                         rest = node.kids.as_slice();
                         node.value
                     } else {

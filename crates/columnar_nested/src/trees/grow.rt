@@ -43,17 +43,17 @@ fn lay<T: Item + Drop, TC: PushRef<T> + Truncate>(
     ensures kept { take (length bounds.old.items) bounds.new.items ≡ bounds.old.items }
     ensures cause { IfErr result (λ e. IsTrueOf e (nodes_format TC.format) (both (slice (le_bytes bounds.old.items)) (TC.content values.old)) (added_values T.meaning (root ∷ []))) }
 {
-    let mut todo = VecDeque::new(*root.kids.allocator());
-    todo.push_back(root)?;
-    while let Some(node) = todo.pop_front() {
+    let mut waiting = VecDeque::new(*root.kids.allocator());
+    waiting.push_back(root)?;
+    while let Some(node) = waiting.pop_front() {
         let (value, kids) = node.into_parts();
-        let Some(bound) = bound_of(values.len(), todo.len(), kids.len()) else {
+        let Some(bound) = bound_of(values.len(), waiting.len(), kids.len()) else {
             return Err(GrowError::Length);
         };
         values.push_ref(&value)?;
         bounds.push(bound)?;
         let mut next = VecDeque::from_vec(kids);
-        todo.append(&mut next)?;
+        waiting.append(&mut next)?;
     }
     Ok(())
 }

@@ -12,7 +12,7 @@ abbrev pub decreases-loop-kid : goal.decreases-loop-kid
 decreases-loop-kid g l = count l.next.items
 
 abbrev pub invariant-loop-next : goal.invariant-loop-next
-invariant-loop-next g l = count (l.self ∷ l.todo.items) ≤ count (l.fn.self ∷ [])
+invariant-loop-next g l = count (l.self ∷ l.waiting.items) ≤ count (l.fn.self ∷ [])
 
 abbrev pub decreases-loop-next : goal.decreases-loop-next
-decreases-loop-next g l = count (l.self ∷ l.todo.items)
+decreases-loop-next g l = count (l.self ∷ l.waiting.items)

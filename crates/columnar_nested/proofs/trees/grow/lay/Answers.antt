@@ -13,7 +13,7 @@ pub returns-in_err-push_back-clause-begun : goal.returns-in_err-push_back-clause
 returns-in_err-push_back-clause-begun g c = ([], took_none c.requires.sound)
 
 pub loop-node-init : goal.loop-node-init
-loop-node-init g c = laid_start g.T.Item.meaning c.args.bounds.now.items c.requires.sound c.requires.valid (c.in_ok-push_back.ensures.items ∙ ap (λ ts. ts ++ c.args.root ∷ []) c.new-todo.ensures.items)
+loop-node-init g c = laid_start g.T.Item.meaning c.args.bounds.now.items c.requires.sound c.requires.valid (c.in_ok-push_back.ensures.items ∙ ap (λ ts. ts ++ c.args.root ∷ []) c.new-waiting.ensures.items)
 
 pub returns-in_default-bound_of-clause-cause : goal.returns-in_default-bound_of-clause-cause
 returns-in_default-bound_of-clause-cause g c =
@@ -43,7 +43,7 @@ loop-node-smaller g c =
     let e : c.append.new.self.items ≡ c.pop_front.new.self.items ++ (out-Tree g.row.T.Denot c.in-Some.node).kids.items =
       c.in_ok-append.ensures.items ∙ ap (λ x. c.pop_front.new.self.items ++ x) (c.from_vec-next.ensures.items ∙ ap (λ k. k.items) c.into_parts-value.ensures.kids) in
     let f = turn_fewer g.row.T.Denot Row g.T.Item.meaning c.in-Some.node c.pop_front.new.self.items in
-    let h : length (in_order g.T.Item.meaning c.append.new.self.items) < length (in_order g.T.Item.meaning c.loop-node.todo.items) = rw (e, c.in-Some.ensures.items) f in
+    let h : length (in_order g.T.Item.meaning c.append.new.self.items) < length (in_order g.T.Item.meaning c.loop-node.waiting.items) = rw (e, c.in-Some.ensures.items) f in
     h
 
 pub loop-node-preserved : goal.loop-node-preserved

@@ -14,3 +14,6 @@ pub mod Results
 pub mod WeaveBoth
 pub mod ResultLaws
 pub mod Marked
+pub mod Discriminants
+pub mod DiscriminantLaws
+pub mod FormLaws

@@ -23,13 +23,13 @@ use Rattle.columnar_sums.specs.RankColumns.{counts_match, ranks_format, IsNextTr
 
 -- counts as a test
 
-same_numbers : (xs ys : List ℕ) → numbers_eq xs ys ≡ true → xs ≡ ys
+pub same_numbers : (xs ys : List ℕ) → numbers_eq xs ys ≡ true → xs ≡ ys
 same_numbers [] [] h = refl
 same_numbers [] (y ∷ ys) h = cc
 same_numbers (x ∷ xs) [] h = cc
 same_numbers (x ∷ xs) (y ∷ ys) h = let p = and_parts (nat_eq x y) (numbers_eq xs ys) h in ap₂ (λ (u : ℕ) (v : List ℕ). u ∷ v) (eqb-true x y p.0) (same_numbers xs ys p.1)
 
-numbers_same : (xs : List ℕ) → numbers_eq xs xs ≡ true
+pub numbers_same : (xs : List ℕ) → numbers_eq xs xs ≡ true
 numbers_same [] = refl
 numbers_same (x ∷ xs) = and_from _ _ (eq-eqb x x refl) (numbers_same xs)
 

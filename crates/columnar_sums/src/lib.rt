@@ -1,6 +1,7 @@
-//! Columns of sums: bits that are counted, rows that may be absent, and rows of one of two kinds.
+//! Columns of sums: bits that are counted, rows that may be absent, rows of one of two kinds, and variants.
 #![tactic(auto)]
 
+pub mod discriminant;
 mod marked;
 pub mod option;
 pub mod rank_select;

@@ -1,0 +1,92 @@
+-- Columns of variants, each with the number of earlier rows of it.
+use Rattle.std.specs.Prelude.{ℕ, Bool, true, false, List, [], ◌∷◌, ◌++◌, length, ◌+◌, ◌-◌, ◌*◌, drop, take, map, replicate, ◌&&◌, nat_eq, nat_le, nat_lt, cond, count_by, Option, Some, None}
+use Rattle.std.specs.Int.{w8}
+use Rattle.columnar_core.specs.Row.{Row, row_eq, numbers_eq}
+use Rattle.columnar_core.specs.Format.{Format, Content, slice, both, part, plain, two_broken}
+use Rattle.columnar_core.specs.Elements.{elements_format, first_slice, past_count, word_row, words_format}
+use Rattle.columnar_base.specs.Numbers.{unsigned_row, unsigned_row_of}
+use Rattle.columnar_core.specs.WordViews.{words_in, bytes_of, le_bytes}
+use Rattle.columnar_base.specs.Tuples.{tuples}
+use Rattle.columnar_sums.specs.declared.discriminant.Discriminant.{Discriminant}
+
+-- how often v is among them
+abbrev pub times : ℕ → List ℕ → ℕ
+times v vs = count_by (nat_eq v) vs
+
+-- for each of vs, how many equal ones stand before it, where `before` stands before them all
+abbrev pub earlier : List ℕ → List ℕ → List ℕ
+earlier before [] = []
+earlier before (v ∷ vs) = times v before ∷ earlier (before ++ v ∷ []) vs
+
+-- are there two different ones
+abbrev pub is_mixed : List ℕ → Bool
+is_mixed [] = false
+is_mixed (v ∷ vs) = nat_lt (times v vs) (length vs)
+
+-- do one more than a variant and a number of rows stand for all rows
+abbrev pub is_common : ℕ → ℕ → Bool
+is_common tag count = nat_le 1 tag && (nat_le tag 256 && nat_le 1 count)
+
+-- One of the three forms: nothing; one variant for all rows, and how many there are; a variant and a number of earlier
+-- rows for each row, of two variants at least.
+abbrev pub has_form : List ℕ → List ℕ → Bool
+has_form [] [] = true
+has_form [] (tag ∷ count ∷ []) = is_common tag count
+has_form [] offsets = false
+has_form (v ∷ vs) offsets = is_mixed (v ∷ vs) && numbers_eq offsets (earlier [] (v ∷ vs))
+
+-- the variant of each row
+abbrev pub variants_in : List ℕ → List ℕ → List ℕ
+variants_in [] (tag ∷ count ∷ []) = replicate count (tag - 1)
+variants_in vs offsets = vs
+
+abbrev pub variants_of : Content → List ℕ
+variants_of (both x y) = variants_in (bytes_of x) (words_in (bytes_of y))
+variants_of (slice bs) = []
+variants_of (part l u x) = []
+variants_of (plain rs) = []
+
+-- the rows of variants
+abbrev pub variant_rows : List ℕ → List ℕ → List Row
+variant_rows before vs = tuples (map (unsigned_row w8) vs) (map word_row (earlier before vs))
+
+-- variants, a byte each
+abbrev pub bytes_format : Format
+bytes_format = elements_format 1 1 (unsigned_row_of w8)
+
+abbrev pub form_test : Content → Content → Bool
+form_test x y = has_form (bytes_of x) (words_in (bytes_of y))
+
+-- the lengths of both parts, by the variants
+abbrev pub form_lengths : List ℕ → List ℕ
+form_lengths [] = 0 ∷ 0 ∷ []
+form_lengths (v ∷ vs) = cond (is_mixed (v ∷ vs)) (length (v ∷ vs) ∷ 8 * length (v ∷ vs) ∷ []) (0 ∷ 16 ∷ [])
+
+-- variants, and offsets or what all rows have in common
+abbrev pub discriminant_format : Format
+discriminant_format = record {
+  count = 2;
+  sizes = 1 ∷ 8 ∷ [];
+  aligns = 1 ∷ 8 ∷ [];
+  turns = 4;
+  broken = two_broken bytes_format words_format form_test 17;
+  rows = λ c. variant_rows [] (variants_of c);
+  extent = λ c n. form_lengths (take n (variants_of c));
+  build = λ ss. both (first_slice ss) (first_slice (drop 1 ss));
+  alike = row_eq;
+  kin = row_eq;
+  refuses = λ e c n rs. past_count e (n + length rs);
+}
+
+-- what a column of variants holds
+abbrev pub forms_content : {V O : Type 0} → (V → List ℕ) → (O → List ℕ) → Discriminant V O → Content
+forms_content variants offsets d = both (slice (variants d.variant)) (slice (offsets d.offset))
+
+-- what a column of its own holds
+abbrev pub owned_forms : List ℕ → List ℕ → Content
+owned_forms variants offsets = both (slice variants) (slice (le_bytes offsets))
+
+-- the one variant of all rows, where there is one
+abbrev pub sole : List ℕ → Option ℕ
+sole [] = None
+sole (v ∷ vs) = cond (is_mixed (v ∷ vs)) None (Some v)

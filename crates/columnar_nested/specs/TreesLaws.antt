@@ -263,3 +263,7 @@ root_next v x y z t {r} {m} s h e f =
 
 pub trees_counted : (v : Format) (groups bounds : List ℕ) (z : Content) → length (slices_of z) ≡ v.count → length (slices_of (both (slice groups) (both (slice bounds) z))) ≡ 2 + v.count
 trees_counted v groups bounds z h = omega (arith, h)
+
+-- the rows are the trees of the layout
+pub rows_laid : (v : Format) (x y z : Content) → IsSound (trees_format v) (both x (both y z)) → (ts : Forest Row) × (IsLayout ts (words_of x) (words_of y) (v.rows z) × (trees_rows v (both x (both y z)) ≡ tree_rows ts))
+rows_laid v x y z s = (trees_of (words_of y) (v.rows z), (passed_layout (rule_passed (trees_parts v x y z s).rule), refl))

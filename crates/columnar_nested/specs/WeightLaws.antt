@@ -1,12 +1,13 @@
 use Rattle.std.proofs.Common.{◌≡◌, ℕ, zero, suc, ◌+◌, ◌<◌, ◌≤◌, List, [], ◌∷◌, ◌++◌, map, length, refl, sym, ◌∙◌, ap, arith}
-use Rattle.std.specs.Prelude.{sum, sum_by}
+use Rattle.std.specs.Prelude.{sum, sum_by, slice_index_or, drop}
+use Rattle.std.proofs.lemmas.List.{drop_more}
 use Rattle.std.proofs.lemmas.List.Sums.{sum_by-cons, sum-map}
 use Rattle.columnar_nested.specs.Forest.{Node, beside, in_line, levels, level_order}
 use Rattle.columnar_nested.specs.Layout.{values_of}
 use Rattle.columnar_nested.specs.ForestLaws.{levels-joined}
 use Rattle.columnar_nested.specs.TreeValues.{node_of, trees_as_forest, in_order, values_in}
 use Rattle.columnar_nested.specs.Push.{in_order-step, as_forest-append, node_of-out}
-use Rattle.columnar_nested.specs.Weights.{total, weight, count, value_sum}
+use Rattle.columnar_nested.specs.Weights.{total, weight, count, value_sum, uncopied}
 use Rattle.columnar_nested.specs.declared.tree.Tree.{Tree}
 use Rattle.columnar_nested.specs.declared.tree.Tree.TheViews.{out-Tree}
 
@@ -188,3 +189,22 @@ later_fewer node rest later b m e =
     let c = count-step ℕ node later in
     let q = ap count e in
     omega (arith, c, q)
+
+-- ---- copies
+
+-- a kid is copied next, and its node goes on the stack
+pub down_fewer : (T : Type 0) (kids : List (Tree T)) (d : ℕ) (kid : Tree T) (fresh : List (Tree T)) (b b' m m' : ℕ) → d < length kids → kid ≡ slice_index_or kids d kid → fresh ≡ [] → b' ≡ b + uncopied kids (d + 1) → m' ≡ m + 1
+  → (uncopied (out-Tree T kid).kids.items (length fresh) + b') + ((uncopied (out-Tree T kid).kids.items (length fresh) + b') + m') < (uncopied kids d + b) + ((uncopied kids d + b) + m)
+down_fewer T kids d kid fresh b b' m m' l e z f g =
+    let h = ap count (drop_more kids d kid l) in
+    let k = ap (λ t. count (t ∷ drop (d + 1) kids)) (sym e) in
+    let s = count-step T kid (drop (d + 1) kids) in
+    let n : uncopied (out-Tree T kid).kids.items (length fresh) ≡ count (out-Tree T kid).kids.items = ap (λ us. uncopied (out-Tree T kid).kids.items (length us)) z in
+    omega (arith, h, k, s, n, f, g)
+
+-- all kids of a node were copied, and it is a kid of the one on the stack
+pub up_fewer : (T : Type 0) (kids pk copied : List (Tree T)) (d n : ℕ) (b b' m m' : ℕ) → length copied ≡ n + 1 → b ≡ b' + uncopied pk (n + 1) → m ≡ m' + 1
+  → (uncopied pk (length copied) + b') + ((uncopied pk (length copied) + b') + m') < (uncopied kids d + b) + ((uncopied kids d + b) + m)
+up_fewer T kids pk copied d n b b' m m' e f g =
+    let h = ap (uncopied pk) e in
+    omega (arith, h, f, g)

@@ -1,5 +1,5 @@
 -- What the nodes of trees weigh together.
-use Rattle.std.specs.Prelude.{ℕ, List, [], ◌∷◌, ◌+◌}
+use Rattle.std.specs.Prelude.{ℕ, List, [], ◌∷◌, ◌+◌, drop}
 use Rattle.columnar_nested.specs.Forest.{Node}
 use Rattle.columnar_nested.specs.TreeValues.{in_order}
 use Rattle.columnar_nested.specs.declared.tree.Tree.{Tree}
@@ -19,3 +19,7 @@ count ts = weight (λ n. 1) ts
 -- the sum of the values of trees of numbers
 abbrev pub value_sum : List (Tree ℕ) → ℕ
 value_sum ts = weight (λ n. n.value) ts
+
+-- how many nodes are still to be copied of the kids of a node, where n kids were copied
+abbrev pub uncopied : {T : Type 0} → List (Tree T) → ℕ → ℕ
+uncopied kids n = count (drop n kids)

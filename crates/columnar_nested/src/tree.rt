@@ -7,6 +7,7 @@ ghost use Rattle.columnar_nested.specs.declared.tree.Tree.TheViews.{out-Tree};
 
 use columnar_base::fault::SumError;
 use columnar_base::traits::Item;
+use std::alloc::{AllocError, Global};
 use std::collections::VecDeque;
 
 /// A value, and the trees below it. A tree is dropped by a queue, so that a long line of nodes takes no deep stack.
@@ -100,4 +101,50 @@ impl Tree<usize> {
             }
         }
     }
+}
+
+/// A copy, node by node, without a deep stack: the nodes above the one that is copied are kept in a `Vec`.
+impl<T: Clone> Clone for Tree<T> {
+    fn clone(&self) -> Result<Self, AllocError> {
+        let alloc = *self.kids.allocator();
+        let mut above: Vec<(&Tree<T>, Tree<T>)> = Vec::new(alloc);
+        let mut source = self;
+        let mut copy = leaf(alloc, &self.value)?;
+        loop {
+            let done = copy.kids.len();
+            if done < source.kids.len() {
+                let kid = &source.kids[done];
+                let fresh = leaf(alloc, &kid.value)?;
+                above.push((source, copy))?;
+                source = kid;
+                copy = fresh;
+            } else {
+                let Some((parent, upper)) = above.pop() else {
+                    return Ok(copy);
+                };
+                source = parent;
+                copy = with_kid(upper, copy)?;
+            }
+        }
+    }
+}
+
+// A tree of one node, with a copy of the value.
+fn leaf<T: Clone>(alloc: Global, value: &T) -> Result<Tree<T>, AllocError>
+    ensures { IfOk result (λ t. (out-Tree T t).kids.items ≡ []) }
+{
+    let value = value.clone()?;
+    Ok(Tree {
+        value,
+        kids: Vec::new(alloc),
+    })
+}
+
+// The tree with one more kid behind the others.
+fn with_kid<T: Drop>(tree: Tree<T>, kid: Tree<T>) -> Result<Tree<T>, AllocError>
+    ensures { IfOk result (λ t. length (out-Tree T t).kids.items ≡ length (out-Tree T tree).kids.items + 1) }
+{
+    let (value, mut kids) = tree.into_parts();
+    kids.push(kid)?;
+    Ok(Tree { value, kids })
 }

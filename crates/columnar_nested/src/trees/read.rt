@@ -1,13 +1,15 @@
 //! Trees that are read in place, node by node.
 ghost use Rattle.std.specs.Prelude.{◌≡◌, ◌<◌, length, slice_get, Some};
+ghost use Rattle.columnar_base.specs.Format.{both, slice, IsSound};
 ghost use Rattle.columnar_nested.specs.NodeRefs.{ref_row, ref_valid};
 ghost use Rattle.columnar_nested.specs.TreeRows.{value_of, kids_of};
+ghost use Rattle.columnar_nested.specs.Trees.{trees_format};
 ghost use Rattle.columnar_nested.specs.TreesLaws.{same_trees};
 
 use super::{NodeBounds, Trees};
 use columnar_base::traits::{Column, Index, Item, Len};
 use columnar_base::view::View;
-use columnar_core::container::{Borrow, Named, Reborrow};
+use columnar_core::container::{Borrow, Named, Reborrow, ReborrowRef};
 use columnar_core::words::word_count;
 
 /// A node of stored trees, with all that is below it. Its calls ask that it is valid, which it is where it came of a
@@ -69,6 +71,30 @@ impl<V: Column + Copy, B: NodeBounds + Copy> TreesRef<V, B> {
     }
 }
 
+// The root of tree `index` of well-formed trees.
+fn root_of<G: NodeBounds, V: Column, B: NodeBounds>(
+    groups: &G,
+    bounds: B,
+    values: V,
+    index: usize,
+) -> TreesRef<V, B>
+    requires sound { IsSound (trees_format V.format) (both (slice (G.bytes groups.now)) (both (slice (B.bytes bounds)) (V.content values))) }
+    requires in_range { index < length ((trees_format V.format).rows (both (slice (G.bytes groups.now)) (both (slice (B.bytes bounds)) (V.content values)))) }
+    ensures tree { slice_get ((trees_format V.format).rows (both (slice (G.bytes groups.now)) (both (slice (B.bytes bounds)) (V.content values)))) index ≡ Some (⟦<TreesRef<V, B> as Item>⟧.meaning result) }
+    ensures valid { ⟦<TreesRef<V, B> as Item>⟧.valid result }
+{
+    // There are fewer than 2^61 bounds, so the number behind a node's is one of 64 bits.
+    let _count = word_count(bounds.words());
+    let root = groups.bound(index) as usize;
+    TreesRef {
+        index: root,
+        lower: root + 1,
+        upper: bounds.bound(root + 1) as usize,
+        values,
+        bounds,
+    }
+}
+
 impl<TC: Column, BC: NodeBounds> Len for Trees<TC, BC> {
     fn len(&self) -> usize {
         word_count(self.groups.words()) - 1
@@ -79,16 +105,7 @@ impl<TC: Column + Copy, BC: NodeBounds + Copy> Index for Trees<TC, BC> {
     type Ref = TreesRef<TC, BC>;
 
     fn get(&self, index: usize) -> TreesRef<TC, BC> {
-        // There are fewer than 2^61 bounds, so the number behind a node's is one of 64 bits.
-        let _count = word_count(self.bounds.words());
-        let root = self.groups.bound(index) as usize;
-        TreesRef {
-            index: root,
-            lower: root + 1,
-            upper: self.bounds.bound(root + 1) as usize,
-            values: self.values,
-            bounds: self.bounds,
-        }
+        root_of(&self.groups, self.bounds, self.values, index)
     }
 }
 
@@ -127,6 +144,31 @@ where
             groups: self.groups,
             bounds: self.bounds,
             values,
+        }
+    }
+}
+
+impl<'a, TC: Column, BC: NodeBounds> Index for &'a Trees<TC, BC> {
+    type Ref = TreesRef<&'a TC, &'a BC>;
+
+    fn get(&self, index: usize) -> TreesRef<&'a TC, &'a BC> {
+        root_of(&self.groups, &self.bounds, &self.values, index)
+    }
+}
+
+impl<'a, 'b, V: Reborrow<'b>> ReborrowRef<'b> for TreesRef<V, View<'a, u64>>
+where
+    'a: 'b,
+{
+    type ShortRef = TreesRef<V::Short, View<'b, u64>>;
+
+    fn reborrow_ref(self) -> TreesRef<V::Short, View<'b, u64>> {
+        TreesRef {
+            index: self.index,
+            lower: self.lower,
+            upper: self.upper,
+            values: self.values.reborrow(),
+            bounds: self.bounds,
         }
     }
 }

@@ -18,6 +18,7 @@ use columnar_base::tally::Tally;
 use columnar_base::traits::{Column, Index, Item, Len};
 use columnar_base::view::{Items, View, count_in, element_in};
 use std::alloc::Global;
+use std::mem;
 use std::ops::Range;
 
 // Appends the elements; want of memory refuses all of them.
@@ -30,16 +31,19 @@ pub(crate) fn append_typed<T: Element>(column: &mut Vec<T>, items: &[T]) -> Resu
     Ok(())
 }
 
-// Appends the elements that the bytes are; there is room for them.
+// The column with the elements that the bytes are behind its own; there is room for them. It is taken by value, since
+// the compiler then knows that what is written changes neither its length nor its place.
 #[inline]
-fn read_all<T: Element>(column: &mut Vec<T>, bytes: &[u8])
+fn with_all<T: Element>(column: Vec<T>, bytes: &[u8]) -> Vec<T>
     requires whole { length bytes.now % T.size ≡ 0 }
-    requires room { vec_len column.old + length bytes.now / T.size ≤ vec_capacity column.old }
-    ensures { Appended T.le_bytes column.old.items column.new.items bytes.now }
+    requires room { vec_len column + length bytes.now / T.size ≤ vec_capacity column }
+    ensures { Appended T.le_bytes column.items result.items bytes.now }
 {
+    let mut column = column;
     for i in 0..count_in::<T>(bytes) {
         column.push_reserved(element_in(bytes, i));
     }
+    column
 }
 
 // Appends the elements that the bytes are; want of memory refuses all of them.
@@ -50,7 +54,9 @@ fn append_bytes<T: Element>(column: &mut Vec<T>, bytes: &[u8]) -> Result<(), Gro
     ensures memory { IfErr result (λ e. e ≡ GrowError.Memory) }
 {
     column.reserve(count_in::<T>(bytes))?;
-    read_all(column, bytes);
+    let empty = Vec::new(*column.allocator());
+    let own = mem::replace(column, empty);
+    *column = with_all(own, bytes);
     Ok(())
 }
 
@@ -210,9 +216,8 @@ fn elements_of<T: Element>(alloc: Global, bytes: &[u8]) -> Result<Vec<T>, GrowEr
     ensures elements { IfOk result (λ v. flat_map T.le_bytes v.items ≡ bytes.now) }
     ensures memory { IfErr result (λ e. e ≡ GrowError.Memory) }
 {
-    let mut column = Vec::with_capacity(alloc, count_in::<T>(bytes))?;
-    read_all(&mut column, bytes);
-    Ok(column)
+    let column = Vec::with_capacity(alloc, count_in::<T>(bytes))?;
+    Ok(with_all(column, bytes))
 }
 
 // The elements start..end of a slice.

@@ -1,10 +1,10 @@
 use Rattle.std.proofs.Common.{arith, refl}
 use Rattle.columnar_core.specs.Appended.{appended_none, appended_more}
-use Rattle.columnar_core.proofs.vector.read_all.Goals as goal
+use Rattle.columnar_core.proofs.vector.with_all.Goals as goal
 
 pub loop-i-init : goal.loop-i-init
 loop-i-init g c = record {
-  read = appended_none g.T.Element.le_bytes c.args.column.now.items c.args.column.now.items g.T.Element.size c.args.bytes.now refl;
+  read = appended_none g.T.Element.le_bytes c.args.column.items c.args.column.items g.T.Element.size c.args.bytes.now refl;
   room = omega (arith, c.requires.room);
 }
 

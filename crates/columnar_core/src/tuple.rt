@@ -8,10 +8,10 @@ use crate::bytes::{AsBytes, Check, FromBytes, Stored};
 use crate::container::{Borrow, Container, ContainerBytes, ExtendFrom, Reborrow, ReborrowRef};
 use crate::store::DecodedStore;
 use crate::two::{byte_slice_of_two, check_two, judge_two, load_two, sizes_of_two, slice_of_two};
-pub use columnar_base::tuple::parts;
 use columnar_base::fault::{GrowError, StoreFault};
 use columnar_base::tally::Tally;
 use columnar_base::traits::{Column, Len};
+pub use columnar_base::tuple::parts;
 use std::alloc::Global;
 use std::ops::Range;
 

@@ -16,16 +16,16 @@ use Rattle.columnar_nested.specs.TreesLaws.{nodes_two, trees_two, len_trees}
 
 -- the rules of the words, then those of the values, then the own one, with slices counted from `o`
 trees_split : (v : Format) (x y z : Content) (o : ℕ) → moved o ((trees_format v).broken (both x (both y z)))
-  ≡ both_broken words_format words_format x y o ++ (moved (o + 2) (v.broken z) ++ moved o (unless (trees_keep v x (both y z)) (fault 18 0)))
+    ≡ both_broken words_format words_format x y o ++ (moved (o + 2) (v.broken z) ++ moved o (unless (trees_keep v x (both y z)) (fault 18 0)))
 trees_split v x y z o =
     let p = two_moved (trees_two v) x (both y z) o in
     let q = two_moved (nodes_two v) y z (o + 1) in
     let t : (o + 1) + 1 ≡ o + 2 = omega arith in
     let r : moved (o + 1) ((nodes_format v).broken (both y z)) ≡ moved (o + 1) (words_format.broken y) ++ moved (o + 2) (v.broken z) =
-      q ∙ (ap (λ i. moved (o + 1) (words_format.broken y) ++ (moved i (v.broken z) ++ [])) t ∙ ap (λ xs. moved (o + 1) (words_format.broken y) ++ xs) (append-nil (moved (o + 2) (v.broken z)))) in
+    q ∙ (ap (λ i. moved (o + 1) (words_format.broken y) ++ (moved i (v.broken z) ++ [])) t ∙ ap (λ xs. moved (o + 1) (words_format.broken y) ++ xs) (append-nil (moved (o + 2) (v.broken z)))) in
     p ∙ (ap (λ xs. moved o (words_format.broken x) ++ (xs ++ moved o (unless (trees_keep v x (both y z)) (fault 18 0)))) r
-      ∙ (ap (λ xs. moved o (words_format.broken x) ++ xs) (append_assoc (moved (o + 1) (words_format.broken y)) (moved (o + 2) (v.broken z)) (moved o (unless (trees_keep v x (both y z)) (fault 18 0))))
-      ∙ sym (append_assoc (moved o (words_format.broken x)) (moved (o + 1) (words_format.broken y)) (moved (o + 2) (v.broken z) ++ moved o (unless (trees_keep v x (both y z)) (fault 18 0))))))
+    ∙ (ap (λ xs. moved o (words_format.broken x) ++ xs) (append_assoc (moved (o + 1) (words_format.broken y)) (moved (o + 2) (v.broken z)) (moved o (unless (trees_keep v x (both y z)) (fault 18 0))))
+    ∙ sym (append_assoc (moved o (words_format.broken x)) (moved (o + 1) (words_format.broken y)) (moved (o + 2) (v.broken z) ++ moved o (unless (trees_keep v x (both y z)) (fault 18 0))))))
 
 -- the words are broken
 pub words_judged : (v : Format) (x y z : Content) (o : ℕ) (f : Fault) → Some f ≡ first (both_broken words_format words_format x y o) → Some f ≡ first (moved o ((trees_format v).broken (both x (both y z))))
@@ -60,9 +60,9 @@ trees_built v ss o gs bs l g b =
     let p = first_at ss o gs (omega (arith, l)) g in
     let q = first_at ss (o + 1) bs (omega (arith, l)) b in
     ap (λ x. both x ((nodes_format v).build (drop 1 (drop o ss)))) p
-      ∙ (ap (λ ts. both (slice gs) (both (first_slice ts) (v.build (drop 1 ts)))) d
-      ∙ (ap (λ x. both (slice gs) (both x (v.build (drop 1 (drop (o + 1) ss))))) q
-      ∙ ap (λ ts. both (slice gs) (both (slice bs) (v.build ts))) (e ∙ ap (λ i. drop i ss) t)))
+    ∙ (ap (λ ts. both (slice gs) (both (first_slice ts) (v.build (drop 1 ts)))) d
+    ∙ (ap (λ x. both (slice gs) (both x (v.build (drop 1 (drop (o + 1) ss))))) q
+    ∙ ap (λ ts. both (slice gs) (both (slice bs) (v.build ts))) (e ∙ ap (λ i. drop i ss) t)))
 
 -- the slices of the parts fit where those of the whole do
 pub trees_fit : (v : Format) (o : ℕ) (ss : List (List ℕ)) → Fits (trees_format v) o ss → Fits words_format o ss × (Fits words_format (o + 1) ss × Fits v (o + 2) ss)

@@ -57,8 +57,8 @@ keeps-ahead j b (c ∷ cs) n h l (suc i) m =
     omega (arith, r)
 
 pub keeps-from : (j b : ℕ) (bs : List ℕ) (n : ℕ) → j + length bs ≡ n → slice_index (b ∷ bs) (length bs) ≡ n
-  → ((i : ℕ) → i < length bs → slice_index (b ∷ bs) i ≤ slice_index (b ∷ bs) (suc i))
-  → ((i : ℕ) → i ≤ length bs → j + i ≤ slice_index (b ∷ bs) i) → keeps j b bs n ≡ true
+    → ((i : ℕ) → i < length bs → slice_index (b ∷ bs) i ≤ slice_index (b ∷ bs) (suc i))
+    → ((i : ℕ) → i ≤ length bs → j + i ≤ slice_index (b ∷ bs) i) → keeps j b bs n ≡ true
 keeps-from j b [] n e l rise ahead = and_from _ _ (eq-eqb b n l) (eq-eqb j n (omega (arith, e)))
 keeps-from j b (c ∷ cs) n e l rise ahead =
     let r : b ≤ c = rise 0 (omega arith) in
@@ -122,9 +122,9 @@ passed_layout {groups = groups} {bounds = b ∷ bs} {values = values} p =
     let m = made_all 0 b bs values (length values) q.1 (omega arith) (omega (arith, c)) in
     let nothing_left : pending 0 b bs values ≡ no_trees = let w = m.wide in width-zero (pending 0 b bs values) (omega (arith, w, z)) in
     let e : ends 0 (trees_from 0 b bs values) ≡ bs =
-      sym (walk_ends-whole (trees_from 0 b bs values)) ∙ (ap (λ x. walk_ends 0 x (trees_from 0 b bs values)) (sym nothing_left) ∙ m.bounds_same) in
+    sym (walk_ends-whole (trees_from 0 b bs values)) ∙ (ap (λ x. walk_ends 0 x (trees_from 0 b bs values)) (sym nothing_left) ∙ m.bounds_same) in
     let v : values_of (nodes (trees_from 0 b bs values)) ≡ values =
-      ap values_of (sym (walk_nodes-whole (trees_from 0 b bs values)) ∙ ap (λ x. walk_nodes x (trees_from 0 b bs values)) (sym nothing_left)) ∙ m.values_same in
+    ap values_of (sym (walk_nodes-whole (trees_from 0 b bs values)) ∙ ap (λ x. walk_nodes x (trees_from 0 b bs values)) (sym nothing_left)) ∙ m.values_same in
     let k = kept_all 0 no_trees (trees_from 0 b bs values) in
     let g = k.groups_at in
     let g1 : own_places 0 (0 ∷ ends 0 (trees_from 0 b bs values)) ≡ starts 0 (trees_from 0 b bs values) = rw (walk_ends-whole (trees_from 0 b bs values), walk_starts-whole (trees_from 0 b bs values)) at g in
@@ -137,10 +137,10 @@ passed_layout {groups = groups} {bounds = b ∷ bs} {values = values} p =
 -- the theorem
 pub rule_one : {A : Type 0} {groups bounds : List ℕ} {values : List A} → IsTreeRule groups bounds (length values) → IsOne groups bounds values
 rule_one {bounds = bounds} {values = values} r = record {
-    trees = trees_of bounds values;
-    has = passed_layout (rule_passed r);
-    only = λ us l. sym (layout_read l);
-  }
+  trees = trees_of bounds values;
+  has = passed_layout (rule_passed r);
+  only = λ us l. sym (layout_read l);
+}
 
 pub one_rule : {A : Type 0} {groups bounds : List ℕ} {values : List A} → IsOne groups bounds values → IsTreeRule groups bounds (length values)
 one_rule o = passed_rule (layout_passes o.has)

@@ -35,7 +35,7 @@ layout_node {A = A} {ts = ts} {bounds = bounds} l i x g =
     let ke = s.ends i x g in
     let kids_at : slice_index bounds (suc i) ≡ first_kid i (slice_index bounds i) + width x.kids = subst (λ m. slice_index bounds (suc i) ≡ first_kid m (slice_index bounds i) + width x.kids) z ke in
     let kids : (c : ℕ) (y : Node A) → slice_get (roots x.kids) c ≡ Some y → (slice_get (nodes ts) (first_kid i (slice_index bounds i) + c) ≡ Some y) × (0 + (first_kid i (slice_index bounds i) + c) < slice_index bounds (first_kid i (slice_index bounds i) + c)) =
-      λ c y r. s.kid i c (first_kid i (slice_index bounds i) + c) x y g r (rw z (omega arith)) in
+    λ c y r. s.kid i c (first_kid i (slice_index bounds i) + c) x y g r (rw z (omega arith)) in
     record {
       value = rw (l.in_order, slice_get-map, g) refl;
       kid_count = kids_at;
@@ -62,8 +62,8 @@ layout_root {ts = ts} l t n x h g =
     rw e s.2
 
 own-get-here : (at b : ℕ) (bs : List ℕ) (t n : ℕ) → b ≡ at → slice_get (at ∷ own_places (suc at) bs) t ≡ Some n
-  → ((t n : ℕ) → slice_get (own_places (suc at) bs) t ≡ Some n → (s : ℕ) × (n ≡ suc at + s) × (slice_index bs s ≡ n))
-  → (s : ℕ) × (n ≡ at + s) × (slice_index (b ∷ bs) s ≡ n)
+    → ((t n : ℕ) → slice_get (own_places (suc at) bs) t ≡ Some n → (s : ℕ) × (n ≡ suc at + s) × (slice_index bs s ≡ n))
+    → (s : ℕ) × (n ≡ at + s) × (slice_index (b ∷ bs) s ≡ n)
 own-get-here at b bs zero n e h r = let a : at ≡ n = cc in (0, omega (arith, a), omega (arith, a, e))
 own-get-here at b bs (suc t) n e h r =
     let s = r t n h in
@@ -73,12 +73,13 @@ own-get-here at b bs (suc t) n e h r =
 own-get : (at : ℕ) (bs : List ℕ) (t n : ℕ) → slice_get (own_places at bs) t ≡ Some n → (s : ℕ) × (n ≡ at + s) × (slice_index bs s ≡ n)
 own-get at [] t n h = cc
 own-get at (b ∷ bs) t n h = elim (cases_eq b at) [
-    inl e ↦ own-get-here at b bs t n e (let c : nat_eq b at ≡ true = eq-eqb b at e in rw c at h) (own-get (suc at) bs)
+  | inl e ↦ own-get-here at b bs t n e (let c : nat_eq b at ≡ true = eq-eqb b at e in rw c at h) (own-get (suc at) bs)
   | inr e ↦
       let c : nat_eq b at ≡ false = ne_eqb b at e in
       let s = own-get (suc at) bs t n (rw c at h) in
       let a = s.1 in
-      (suc s.0, omega (arith, a), s.2) ]
+      (suc s.0, omega (arith, a), s.2)
+]
 
 -- the layout of one more tree
 pub nodes-joined : {A : Type 0} (f g : Forest A) → nodes (joined f g) ≡ nodes f ++ nodes g
@@ -92,7 +93,7 @@ ends-joined at (tree_and v k r) g =
     let z : (at + length (level_order (tree_and v k no_trees))) + length (nodes r) ≡ at + length (level_order (tree_and v k no_trees) ++ nodes r) = omega (arith, e) in
     let h = ends-joined (at + length (level_order (tree_and v k no_trees))) r g in
     ap (λ x. totals (suc at) (kid_counts (level_order (tree_and v k no_trees))) ++ x) (h ∙ ap (λ x. ends (at + length (level_order (tree_and v k no_trees))) r ++ ends x g) z)
-      ∙ sym (append_assoc (totals (suc at) (kid_counts (level_order (tree_and v k no_trees)))) (ends (at + length (level_order (tree_and v k no_trees))) r) (ends (at + length (level_order (tree_and v k no_trees) ++ nodes r)) g))
+    ∙ sym (append_assoc (totals (suc at) (kid_counts (level_order (tree_and v k no_trees)))) (ends (at + length (level_order (tree_and v k no_trees))) r) (ends (at + length (level_order (tree_and v k no_trees) ++ nodes r)) g))
 
 starts-joined : {A : Type 0} (at : ℕ) (f : Forest A) (v : A) (k : Forest A) → starts at (joined f (tree_and v k no_trees)) ≡ starts at f ++ (at + length (nodes f) + length (level_order (tree_and v k no_trees))) ∷ []
 starts-joined at no_trees v k =
@@ -105,17 +106,17 @@ starts-joined at (tree_and w l r) v k =
 
 -- the layout of one more tree: its nodes level by level behind the others
 pub layout_pushed : {A : Type 0} {ts : Forest A} {groups bounds : List ℕ} {values : List A} (v : A) (k : Forest A) → IsLayout ts groups bounds values
-  → IsLayout (joined ts (tree_and v k no_trees)) (groups ++ (length values + length (level_order (tree_and v k no_trees))) ∷ [])
-      (bounds ++ totals (suc (length values)) (kid_counts (level_order (tree_and v k no_trees)))) (values ++ values_of (level_order (tree_and v k no_trees)))
+    → IsLayout (joined ts (tree_and v k no_trees)) (groups ++ (length values + length (level_order (tree_and v k no_trees))) ∷ [])
+    (bounds ++ totals (suc (length values)) (kid_counts (level_order (tree_and v k no_trees)))) (values ++ values_of (level_order (tree_and v k no_trees)))
 layout_pushed {A = A} {ts = ts} {groups = groups} {bounds = bounds} {values = values} v k l =
     let n : length values ≡ length (nodes ts) = ap length l.in_order ∙ length-map (nodes ts) (λ x. x.value) in
     let z : 0 + length (nodes ts) ≡ length values = omega (arith, n) in
     record {
       at_starts = ap (λ x. x ++ (length values + length (level_order (tree_and v k no_trees))) ∷ []) l.at_starts ∙ sym (starts-joined 0 ts v k ∙ ap (λ x. starts 0 ts ++ (x + length (level_order (tree_and v k no_trees))) ∷ []) z);
       at_ends = ap (λ x. x ++ totals (suc (length values)) (kid_counts (level_order (tree_and v k no_trees)))) l.at_ends
-        ∙ ap (λ x. 0 ∷ x) (sym (ends-joined 0 ts (tree_and v k no_trees) ∙ (ap (λ x. ends 0 ts ++ ends x (tree_and v k no_trees)) z ∙ ap (λ x. ends 0 ts ++ x) (append-nil (totals (suc (length values)) (kid_counts (level_order (tree_and v k no_trees))))))));
+          ∙ ap (λ x. 0 ∷ x) (sym (ends-joined 0 ts (tree_and v k no_trees) ∙ (ap (λ x. ends 0 ts ++ ends x (tree_and v k no_trees)) z ∙ ap (λ x. ends 0 ts ++ x) (append-nil (totals (suc (length values)) (kid_counts (level_order (tree_and v k no_trees))))))));
       in_order = ap (λ x. x ++ values_of (level_order (tree_and v k no_trees))) l.in_order
-        ∙ sym (ap values_of (nodes-joined ts (tree_and v k no_trees)) ∙ (map-append (λ x. x.value) (nodes ts) (level_order (tree_and v k no_trees) ++ []) ∙ ap (λ x. values_of (nodes ts) ++ values_of x) (append-nil (level_order (tree_and v k no_trees)))));
+          ∙ sym (ap values_of (nodes-joined ts (tree_and v k no_trees)) ∙ (map-append (λ x. x.value) (nodes ts) (level_order (tree_and v k no_trees) ++ []) ∙ ap (λ x. values_of (nodes ts) ++ values_of x) (append-nil (level_order (tree_and v k no_trees)))));
     }
 
 pub layout_none : (A : Type 0) → IsLayout {A = A} no_trees (0 ∷ []) (0 ∷ []) []
@@ -134,8 +135,9 @@ own_bound groups bounds e t {n} g =
 
 own_has-step : (at b : ℕ) (bs : List ℕ) (k : ℕ) → (t : ℕ) × (slice_get (own_places (suc at) bs) t ≡ Some k) → (t : ℕ) × (slice_get (own_places at (b ∷ bs)) t ≡ Some k)
 own_has-step at b bs k r = elim (cases_eq b at) [
-    inl f ↦ let c : nat_eq b at ≡ true = eq-eqb b at f in (suc r.0, rw c r.1)
-  | inr f ↦ let c : nat_eq b at ≡ false = ne_eqb b at f in (r.0, rw c r.1) ]
+  | inl f ↦ let c : nat_eq b at ≡ true = eq-eqb b at f in (suc r.0, rw c r.1)
+  | inr f ↦ let c : nat_eq b at ≡ false = ne_eqb b at f in (r.0, rw c r.1)
+]
 
 -- the own places are exactly the places of the numbers that equal their place ..
 pub own_has : (at : ℕ) (bs : List ℕ) (i : ℕ) → i < length bs → slice_index bs i ≡ at + i → (t : ℕ) × (slice_get (own_places at bs) t ≡ Some (at + i))
@@ -151,7 +153,7 @@ own_has at (b ∷ bs) (suc i) h e =
     own_has-step at b bs (at + suc i) (subst (λ x. (t : ℕ) × (slice_get (own_places (suc at) bs) t ≡ Some x)) (sym m) r)
 
 own_rises-here : (at : ℕ) (bs : List ℕ) (t m n : ℕ) → slice_get (at ∷ own_places (suc at) bs) t ≡ Some m → slice_get (own_places (suc at) bs) t ≡ Some n
-  → ((t m n : ℕ) → slice_get (own_places (suc at) bs) t ≡ Some m → slice_get (own_places (suc at) bs) (suc t) ≡ Some n → m < n) → m < n
+    → ((t m n : ℕ) → slice_get (own_places (suc at) bs) t ≡ Some m → slice_get (own_places (suc at) bs) (suc t) ≡ Some n → m < n) → m < n
 own_rises-here at bs zero m n p q r =
     let s = own-get (suc at) bs 0 n q in
     let a = s.1 in
@@ -163,5 +165,6 @@ own_rises-here at bs (suc t) m n p q r = r t m n p q
 pub own_rises : (at : ℕ) (bs : List ℕ) (t m n : ℕ) → slice_get (own_places at bs) t ≡ Some m → slice_get (own_places at bs) (suc t) ≡ Some n → m < n
 own_rises at [] t m n p q = cc
 own_rises at (b ∷ bs) t m n p q = elim (cases_eq b at) [
-    inl f ↦ let c : nat_eq b at ≡ true = eq-eqb b at f in own_rises-here at bs t m n (rw c at p) (rw c at q) (own_rises (suc at) bs)
-  | inr f ↦ let c : nat_eq b at ≡ false = ne_eqb b at f in own_rises (suc at) bs t m n (rw c at p) (rw c at q) ]
+  | inl f ↦ let c : nat_eq b at ≡ true = eq-eqb b at f in own_rises-here at bs t m n (rw c at p) (rw c at q) (own_rises (suc at) bs)
+  | inr f ↦ let c : nat_eq b at ≡ false = ne_eqb b at f in own_rises (suc at) bs t m n (rw c at p) (rw c at q)
+]

@@ -58,8 +58,9 @@ get-after (y ∷ xs) ys (suc n) i e = get-after xs ys n i (omega (arith, e))
 
 pub first_kid-after : (j b : ℕ) → j ≤ b → suc j ≤ first_kid j b
 first_kid-after j b h = elim (cases_lt j b) [
-    inl l ↦ let t : nat_eq b j ≡ false = eq-false b j l in rw t l
-  | inr l ↦ let e : b ≡ j = omega arith in let t : nat_eq b j ≡ true = eq-eqb b j e in rw t (omega arith) ]
+  | inl l ↦ let t : nat_eq b j ≡ false = eq-false b j l in rw t l
+  | inr l ↦ let e : b ≡ j = omega arith in let t : nat_eq b j ≡ true = eq-eqb b j e in rw t (omega arith)
+]
 
 -- nodes ns, numbered from j on, and their bounds bs, one more than nodes
 pub record IsTold {A : Type 0} (j : ℕ) (ns : List (Node A)) (bs : List ℕ) : Type 0 where
@@ -72,7 +73,7 @@ told-ahead j b ns bs l h zero m = omega arith
 told-ahead j b ns bs l h (suc i) m = let x = h.ahead i (omega arith) in omega (arith, x)
 
 told-ends : {A : Type 0} (j b : ℕ) (x : Node A) (ns : List (Node A)) (bs : List ℕ) → slice_index bs 0 ≡ first_kid j b + width x.kids → IsTold (suc j) ns bs
-  → (i : ℕ) (y : Node A) → slice_get (x ∷ ns) i ≡ Some y → slice_index (b ∷ bs) (suc i) ≡ first_kid (j + i) (slice_index (b ∷ bs) i) + width y.kids
+    → (i : ℕ) (y : Node A) → slice_get (x ∷ ns) i ≡ Some y → slice_index (b ∷ bs) (suc i) ≡ first_kid (j + i) (slice_index (b ∷ bs) i) + width y.kids
 told-ends j b x ns bs e h zero y g =
     let z : j + 0 ≡ j = omega arith in
     let s : x ≡ y = cc in
@@ -82,9 +83,9 @@ told-ends j b x ns bs e h (suc i) y g =
     rw m (h.ends i y g)
 
 told-kid : {A : Type 0} (j b : ℕ) (x : Node A) (ns : List (Node A)) (bs : List ℕ) → j ≤ b
-  → ((c p : ℕ) (y : Node A) → slice_get (roots x.kids) c ≡ Some y → j + suc p ≡ first_kid j b + c → (slice_get ns p ≡ Some y) × (suc j + p < slice_index bs p))
-  → IsTold (suc j) ns bs
-  → (i c p : ℕ) (w y : Node A) → slice_get (x ∷ ns) i ≡ Some w → slice_get (roots w.kids) c ≡ Some y → j + p ≡ first_kid (j + i) (slice_index (b ∷ bs) i) + c → (slice_get (x ∷ ns) p ≡ Some y) × (j + p < slice_index (b ∷ bs) p)
+    → ((c p : ℕ) (y : Node A) → slice_get (roots x.kids) c ≡ Some y → j + suc p ≡ first_kid j b + c → (slice_get ns p ≡ Some y) × (suc j + p < slice_index bs p))
+    → IsTold (suc j) ns bs
+    → (i c p : ℕ) (w y : Node A) → slice_get (x ∷ ns) i ≡ Some w → slice_get (roots w.kids) c ≡ Some y → j + p ≡ first_kid (j + i) (slice_index (b ∷ bs) i) + c → (slice_get (x ∷ ns) p ≡ Some y) × (j + p < slice_index (b ∷ bs) p)
 told-kid j b x ns bs l k h zero c zero w y g r e =
     let z : j + 0 ≡ j = omega arith in
     let a = first_kid-after j b l in
@@ -106,9 +107,9 @@ told-kid j b x ns bs l k h (suc i) c (suc p) w y g r e =
     (a.0, let b = a.1 in omega (arith, b))
 
 told-step : {A : Type 0} (j b : ℕ) (x : Node A) (ns : List (Node A)) (bs : List ℕ) → j ≤ b
-  → slice_index bs 0 ≡ first_kid j b + width x.kids
-  → ((c p : ℕ) (y : Node A) → slice_get (roots x.kids) c ≡ Some y → j + suc p ≡ first_kid j b + c → (slice_get ns p ≡ Some y) × (suc j + p < slice_index bs p))
-  → IsTold (suc j) ns bs → IsTold j (x ∷ ns) (b ∷ bs)
+    → slice_index bs 0 ≡ first_kid j b + width x.kids
+    → ((c p : ℕ) (y : Node A) → slice_get (roots x.kids) c ≡ Some y → j + suc p ≡ first_kid j b + c → (slice_get ns p ≡ Some y) × (suc j + p < slice_index bs p))
+    → IsTold (suc j) ns bs → IsTold j (x ∷ ns) (b ∷ bs)
 told-step {A = A} j b x ns bs l e k h =
     record { ahead = told-ahead j b ns bs l h; ends = told-ends j b x ns bs e h; kid = told-kid j b x ns bs l k h }
 
@@ -130,34 +131,34 @@ walk-pending q ts i y h =
 
 told-done : {A : Type 0} (j : ℕ) → IsTold j (walk_nodes {A = A} no_trees no_trees) ((j + width {A = A} no_trees) ∷ walk_ends {A = A} j no_trees no_trees)
 told-done {A = A} j = rw (nodes-done A, ends-done A j) (record {
-    ahead = λ i h. absurd (omega (arith, h));
-    ends = λ i x h. cc;
-    kid = λ i c p x y h. cc;
-  })
+  ahead = λ i h. absurd (omega (arith, h));
+  ends = λ i x h. cc;
+  kid = λ i c p x y h. cc;
+})
 
 told-root : {A : Type 0} (j : ℕ) (v : A) (k r : Forest A) → IsTold (suc j) (walk_nodes k r) ((suc j + width k) ∷ walk_ends (suc j) k r) → IsTold j (walk_nodes no_trees (tree_and v k r)) ((j + width {A = A} no_trees) ∷ walk_ends j no_trees (tree_and v k r))
 told-root {A = A} j v k r h =
     let z : j + 0 ≡ j = omega arith in
     let t : nat_eq j j ≡ true = eq-eqb j j refl in
     rw (nodes-root v k r, ends-root j v k r, z) (told-step j j (record { value = v; kids = k }) (walk_nodes k r) ((suc j + width k) ∷ walk_ends (suc j) k r) (omega arith) (rw t refl)
-      (λ c p y g e. let e1 : j + suc p ≡ suc j + c = rw t at e in let s : p ≡ c = omega (arith, e1) in
-        (rw s (walk-pending k r c y g), let n = slice_get_within (roots k) c y g in let o = length-roots k in pending-beyond p (suc j) k r (omega (arith, n, o, s))))
-      h)
+    (λ c p y g e. let e1 : j + suc p ≡ suc j + c = rw t at e in let s : p ≡ c = omega (arith, e1) in
+    (rw s (walk-pending k r c y g), let n = slice_get_within (roots k) c y g in let o = length-roots k in pending-beyond p (suc j) k r (omega (arith, n, o, s))))
+    h)
 
 told-next : {A : Type 0} (j : ℕ) (v : A) (k r ts : Forest A) → IsTold (suc j) (walk_nodes (joined r k) ts) ((suc j + width (joined r k)) ∷ walk_ends (suc j) (joined r k) ts) → IsTold j (walk_nodes (tree_and v k r) ts) ((j + suc (width r)) ∷ walk_ends j (tree_and v k r) ts)
 told-next {A = A} j v k r ts h =
     let w = width-joined r k in
     let t : nat_eq (j + suc (width r)) j ≡ false = eq-false (j + suc (width r)) j (omega arith) in
     rw (nodes-next v k r ts, ends-next j v k r ts) (told-step j (j + suc (width r)) (record { value = v; kids = k }) (walk_nodes (joined r k) ts) ((suc j + width (joined r k)) ∷ walk_ends (suc j) (joined r k) ts) (omega arith)
-      (rw t (omega (arith, w)))
-      (λ c p y g e. let e1 : j + suc p ≡ (j + suc (width r)) + c = rw t at e in
-        let o = length-roots r in
-        let s : p ≡ length (roots r) + c = omega (arith, e1, o) in
-        let n = slice_get_within (roots k) c y g in
-        let u = length-roots k in
-        let a : slice_get (roots r ++ roots k) p ≡ Some y = get-after (roots r) (roots k) p c s ∙ g in
-        (walk-pending (joined r k) ts p y (rw (roots-joined r k) a), pending-beyond p (suc j) (joined r k) ts (omega (arith, n, o, s, u, w))))
-      h)
+    (rw t (omega (arith, w)))
+    (λ c p y g e. let e1 : j + suc p ≡ (j + suc (width r)) + c = rw t at e in
+    let o = length-roots r in
+    let s : p ≡ length (roots r) + c = omega (arith, e1, o) in
+    let n = slice_get_within (roots k) c y g in
+    let u = length-roots k in
+    let a : slice_get (roots r ++ roots k) p ≡ Some y = get-after (roots r) (roots k) p c s ∙ g in
+    (walk-pending (joined r k) ts p y (rw (roots-joined r k) a), pending-beyond p (suc j) (joined r k) ts (omega (arith, n, o, s, u, w))))
+    h)
 
 pub told_all : {A : Type 0} (j : ℕ) (q ts : Forest A) → IsTold j (walk_nodes q ts) ((j + width q) ∷ walk_ends j q ts)
 told_all {A = A} j q ts = walk_all (λ j q ts. IsTold {A = A} j (walk_nodes q ts) ((j + width q) ∷ walk_ends j q ts)) told-done told-root told-next j q ts

@@ -156,9 +156,9 @@ made-next {A = A} j b c cs v vs l le h =
     record {
       wide = ap (λ x. j + width x) p ∙ omega (arith, w, l);
       bounds_same = ap (λ x. walk_ends j x (trees_from j b (c ∷ cs) (v ∷ vs))) p ∙ (ap (walk_ends j (tree_and v (later_trees (b - suc j) (pending (suc j) c cs vs)) (first_trees (b - suc j) (pending (suc j) c cs vs)))) t
-        ∙ (ends-next j v (later_trees (b - suc j) (pending (suc j) c cs vs)) (first_trees (b - suc j) (pending (suc j) c cs vs)) (trees_from (suc j) c cs vs) ∙ rw (k, h.wide, h.bounds_same) refl));
+          ∙ (ends-next j v (later_trees (b - suc j) (pending (suc j) c cs vs)) (first_trees (b - suc j) (pending (suc j) c cs vs)) (trees_from (suc j) c cs vs) ∙ rw (k, h.wide, h.bounds_same) refl));
       values_same = ap (λ x. values_of (walk_nodes x (trees_from j b (c ∷ cs) (v ∷ vs)))) p ∙ (ap (λ x. values_of (walk_nodes (tree_and v (later_trees (b - suc j) (pending (suc j) c cs vs)) (first_trees (b - suc j) (pending (suc j) c cs vs))) x)) t
-        ∙ (ap values_of (nodes-next v (later_trees (b - suc j) (pending (suc j) c cs vs)) (first_trees (b - suc j) (pending (suc j) c cs vs)) (trees_from (suc j) c cs vs)) ∙ rw k (ap (λ x. v ∷ x) h.values_same)));
+          ∙ (ap values_of (nodes-next v (later_trees (b - suc j) (pending (suc j) c cs vs)) (first_trees (b - suc j) (pending (suc j) c cs vs)) (trees_from (suc j) c cs vs)) ∙ rw k (ap (λ x. v ∷ x) h.values_same)));
     }
 
 pub made_all : {A : Type 0} (j b : ℕ) (bs : List ℕ) (vs : List A) (n : ℕ) → keeps j b bs n ≡ true → j ≤ b → length vs ≡ length bs → IsMade j b bs vs

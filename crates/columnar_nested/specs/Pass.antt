@@ -54,14 +54,15 @@ rest-kept [] j b gs n h =
     let e : suc j ≡ suc n = eqb-true (suc j) (suc n) q.0 in
     (and_from _ _ p.0 (eq-eqb j n (omega (arith, e))), nil-of gs q.1)
 rest-kept (c ∷ cs) j b [] n h = elim (cases_eq c (suc j)) [
-    inl e ↦ absurd (lack-absurd (suc j) b c cs n e h)
+  | inl e ↦ absurd (lack-absurd (suc j) b c cs n e h)
   | inr e ↦
       let p = and_parts (nat_le b c) (nat_le (suc j) c && follow (suc (suc j)) c cs [] n) (rw (follow-skip (suc j) b c cs [] n e) at h) in
       let q = and_parts (nat_le (suc j) c) (follow (suc (suc j)) c cs [] n) p.1 in
       let r = rest-kept cs (suc j) c [] n q.1 in
-      (and_from _ _ (and_from _ _ p.0 q.0) r.0, r.1 ∙ sym (own-not (suc j) c cs e)) ]
+      (and_from _ _ (and_from _ _ p.0 q.0) r.0, r.1 ∙ sym (own-not (suc j) c cs e))
+]
 rest-kept (c ∷ cs) j b (g ∷ gs) n h = elim (cases_eq c (suc j)) [
-    inl e ↦
+  | inl e ↦
       let p = and_parts (nat_le b c) (nat_le (suc j) c && (nat_eq g (suc j) && follow (suc (suc j)) c cs gs n)) (rw (follow-meet (suc j) b c g cs gs n e) at h) in
       let q = and_parts (nat_le (suc j) c) (nat_eq g (suc j) && follow (suc (suc j)) c cs gs n) p.1 in
       let m = and_parts (nat_eq g (suc j)) (follow (suc (suc j)) c cs gs n) q.1 in
@@ -72,7 +73,8 @@ rest-kept (c ∷ cs) j b (g ∷ gs) n h = elim (cases_eq c (suc j)) [
       let p = and_parts (nat_le b c) (nat_le (suc j) c && follow (suc (suc j)) c cs (g ∷ gs) n) (rw (follow-skip (suc j) b c cs (g ∷ gs) n e) at h) in
       let q = and_parts (nat_le (suc j) c) (follow (suc (suc j)) c cs (g ∷ gs) n) p.1 in
       let r = rest-kept cs (suc j) c (g ∷ gs) n q.1 in
-      (and_from _ _ (and_from _ _ p.0 q.0) r.0, r.1 ∙ sym (own-not (suc j) c cs e)) ]
+      (and_from _ _ (and_from _ _ p.0 q.0) r.0, r.1 ∙ sym (own-not (suc j) c cs e))
+]
 
 kept-rest : (bs : List ℕ) (j b n : ℕ) → keeps j b bs n ≡ true → follow (suc j) b bs (own_places (suc j) bs) n ≡ true
 kept-rest [] j b n h =
@@ -84,8 +86,9 @@ kept-rest (c ∷ cs) j b n h =
     let q = and_parts (nat_le b c) (nat_le (suc j) c) p.0 in
     let r = kept-rest cs (suc j) c n p.1 in
     elim (cases_eq c (suc j)) [
-      inl e ↦ ap (λ x. follow (suc j) b (c ∷ cs) x n) (own-here (suc j) c cs e) ∙ (follow-meet (suc j) b c (suc j) cs (own_places (suc (suc j)) cs) n e ∙ and_from _ _ q.0 (and_from _ _ q.1 (and_from _ _ (eq-eqb (suc j) (suc j) refl) r)))
-    | inr e ↦ ap (λ x. follow (suc j) b (c ∷ cs) x n) (own-not (suc j) c cs e) ∙ (follow-skip (suc j) b c cs (own_places (suc (suc j)) cs) n e ∙ and_from _ _ q.0 (and_from _ _ q.1 r)) ]
+      | inl e ↦ ap (λ x. follow (suc j) b (c ∷ cs) x n) (own-here (suc j) c cs e) ∙ (follow-meet (suc j) b c (suc j) cs (own_places (suc (suc j)) cs) n e ∙ and_from _ _ q.0 (and_from _ _ q.1 (and_from _ _ (eq-eqb (suc j) (suc j) refl) r)))
+      | inr e ↦ ap (λ x. follow (suc j) b (c ∷ cs) x n) (own-not (suc j) c cs e) ∙ (follow-skip (suc j) b c cs (own_places (suc (suc j)) cs) n e ∙ and_from _ _ q.0 (and_from _ _ q.1 r))
+    ]
 
 -- the pass accepts exactly where the rule holds
 pub accepts_rule : (gs bs : List ℕ) (n : ℕ) → accepts gs bs n ≡ true → IsTreeRule gs bs n
@@ -117,7 +120,7 @@ rule_accepts gs (b ∷ bs) n h =
 
 -- one turn of the pass
 pub turn_meet : (xs gs : List ℕ) (j last met n : ℕ) → j < length xs → last ≤ get_or xs j 0 → get_or xs j 0 ≡ j → met < length gs → get_or gs met 0 ≡ get_or xs j 0
-  → follow j last (drop j xs) (drop met gs) n ≡ follow (j + 1) (get_or xs j 0) (drop (j + 1) xs) (drop (met + 1) gs) n
+    → follow j last (drop j xs) (drop met gs) n ≡ follow (j + 1) (get_or xs j 0) (drop (j + 1) xs) (drop (met + 1) gs) n
 turn_meet xs gs j last met n h l e m g =
     let a = drop-cons xs j 0 h in
     let b = drop-cons gs met 0 m in
@@ -129,7 +132,7 @@ turn_meet xs gs j last met n h l e m g =
     rw (a, b, s, t) (follow-meet j last (get_or xs j 0) (get_or gs met 0) (drop (suc j) xs) (drop (suc met) gs) n e ∙ rw (p, q, r) refl)
 
 pub turn_skip : (xs gs : List ℕ) (j last n : ℕ) → j < length xs → last ≤ get_or xs j 0 → j < get_or xs j 0
-  → follow j last (drop j xs) gs n ≡ follow (j + 1) (get_or xs j 0) (drop (j + 1) xs) gs n
+    → follow j last (drop j xs) gs n ≡ follow (j + 1) (get_or xs j 0) (drop (j + 1) xs) gs n
 turn_skip xs gs j last n h l e =
     let a = drop-cons xs j 0 h in
     let p : nat_le last (get_or xs j 0) ≡ true = le-leb last (get_or xs j 0) l in
@@ -142,8 +145,9 @@ nil-drop [] zero h = refl
 nil-drop [] (suc met) h = absurd (omega (arith, h))
 nil-drop (g ∷ gs) zero h = sym (ne_eqb 0 (suc (length gs)) (λ e. omega (arith, e)))
 nil-drop (g ∷ gs) (suc met) h = elim (cases_eq met (length gs)) [
-    inl e ↦ nil-drop gs met (omega (arith, h)) ∙ (eq-eqb met (length gs) e ∙ sym (eq-eqb (suc met) (suc (length gs)) (omega (arith, e))))
-  | inr e ↦ nil-drop gs met (omega (arith, h)) ∙ (ne_eqb met (length gs) e ∙ sym (ne_eqb (suc met) (suc (length gs)) (λ f. e (omega (arith, f))))) ]
+  | inl e ↦ nil-drop gs met (omega (arith, h)) ∙ (eq-eqb met (length gs) e ∙ sym (eq-eqb (suc met) (suc (length gs)) (omega (arith, e))))
+  | inr e ↦ nil-drop gs met (omega (arith, h)) ∙ (ne_eqb met (length gs) e ∙ sym (ne_eqb (suc met) (suc (length gs)) (λ f. e (omega (arith, f)))))
+]
 
 pub turn_end : (xs gs : List ℕ) (j last met n : ℕ) → j ≡ length xs → met ≤ length gs → follow j last (drop j xs) (drop met gs) n ≡ (nat_eq last n && (nat_eq j (suc n) && nat_eq met (length gs)))
 turn_end xs gs j last met n h m =
@@ -151,14 +155,13 @@ turn_end xs gs j last met n h m =
     let b = nil-drop gs met m in
     ap (λ x. follow j last x (drop met gs) n) a ∙ ap (λ x. nat_eq last n && (nat_eq j (suc n) && x)) b
 
-
 -- one turn, with the bound b that was read: it starts a tree, or it does not
 pub met_one : (xs gs : List ℕ) (j last met n b : ℕ) → b ≡ slice_index xs j → j < length xs → last ≤ b → b ≡ j → met < length gs → slice_index gs met ≡ b
-  → follow j last (drop j xs) (drop met gs) n ≡ follow (j + 1) b (drop (j + 1) xs) (drop (met + 1) gs) n
+    → follow j last (drop j xs) (drop met gs) n ≡ follow (j + 1) b (drop (j + 1) xs) (drop (met + 1) gs) n
 met_one xs gs j last met n b e h l q m k = turn_meet xs gs j last met n h (omega (arith, e, l)) (sym e ∙ q) m (k ∙ e) ∙ ap (λ x. follow (j + 1) x (drop (j + 1) xs) (drop (met + 1) gs) n) (sym e)
 
 pub met_none : (xs gs : List ℕ) (j last met n b : ℕ) → b ≡ slice_index xs j → j < length xs → last ≤ b → j < b
-  → follow j last (drop j xs) (drop met gs) n ≡ follow (j + 1) b (drop (j + 1) xs) (drop met gs) n
+    → follow j last (drop j xs) (drop met gs) n ≡ follow (j + 1) b (drop (j + 1) xs) (drop met gs) n
 met_none xs gs j last met n b e h l k = turn_skip xs (drop met gs) j last n h (omega (arith, e, l)) (omega (arith, e, k)) ∙ ap (λ x. follow (j + 1) x (drop (j + 1) xs) (drop met gs) n) (sym e)
 
 -- all bounds were met

@@ -35,15 +35,15 @@ turn_values T B m t ts =
     ap values_of (in_order-step T B m t ts) ∙ ap (λ x. x ∷ added_values m (ts ++ (out-Tree T t).kids.items)) v
 
 pub turn_bounds : (T B : Type 0) (m : T → B) (t : Tree T) (ts : List (Tree T)) (at b : ℕ) → b ≡ (at + length ts + 1) + length (out-Tree T t).kids.items
-  → added_bounds m at (t ∷ ts) ≡ b ∷ added_bounds m (at + 1) (ts ++ (out-Tree T t).kids.items)
+    → added_bounds m at (t ∷ ts) ≡ b ∷ added_bounds m (at + 1) (ts ++ (out-Tree T t).kids.items)
 turn_bounds T B m t ts at b h =
     let k : width (node_of m t).kids ≡ length (out-Tree T t).kids.items = ap (λ x. width x.kids) (node_of-out T B m t) ∙ width-as_forest m (out-Tree T t).kids.items in
     let l = length-append ts (out-Tree T t).kids.items in
     let e : (at + suc (length ts)) + width (node_of m t).kids ≡ b = omega (arith, k, h) in
     let f : b ≡ (at + 1) + length (ts ++ (out-Tree T t).kids.items) = omega (arith, h, l) in
     ap (λ x. totals (at + suc (length ts)) (kid_counts x)) (in_order-step T B m t ts)
-      ∙ (ap (λ x. x ∷ totals x (kid_counts (in_order m (ts ++ (out-Tree T t).kids.items)))) e
-      ∙ ap (λ x. b ∷ totals x (kid_counts (in_order m (ts ++ (out-Tree T t).kids.items)))) f)
+    ∙ (ap (λ x. x ∷ totals x (kid_counts (in_order m (ts ++ (out-Tree T t).kids.items)))) e
+    ∙ ap (λ x. b ∷ totals x (kid_counts (in_order m (ts ++ (out-Tree T t).kids.items)))) f)
 
 pub turn_fewer : (T B : Type 0) (m : T → B) (t : Tree T) (ts : List (Tree T)) → length (in_order m (ts ++ (out-Tree T t).kids.items)) < length (in_order m (t ∷ ts))
 turn_fewer T B m t ts = let e = ap length (in_order-step T B m t ts) in omega (arith, e)

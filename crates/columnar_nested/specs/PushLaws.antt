@@ -27,20 +27,20 @@ took_count {f} {x} {y} {us} g = ap length g.grew.rows ∙ (length-append (f.rows
 
 pub laid_start : {T : Type 0} (m : T → Row) {valid : T → Type 0} {v : Format} {old : Content} (before : List ℕ) {root : Tree T} {waiting : List (Tree T)} → IsSound v old → All valid (values_in root) → waiting ≡ root ∷ [] → Laid m valid v old old before before root waiting
 laid_start m before s h e = record {
-    taken = [];
-    took = took_none s;
-    values = rw e refl;
-    ends = rw e refl;
-    kept = take-length before;
-    longer = omega arith;
-    valid_left = rw e h;
-  }
+  taken = [];
+  took = took_none s;
+  values = rw e refl;
+  ends = rw e refl;
+  kept = take-length before;
+  longer = omega arith;
+  valid_left = rw e h;
+}
 
 -- one turn, for a node that is met with the trees `rest` behind it
 pub laid_more : (T : Type 0) (m : T → Row) {valid : T → Type 0} {v : Format} {old now next : Content} {before bounds bounds' : List ℕ} {root : Tree T} {waiting waiting' : List (Tree T)} (t : Tree T) (rest : List (Tree T)) (b : ℕ)
-  → Laid m valid v old now before bounds root waiting → waiting ≡ t ∷ rest → b ≡ (length (v.rows now) + length rest + 1) + length (out-Tree T t).kids.items → b < 2 ^ 64
-  → Took v now next (m (out-Tree T t).value ∷ []) → bounds' ≡ bounds ++ b ∷ [] → waiting' ≡ rest ++ (out-Tree T t).kids.items
-  → Laid m valid v old next before bounds' root waiting'
+    → Laid m valid v old now before bounds root waiting → waiting ≡ t ∷ rest → b ≡ (length (v.rows now) + length rest + 1) + length (out-Tree T t).kids.items → b < 2 ^ 64
+    → Took v now next (m (out-Tree T t).value ∷ []) → bounds' ≡ bounds ++ b ∷ [] → waiting' ≡ rest ++ (out-Tree T t).kids.items
+    → Laid m valid v old next before bounds' root waiting'
 laid_more T m {valid} {v} {old} {now} {next} {before} {bounds} {bounds'} {root} {waiting} {waiting'} t rest b l e h fit k f q =
     let tv = turn_values T Row m t rest in
     let tb = turn_bounds T Row m t rest (length (v.rows now)) b h in
@@ -54,9 +54,9 @@ laid_more T m {valid} {v} {old} {now} {next} {before} {bounds} {bounds'} {root} 
       took = took_twice l.took k;
       values = ap (λ ts. (l.taken ++ m (out-Tree T t).value ∷ []) ++ added_values m ts) q ∙ (append_assoc l.taken (m (out-Tree T t).value ∷ []) (added_values m (rest ++ (out-Tree T t).kids.items)) ∙ (ap (λ vs. l.taken ++ vs) (sym tv) ∙ p1));
       ends = ap (λ bs. bs ++ added_bounds m (length (v.rows next)) waiting') (ap (λ bs. words_in (le_bytes bs)) f ∙ words_pushed bounds b fit)
-        ∙ (ap (λ ts. (words_in (le_bytes bounds) ++ b ∷ []) ++ added_bounds m (length (v.rows next)) ts) q
-        ∙ (ap (λ i. (words_in (le_bytes bounds) ++ b ∷ []) ++ added_bounds m i (rest ++ (out-Tree T t).kids.items)) n
-        ∙ (append_assoc (words_in (le_bytes bounds)) (b ∷ []) (added_bounds m (length (v.rows now) + 1) (rest ++ (out-Tree T t).kids.items)) ∙ (ap (λ bs. words_in (le_bytes bounds) ++ bs) (sym tb) ∙ p2))));
+          ∙ (ap (λ ts. (words_in (le_bytes bounds) ++ b ∷ []) ++ added_bounds m (length (v.rows next)) ts) q
+          ∙ (ap (λ i. (words_in (le_bytes bounds) ++ b ∷ []) ++ added_bounds m i (rest ++ (out-Tree T t).kids.items)) n
+          ∙ (append_assoc (words_in (le_bytes bounds)) (b ∷ []) (added_bounds m (length (v.rows now) + 1) (rest ++ (out-Tree T t).kids.items)) ∙ (ap (λ bs. words_in (le_bytes bounds) ++ bs) (sym tb) ∙ p2))));
       kept = ap (take (length before)) f ∙ (take-append-le (length before) bounds (b ∷ []) l.longer ∙ l.kept);
       longer = let o = l.longer in omega (arith, ap length f, g, o);
       valid_left = subst (λ ts. All valid (added_values (λ x. x) ts)) (sym q) (λ k d i. a (suc k) d (omega (arith, i)));
@@ -79,14 +79,14 @@ laid_bounds {m = m} {v = v} {now = now} {bounds = bounds} l e = sym (append-nil 
 
 -- a value is refused
 pub laid_refused : (T : Type 0) (m : T → Row) {valid : T → Type 0} {v : Format} {old now : Content} {before bounds : List ℕ} (y : Content) (root : Tree T) {waiting : List (Tree T)} (t : Tree T) (rest : List (Tree T)) (error : GrowError) → IsLawful v
-  → Laid m valid v old now before bounds root waiting → waiting ≡ t ∷ rest → IsTrueOf error v now (m (out-Tree T t).value ∷ []) → IsTrueOf error (nodes_format v) (both y old) (added_values m (root ∷ []))
+    → Laid m valid v old now before bounds root waiting → waiting ≡ t ∷ rest → IsTrueOf error v now (m (out-Tree T t).value ∷ []) → IsTrueOf error (nodes_format v) (both y old) (added_values m (root ∷ []))
 laid_refused T m {valid} {v} {old} {now} y root t rest error law l e c =
     let tv = turn_values T Row m t rest in
     let p : (l.taken ++ m (out-Tree T t).value ∷ []) ++ added_values m (rest ++ (out-Tree T t).kids.items) ≡ added_values m (root ∷ []) =
-      append_assoc l.taken (m (out-Tree T t).value ∷ []) (added_values m (rest ++ (out-Tree T t).kids.items)) ∙ (ap (λ vs. l.taken ++ vs) (sym tv) ∙ (ap (λ ts. l.taken ++ added_values m ts) (sym e) ∙ l.values)) in
+    append_assoc l.taken (m (out-Tree T t).value ∷ []) (added_values m (rest ++ (out-Tree T t).kids.items)) ∙ (ap (λ vs. l.taken ++ vs) (sym tv) ∙ (ap (λ ts. l.taken ++ added_values m ts) (sym e) ∙ l.values)) in
     true_from v (nodes_format v) now (both y old) (m (out-Tree T t).value ∷ []) (added_values m (root ∷ [])) error
-      (λ x h. or_right (past_count x (suc (length (v.rows old)) + length (added_values m (root ∷ [])))) (refuses_more v x old (added_values m (root ∷ [])))
-        (subst (λ vs. refuses_more v x old vs ≡ true) p (law.more x old (length (v.rows old)) (l.taken ++ m (out-Tree T t).value ∷ []) (added_values m (rest ++ (out-Tree T t).kids.items)) (l.took.adds x (m (out-Tree T t).value ∷ []) h)))) c
+    (λ x h. or_right (past_count x (suc (length (v.rows old)) + length (added_values m (root ∷ [])))) (refuses_more v x old (added_values m (root ∷ [])))
+    (subst (λ vs. refuses_more v x old vs ≡ true) p (law.more x old (length (v.rows old)) (l.taken ++ m (out-Tree T t).value ∷ []) (added_values m (rest ++ (out-Tree T t).kids.items)) (l.took.adds x (m (out-Tree T t).value ∷ []) h)))) c
 
 -- there are at least as many nodes as trees
 as_many : (T : Type 0) (m : T → Row) (ts : List (Tree T)) → length ts ≤ length (added_values m ts)
@@ -100,7 +100,7 @@ as_many T m ts =
 
 -- the next bound would not fit, so there would be too many bounds
 pub laid_too_long : (T : Type 0) (m : T → Row) {valid : T → Type 0} {v : Format} {old now : Content} {before bounds : List ℕ} (y : Content) (root : Tree T) {waiting : List (Tree T)} (t : Tree T) (rest : List (Tree T))
-  → Laid m valid v old now before bounds root waiting → waiting ≡ t ∷ rest → 2 ^ 64 ≤ (length (v.rows now) + length rest + 1) + length (out-Tree T t).kids.items → refuses_more (nodes_format v) too_many (both y old) (added_values m (root ∷ [])) ≡ true
+    → Laid m valid v old now before bounds root waiting → waiting ≡ t ∷ rest → 2 ^ 64 ≤ (length (v.rows now) + length rest + 1) + length (out-Tree T t).kids.items → refuses_more (nodes_format v) too_many (both y old) (added_values m (root ∷ [])) ≡ true
 laid_too_long T m {valid} {v} {old} {now} y root t rest l e h =
     let n = took_count l.took in
     let tv = ap length (turn_values T Row m t rest) in
@@ -109,4 +109,4 @@ laid_too_long T m {valid} {v} {old} {now} y root t rest l e h =
     let p : length (l.taken ++ added_values m (t ∷ rest)) ≡ length (added_values m (root ∷ [])) = ap (λ ts. length (l.taken ++ added_values m ts)) (sym e) ∙ ap length l.values in
     let q = length-append l.taken (added_values m (t ∷ rest)) in
     or_left (past_count too_many (suc (length (v.rows old)) + length (added_values m (root ∷ [])))) (refuses_more v too_many old (added_values m (root ∷ [])))
-      (lt-ltb (2 ^ 64 - 1) (suc (length (v.rows old)) + length (added_values m (root ∷ []))) (omega (arith, n, tv, many, la, p, q, h)))
+    (lt-ltb (2 ^ 64 - 1) (suc (length (v.rows old)) + length (added_values m (root ∷ []))) (omega (arith, n, tv, many, la, p, q, h)))

@@ -26,8 +26,8 @@ abbrev pub held_trees : List ℕ → List ℕ → Content → Content
 held_trees groups bounds z = both (slice (le_bytes groups)) (both (slice (le_bytes bounds)) z)
 
 pub tree_pushed : {T : Type 0} (m : T → Row) (v : Format) (groups bounds groups' bounds' : List ℕ) {z z' : Content} (t : Tree T) (n : ℕ) → IsSound (trees_format v) (held_trees groups bounds z)
-  → Took v z z' (added_values m (t ∷ [])) → words_in (le_bytes bounds') ≡ words_in (le_bytes bounds) ++ added_bounds m (length (v.rows z)) (t ∷ []) → groups' ≡ groups ++ n ∷ [] → n ≡ length (v.rows z') → n < 2 ^ 64
-  → Took (trees_format v) (held_trees groups bounds z) (held_trees groups' bounds' z') (tree_meaning m t ∷ [])
+    → Took v z z' (added_values m (t ∷ [])) → words_in (le_bytes bounds') ≡ words_in (le_bytes bounds) ++ added_bounds m (length (v.rows z)) (t ∷ []) → groups' ≡ groups ++ n ∷ [] → n ≡ length (v.rows z') → n < 2 ^ 64
+    → Took (trees_format v) (held_trees groups bounds z) (held_trees groups' bounds' z') (tree_meaning m t ∷ [])
 tree_pushed m v groups bounds groups' bounds' {z} {z'} t n s k b g e l =
     let f : length (v.rows z) + 1 ≡ suc (length (v.rows z)) = omega arith in
     trees_took v {n = node_of m t} s (record {
@@ -41,10 +41,10 @@ tree_pushed m v groups bounds groups' bounds' {z} {z'} t n s k b g e l =
     })
 
 pub tree_refused : {T : Type 0} (m : T → Row) (v : Format) (groups bounds mid : List ℕ) {groups' bounds' : List ℕ} {z w z' : Content} (t : Tree T) {c n : ℕ} (error : GrowError) → IsLawful v → IsSound (trees_format v) (held_trees groups bounds z)
-  → ((some : List Row) × Took v z w some) → take (length bounds) mid ≡ bounds
-  → groups' ≡ groups → bounds' ≡ take c mid → c ≡ length bounds → WasCut v w z' n → n ≡ length (v.rows z)
-  → IsTrueOf error (nodes_format v) (both (slice (le_bytes bounds)) z) (added_values m (t ∷ []))
-  → Refused (trees_format v) (held_trees groups bounds z) (held_trees groups' bounds' z') (tree_meaning m t ∷ []) error
+    → ((some : List Row) × Took v z w some) → take (length bounds) mid ≡ bounds
+    → groups' ≡ groups → bounds' ≡ take c mid → c ≡ length bounds → WasCut v w z' n → n ≡ length (v.rows z)
+    → IsTrueOf error (nodes_format v) (both (slice (le_bytes bounds)) z) (added_values m (t ∷ []))
+    → Refused (trees_format v) (held_trees groups bounds z) (held_trees groups' bounds' z') (tree_meaning m t ∷ []) error
 tree_refused m v groups bounds mid {groups'} {bounds'} {z} {w} {z'} t {c} {n} error law s b k g h e cut f a =
     let st : Stayed v z z' = undone law (tree_values v (slice (le_bytes groups)) (slice (le_bytes bounds)) z s) (b.1).grew (subst (λ i. WasCut v w z' i) f cut) in
     let u : bounds' ≡ bounds = h ∙ (ap (λ i. take i mid) e ∙ k) in

@@ -122,11 +122,12 @@ group_within {groups} {bounds} {n} r t h =
     own_places_within : (at : ℕ) (bs : List ℕ) (t n : ℕ) → slice_get (own_places at bs) t ≡ Some n → n < at + length bs
     own_places_within at [] t n h = cc
     own_places_within at (b ∷ bs) t n h = elim (cases_eq b at) [
-        inl e ↦ here at b bs t n (let c : nat_eq b at ≡ true = eq-eqb b at e in rw c at h) (own_places_within (suc at) bs)
+      | inl e ↦ here at b bs t n (let c : nat_eq b at ≡ true = eq-eqb b at e in rw c at h) (own_places_within (suc at) bs)
       | inr e ↦
           let c : nat_eq b at ≡ false = ne_eqb b at e in
           let i = own_places_within (suc at) bs t n (rw c at h) in
-          omega (arith, i) ]
+          omega (arith, i)
+    ]
       where
         here : (at b : ℕ) (bs : List ℕ) (t n : ℕ) → slice_get (at ∷ own_places (suc at) bs) t ≡ Some n → ((t n : ℕ) → slice_get (own_places (suc at) bs) t ≡ Some n → n < suc at + length bs) → n < at + suc (length bs)
         here at b bs zero n h r = let a : at ≡ n = cc in omega (arith, a)
@@ -147,6 +148,7 @@ kid_between {groups} {bounds} {n} r i k l h =
         let h = bounded_by r m (suc j) (omega (arith, e)) in
         let f = r.never_falls j (omega (arith, e)) in
         omega (arith, h, f)
+
     bounded : {groups bounds : List ℕ} {n : ℕ} → IsTreeRule groups bounds n → (j : ℕ) → j ≤ n → slice_index bounds j ≤ n
     bounded {groups} {bounds} {n} r j l = bounded_by r (n - j) j (omega (arith, l))
 

@@ -104,16 +104,16 @@ more-first : (r s t u : Row) → more r s ≡ more t u → r ≡ t
 more-first r s t u e = cc
 
 refit_of : (n g : Node Row) (vs : List Row) → IsLayout (tree_and g.value g.kids no_trees) (starts 0 (tree_and n.value n.kids no_trees)) (0 ∷ ends 0 (tree_and n.value n.kids no_trees)) vs
-  → length vs ≡ length (values_of (nodes (tree_and n.value n.kids no_trees))) → Refit n vs
+    → length vs ≡ length (values_of (nodes (tree_and n.value n.kids no_trees))) → Refit n vs
 refit_of n g vs l e =
     let b : List ℕ = 0 ∷ ends 0 (tree_and n.value n.kids no_trees) in
     let one : trees_of b vs ≡ tree_and g.value g.kids no_trees = layout_read l in
     let two : trees_of b (values_of (nodes (tree_and n.value n.kids no_trees))) ≡ tree_and n.value n.kids no_trees = layout_read (layout_self (tree_and n.value n.kids no_trees)) in
     let u = map-unit vs (values_of (nodes (tree_and n.value n.kids no_trees))) e in
     let m : forest_map (λ (v : Row). unit) (tree_and g.value g.kids no_trees) ≡ forest_map (λ (v : Row). unit) (tree_and n.value n.kids no_trees) =
-      ap (forest_map (λ (v : Row). unit)) (sym one) ∙ (sym (trees_of-map (λ (v : Row). unit) b vs) ∙ (ap (trees_of b) u ∙ (trees_of-map (λ (v : Row). unit) b (values_of (nodes (tree_and n.value n.kids no_trees))) ∙ ap (forest_map (λ (v : Row). unit)) two))) in
+    ap (forest_map (λ (v : Row). unit)) (sym one) ∙ (sym (trees_of-map (λ (v : Row). unit) b vs) ∙ (ap (trees_of b) u ∙ (trees_of-map (λ (v : Row). unit) b (values_of (nodes (tree_and n.value n.kids no_trees))) ∙ ap (forest_map (λ (v : Row). unit)) two))) in
     let s : bare_tree (list (tree_rows (tree_and g.value g.kids no_trees))) ≡ bare_tree (list (tree_rows (tree_and n.value n.kids no_trees))) =
-      bare_rows (tree_and g.value g.kids no_trees) ∙ (ap (λ x. list (tree_rows x)) m ∙ sym (bare_rows (tree_and n.value n.kids no_trees))) in
+    bare_rows (tree_and g.value g.kids no_trees) ∙ (ap (λ x. list (tree_rows x)) m ∙ sym (bare_rows (tree_and n.value n.kids no_trees))) in
     let t : 0 ∷ ends 0 (tree_and n.value n.kids no_trees) ≡ 0 ∷ ends 0 (tree_and g.value g.kids no_trees) = l.at_ends in
     let q : ends 0 (tree_and g.value g.kids no_trees) ≡ ends 0 (tree_and n.value n.kids no_trees) = cc in
     record {

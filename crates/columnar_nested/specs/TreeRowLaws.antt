@@ -60,11 +60,11 @@ tree_same same e =
     record {
       reflexive = λ r. and_from _ _ (p.reflexive r) (alike_all same e (level_values (r ∷ [])));
       symmetric = λ r s h. let u = and_parts (row_eq (bare_tree r) (bare_tree s)) (all_alike same (level_values (r ∷ [])) (level_values (s ∷ []))) h in
-        and_from _ _ (p.symmetric r s u.0) (alike_back same e (level_values (r ∷ [])) (level_values (s ∷ [])) u.1);
+          and_from _ _ (p.symmetric r s u.0) (alike_back same e (level_values (r ∷ [])) (level_values (s ∷ [])) u.1);
       transitive = λ r s t h k.
-        let u = and_parts (row_eq (bare_tree r) (bare_tree s)) (all_alike same (level_values (r ∷ [])) (level_values (s ∷ []))) h in
-        let w = and_parts (row_eq (bare_tree s) (bare_tree t)) (all_alike same (level_values (s ∷ [])) (level_values (t ∷ []))) k in
-        and_from _ _ (p.transitive r s t u.0 w.0) (alike_on same e (level_values (r ∷ [])) (level_values (s ∷ [])) (level_values (t ∷ [])) u.1 w.1);
+          let u = and_parts (row_eq (bare_tree r) (bare_tree s)) (all_alike same (level_values (r ∷ [])) (level_values (s ∷ []))) h in
+          let w = and_parts (row_eq (bare_tree s) (bare_tree t)) (all_alike same (level_values (s ∷ [])) (level_values (t ∷ []))) k in
+          and_from _ _ (p.transitive r s t u.0 w.0) (alike_on same e (level_values (r ∷ [])) (level_values (s ∷ [])) (level_values (t ∷ [])) u.1 w.1);
     }
 
 -- kid i of a node

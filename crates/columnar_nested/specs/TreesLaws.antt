@@ -53,10 +53,10 @@ trees_parts v x y z s =
 
 pub trees_sound : (v : Format) (x y z : Content) → SoundTrees v x y z → IsSound (trees_format v) (both x (both y z))
 trees_sound v x y z s = two_sound (trees_two v) x (both y z) (record {
-    left = s.groups;
-    right = two_sound (nodes_two v) y z (record { left = s.bounds; right = s.values; own = refl });
-    own = rule_accepts (words_of x) (words_of y) (length (v.rows z)) s.rule;
-  })
+  left = s.groups;
+  right = two_sound (nodes_two v) y z (record { left = s.bounds; right = s.values; own = refl });
+  own = rule_accepts (words_of x) (words_of y) (length (v.rows z)) s.rule;
+})
 
 -- how many trees there are
 pub count_trees : (v : Format) (x y z : Content) → SoundTrees v x y z → length (words_of x) ≡ suc (length (trees_rows v (both x (both y z))))
@@ -96,7 +96,7 @@ added_tree : (v : Format) {x x' y y' z z' : Content} {n : Node Row} → (m : One
 added_tree v {n = n} m = refit n m.values.fresh (fresh_count v m)
 
 added_layout : (v : Format) {x x' y y' z z' : Content} {n : Node Row} → SoundTrees v x y z → (m : OneMore v x x' y y' z z' n) → (g : Refit n m.values.fresh)
-  → IsLayout (joined (trees_of (words_of y) (v.rows z)) (tree_and g.is.value g.is.kids no_trees)) (words_of x') (words_of y') (v.rows z')
+    → IsLayout (joined (trees_of (words_of y) (v.rows z)) (tree_and g.is.value g.is.kids no_trees)) (words_of x') (words_of y') (v.rows z')
 added_layout v {x} {x'} {y} {y'} {z} {z'} {n} s m g =
     let l : IsLayout (trees_of (words_of y) (v.rows z)) (words_of x) (words_of y) (v.rows z) = passed_layout (rule_passed s.rule) in
     let p = layout_pushed g.is.value g.is.kids l in
@@ -112,14 +112,14 @@ added_layout v {x} {x'} {y} {y'} {z} {z'} {n} s m g =
 
 added_sound : (v : Format) {x x' y y' z z' : Content} {n : Node Row} → SoundTrees v x y z → (m : OneMore v x x' y y' z z' n) → SoundTrees v x' y' z'
 added_sound v s m = record {
-    groups = m.groups_sound;
-    bounds = m.bounds_sound;
-    values = m.values.grew.sound;
-    rule = layout_rule (added_layout v s m (added_tree v m));
-  }
+  groups = m.groups_sound;
+  bounds = m.bounds_sound;
+  values = m.values.grew.sound;
+  rule = layout_rule (added_layout v s m (added_tree v m));
+}
 
 added_rows : (v : Format) {x x' y y' z z' : Content} {n : Node Row} → SoundTrees v x y z → (m : OneMore v x x' y y' z z' n)
-  → trees_rows v (both x' (both y' z')) ≡ trees_rows v (both x (both y z)) ++ tree_row (added_tree v m).is ∷ []
+    → trees_rows v (both x' (both y' z')) ≡ trees_rows v (both x (both y z)) ++ tree_row (added_tree v m).is ∷ []
 added_rows v {y = y} {z = z} s m =
     let g = added_tree v m in
     ap tree_rows (layout_read (added_layout v s m g)) ∙ tree_rows-joined (trees_of (words_of y) (v.rows z)) (tree_and g.is.value g.is.kids no_trees)
@@ -135,50 +135,50 @@ end_in v x y z s t l = let c = count_trees v x y z s in group_within s.rule t (o
 
 added_kept : (v : Format) {x x' y y' z z' : Content} {n : Node Row} → SoundTrees v x y z → (m : OneMore v x x' y y' z z' n) → Keeps (trees_format v) (both x (both y z)) (both x' (both y' z')) (length (trees_rows v (both x (both y z))))
 added_kept v {x} {x'} {y} {y'} {z} {z'} s m = record {
-    extents = λ t l.
-        let e = ends_kept v s m t l in
-        let k = m.values.grew.kept.extents (end_of_trees x t) (end_in v x y z s t l) in
-        rw (e, k) refl;
-    limits = λ t l e rs.
-        let i = ends_kept v s m t l in
-        let k = m.values.grew.kept.limits (end_of_trees x t) (end_in v x y z s t l) e (level_values rs) in
-        rw (i, k) refl;
-  }
+  extents = λ t l.
+      let e = ends_kept v s m t l in
+      let k = m.values.grew.kept.extents (end_of_trees x t) (end_in v x y z s t l) in
+      rw (e, k) refl;
+  limits = λ t l e rs.
+      let i = ends_kept v s m t l in
+      let k = m.values.grew.kept.limits (end_of_trees x t) (end_in v x y z s t l) e (level_values rs) in
+      rw (i, k) refl;
+}
 
 added_alike : (v : Format) {n : Node Row} {vs : List Row} → (g : Refit n vs) → all_alike v.alike vs (values_of (level_order (tree_and n.value n.kids no_trees))) ≡ true
-  → all_alike (tree_alike v.alike) (tree_row g.is ∷ []) (tree_row n ∷ []) ≡ true
+    → all_alike (tree_alike v.alike) (tree_row g.is ∷ []) (tree_row n ∷ []) ≡ true
 added_alike v {n} {vs} g h =
     let a = level_values-one g.is ∙ g.values in
     let b = level_values-one n in
     and_from _ _ (and_from _ _ (is-row_eq (bare_tree (tree_row g.is)) (bare_tree (tree_row n)) g.shape)
-      (ap (λ us. all_alike v.alike us (level_values (tree_row n ∷ []))) a ∙ (ap (λ us. all_alike v.alike vs us) b ∙ h))) refl
+    (ap (λ us. all_alike v.alike us (level_values (tree_row n ∷ []))) a ∙ (ap (λ us. all_alike v.alike vs us) b ∙ h))) refl
 
 -- what the new columns can't hold, the old ones could not hold with the tree
 added_refuses : (v : Format) {x x' y y' z z' : Content} {n : Node Row} → SoundTrees v x y z → (m : OneMore v x x' y y' z z' n) → (e : Excess) (rs : List Row)
-  → refuses_more (trees_format v) e (both x' (both y' z')) rs ≡ true → refuses_more (trees_format v) e (both x (both y z)) (tree_row n ∷ rs) ≡ true
+    → refuses_more (trees_format v) e (both x' (both y' z')) rs ≡ true → refuses_more (trees_format v) e (both x (both y z)) (tree_row n ∷ rs) ≡ true
 added_refuses v {x} {x'} {y} {y'} {z} {z'} {n} s m e rs h =
     let s' = added_sound v s m in
     let w : length (trees_rows v (both x' (both y' z'))) ≡ suc (length (trees_rows v (both x (both y z)))) =
-      ap length (added_rows v s m) ∙ (length-append (trees_rows v (both x (both y z))) (tree_row (added_tree v m).is ∷ []) ∙ omega arith) in
+    ap length (added_rows v s m) ∙ (length-append (trees_rows v (both x (both y z))) (tree_row (added_tree v m).is ∷ []) ∙ omega arith) in
     let k = last_end v x y z s in
     let k' = last_end v x' y' z' s' in
     let added : List Row = values_of (level_order (tree_and n.value n.kids no_trees)) in
     let lv : level_values (tree_row n ∷ rs) ≡ added ++ level_values rs = level_values-more n rs in
     let ll = length-append added (level_values rs) in
     let r : length (v.rows z') ≡ length (v.rows z) + length added =
-      ap length m.values.grew.rows ∙ (length-append (v.rows z) m.values.fresh ∙ ap (λ i. length (v.rows z) + i) (fresh_count v m)) in
+    ap length m.values.grew.rows ∙ (length-append (v.rows z) m.values.fresh ∙ ap (λ i. length (v.rows z) + i) (fresh_count v m)) in
     let a1 : suc (length (trees_rows v (both x' (both y' z')))) + length rs ≡ suc (length (trees_rows v (both x (both y z)))) + suc (length rs) = omega (arith, w) in
     let a2 : suc (length (v.rows z')) + length (level_values rs) ≡ suc (length (v.rows z)) + length (added ++ level_values rs) = omega (arith, r, ll) in
     let h1 : (past_count e (suc (length (trees_rows v (both x (both y z)))) + suc (length rs)) || (past_count e (suc (length (v.rows z)) + length (added ++ level_values rs)) || refuses_more v e z' (level_values rs))) ≡ true
-      = rw (k', a1, a2) at h in
+    = rw (k', a1, a2) at h in
     let q = or_both (past_count e (suc (length (trees_rows v (both x (both y z)))) + suc (length rs))) (past_count e (suc (length (v.rows z)) + length (added ++ level_values rs)) || refuses_more v e z' (level_values rs))
-      (past_count e (suc (length (trees_rows v (both x (both y z)))) + suc (length rs))) (past_count e (suc (length (v.rows z)) + length (added ++ level_values rs)) || refuses_more v e z (added ++ level_values rs))
-      (λ p. p) (or_both (past_count e (suc (length (v.rows z)) + length (added ++ level_values rs))) (refuses_more v e z' (level_values rs)) (past_count e (suc (length (v.rows z)) + length (added ++ level_values rs))) (refuses_more v e z (added ++ level_values rs)) (λ p. p) (m.values.adds e (level_values rs))) h1 in
+    (past_count e (suc (length (trees_rows v (both x (both y z)))) + suc (length rs))) (past_count e (suc (length (v.rows z)) + length (added ++ level_values rs)) || refuses_more v e z (added ++ level_values rs))
+    (λ p. p) (or_both (past_count e (suc (length (v.rows z)) + length (added ++ level_values rs))) (refuses_more v e z' (level_values rs)) (past_count e (suc (length (v.rows z)) + length (added ++ level_values rs))) (refuses_more v e z (added ++ level_values rs)) (λ p. p) (m.values.adds e (level_values rs))) h1 in
     ap (λ us. past_count e (suc (length (trees_rows v (both x (both y z)))) + suc (length rs)) || (past_count e (suc (end_of_trees x (length (trees_rows v (both x (both y z))))) + length us) || v.refuses e z (end_of_trees x (length (trees_rows v (both x (both y z))))) us)) lv
-      ∙ (ap (λ i. past_count e (suc (length (trees_rows v (both x (both y z)))) + suc (length rs)) || (past_count e (suc i + length (added ++ level_values rs)) || v.refuses e z i (added ++ level_values rs))) k ∙ q)
+    ∙ (ap (λ i. past_count e (suc (length (trees_rows v (both x (both y z)))) + suc (length rs)) || (past_count e (suc i + length (added ++ level_values rs)) || v.refuses e z i (added ++ level_values rs))) k ∙ q)
 
 pub trees_took : (v : Format) {x x' y y' z z' : Content} {n : Node Row} → IsSound (trees_format v) (both x (both y z)) → OneMore v x x' y y' z z' n
-  → Took (trees_format v) (both x (both y z)) (both x' (both y' z')) (tree_row n ∷ [])
+    → Took (trees_format v) (both x (both y z)) (both x' (both y' z')) (tree_row n ∷ [])
 trees_took v {x} {x'} {y} {y'} {z} {z'} {n} i m =
     let s = trees_parts v x y z i in
     record {
@@ -209,8 +209,8 @@ trees_stayed v {x} {y} {z} {z'} i t =
 
 -- what the bounds and the values can't take, the trees can't
 pub trees_refused : (v : Format) {x y z z' : Content} (n : Node Row) {error : GrowError} → IsSound (trees_format v) (both x (both y z)) → Stayed v z z'
-  → IsTrueOf error (nodes_format v) (both y z) (values_of (level_order (tree_and n.value n.kids no_trees)))
-  → Refused (trees_format v) (both x (both y z)) (both x (both y z')) (tree_row n ∷ []) error
+    → IsTrueOf error (nodes_format v) (both y z) (values_of (level_order (tree_and n.value n.kids no_trees)))
+    → Refused (trees_format v) (both x (both y z)) (both x (both y z')) (tree_row n ∷ []) error
 trees_refused v {x} {y} {z} {z'} n {error} i t c =
     let s = trees_parts v x y z i in
     let k = last_end v x y z s in
@@ -218,7 +218,7 @@ trees_refused v {x} {y} {z} {z'} n {error} i t c =
     record {
       stayed = trees_stayed v i t;
       cause = true_from (nodes_format v) (trees_format v) (both y z) (both x (both y z)) (values_of (level_order (tree_and n.value n.kids no_trees))) (tree_row n ∷ []) error
-        (λ e h.
+          (λ e h.
           ap (λ us. past_count e (suc (length (trees_rows v (both x (both y z)))) + 1) || nodes_refuses v e (both y z) (end_of_trees x (length (trees_rows v (both x (both y z))))) us) lv
           ∙ (ap (λ i. past_count e (suc (length (trees_rows v (both x (both y z)))) + 1) || nodes_refuses v e (both y z) i (values_of (level_order (tree_and n.value n.kids no_trees)))) k
           ∙ or_right (past_count e (suc (length (trees_rows v (both x (both y z)))) + 1)) (refuses_more (nodes_format v) e (both y z) (values_of (level_order (tree_and n.value n.kids no_trees)))) h)) c;
@@ -242,11 +242,11 @@ tree_values v x y z s = (trees_parts v x y z s).values
 -- the root is the node before its first kid
 pub root_ref : {bounds : List ℕ} {n g r u : ℕ} → slice_index bounds g ≡ g → IsRef bounds n g (slice_index bounds g + 1) (slice_index bounds (g + 1)) → r ≡ g → u ≡ slice_index bounds (r + 1) → IsRef bounds n r (r + 1) u
 root_ref {bounds} {n} {g} {r} {u} o f e h = record {
-    rule = f.rule;
-    within = rw e f.within;
-    low = rw e (ap (λ i. i + 1) (sym o) ∙ f.low);
-    high = h ∙ rw e f.high;
-  }
+  rule = f.rule;
+  within = rw e f.within;
+  low = rw e (ap (λ i. i + 1) (sym o) ∙ f.low);
+  high = h ∙ rw e f.high;
+}
 
 pub len_trees : (v : Format) (x y z : Content) {n : ℕ} → IsSound (trees_format v) (both x (both y z)) → n ≡ length (words_of x) → n - 1 ≡ length (trees_rows v (both x (both y z)))
 len_trees v x y z {n} s e =

@@ -29,7 +29,7 @@ ends-root j v k r =
     let e = level_order-tree v k no_trees in
     let one : ends (j + 0) (tree_and v k r) ≡ ends j (tree_and v k r) = ap (λ x. ends x (tree_and v k r)) z in
     let two : ends j (tree_and v k r) ≡ totals (suc j) (width k ∷ kid_counts (level_order k)) ++ ends (j + suc (length (level_order k))) r =
-      ap (λ x. totals (suc j) (kid_counts x) ++ ends (j + length x) r) e in
+    ap (λ x. totals (suc j) (kid_counts x) ++ ends (j + length x) r) e in
     one ∙ (two ∙ ap (λ x. totals (suc j) (width k ∷ kid_counts (level_order k)) ++ ends x r) l)
 
 pub ends-next : {A : Type 0} (j : ℕ) (v : A) (k r ts : Forest A) → walk_ends j (tree_and v k r) ts ≡ (suc j + width (joined r k)) ∷ walk_ends (suc j) (joined r k) ts
@@ -39,10 +39,10 @@ ends-next j v k r ts =
     let m : (j + suc (width r)) + width k ≡ suc j + width (joined r k) = omega arith in
     let l : j + suc (length (level_order (joined r k))) ≡ suc j + length (level_order (joined r k)) = omega arith in
     let one : walk_ends j (tree_and v k r) ts ≡ totals (j + suc (width r)) (width k ∷ kid_counts (level_order (joined r k))) ++ ends (j + suc (length (level_order (joined r k)))) ts =
-      ap (λ x. totals (j + suc (width r)) (kid_counts x) ++ ends (j + length x) ts) (level_order-tree v k r) in
+    ap (λ x. totals (j + suc (width r)) (kid_counts x) ++ ends (j + length x) ts) (level_order-tree v k r) in
     let two : totals (j + suc (width r)) (width k ∷ kid_counts (level_order (joined r k))) ++ ends (j + suc (length (level_order (joined r k)))) ts
-        ≡ (suc j + width (joined r k)) ∷ (totals (suc j + width (joined r k)) (kid_counts (level_order (joined r k))) ++ ends (j + suc (length (level_order (joined r k)))) ts) =
-      ap (λ x. x ∷ (totals x (kid_counts (level_order (joined r k))) ++ ends (j + suc (length (level_order (joined r k)))) ts)) m in
+    ≡ (suc j + width (joined r k)) ∷ (totals (suc j + width (joined r k)) (kid_counts (level_order (joined r k))) ++ ends (j + suc (length (level_order (joined r k)))) ts) =
+    ap (λ x. x ∷ (totals x (kid_counts (level_order (joined r k))) ++ ends (j + suc (length (level_order (joined r k)))) ts)) m in
     one ∙ (two ∙ ap (λ x. (suc j + width (joined r k)) ∷ (totals (suc j + width (joined r k)) (kid_counts (level_order (joined r k))) ++ ends x ts)) l)
 
 pub starts-root : {A : Type 0} (j : ℕ) (v : A) (k r : Forest A) → walk_starts j no_trees (tree_and v k r) ≡ j ∷ walk_starts (suc j) k r
@@ -96,7 +96,6 @@ module _ {A : Type 0} (P : ℕ → Forest A → Forest A → Type 0)
     (done : (j : ℕ) → P j no_trees no_trees)
     (root : (j : ℕ) (v : A) (k r : Forest A) → P (suc j) k r → P j no_trees (tree_and v k r))
     (next : (j : ℕ) (v : A) (k r ts : Forest A) → P (suc j) (joined r k) ts → P j (tree_and v k r) ts) where
-
   walk_within : (n j : ℕ) (q ts : Forest A) → size q + size ts < n → P j q ts
   walk_within zero j q ts h = absurd (omega arith)
   walk_within (suc n) j no_trees no_trees h = done j

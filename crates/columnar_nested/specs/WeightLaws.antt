@@ -194,7 +194,7 @@ later_fewer node rest later b m e =
 
 -- a kid is copied next, and its node goes on the stack
 pub down_fewer : (T : Type 0) (kids : List (Tree T)) (d : ℕ) (kid : Tree T) (fresh : List (Tree T)) (b b' m m' : ℕ) → d < length kids → kid ≡ slice_index_or kids d kid → fresh ≡ [] → b' ≡ b + uncopied kids (d + 1) → m' ≡ m + 1
-  → (uncopied (out-Tree T kid).kids.items (length fresh) + b') + ((uncopied (out-Tree T kid).kids.items (length fresh) + b') + m') < (uncopied kids d + b) + ((uncopied kids d + b) + m)
+    → (uncopied (out-Tree T kid).kids.items (length fresh) + b') + ((uncopied (out-Tree T kid).kids.items (length fresh) + b') + m') < (uncopied kids d + b) + ((uncopied kids d + b) + m)
 down_fewer T kids d kid fresh b b' m m' l e z f g =
     let h = ap count (drop_more kids d kid l) in
     let k = ap (λ t. count (t ∷ drop (d + 1) kids)) (sym e) in
@@ -204,7 +204,7 @@ down_fewer T kids d kid fresh b b' m m' l e z f g =
 
 -- all kids of a node were copied, and it is a kid of the one on the stack
 pub up_fewer : (T : Type 0) (kids pk copied : List (Tree T)) (d n : ℕ) (b b' m m' : ℕ) → length copied ≡ n + 1 → b ≡ b' + uncopied pk (n + 1) → m ≡ m' + 1
-  → (uncopied pk (length copied) + b') + ((uncopied pk (length copied) + b') + m') < (uncopied kids d + b) + ((uncopied kids d + b) + m)
+    → (uncopied pk (length copied) + b') + ((uncopied pk (length copied) + b') + m') < (uncopied kids d + b) + ((uncopied kids d + b) + m)
 up_fewer T kids pk copied d n b b' m m' e f g =
     let h = ap (uncopied pk) e in
     omega (arith, h, f, g)

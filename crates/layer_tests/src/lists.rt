@@ -130,7 +130,10 @@ fn lists_are_pushed_from_slices_and_vectors(rt: HostRuntime) -> Result<(), Fail>
     assert!(rt; takes_ref(&mut lists, &Slice::new(1, 2, view)));
     assert!(rt; takes(&mut lists, owned));
     assert!(rt; lists.push_iter(pair.iter().copied()).is_ok());
-    assert_eq!(rt; lists.bounds.as_slice(), [2, 2, 3, 4, 6, 7, 8, 10].as_slice());
+    assert_eq!(rt;
+        lists.bounds.as_slice(),
+        [2, 2, 3, 4, 6, 7, 8, 10].as_slice()
+    );
     assert_eq!(rt;
         lists.values.as_slice(),
         [1, 2, 3, 3, 1, 2, 2, 3, 1, 2].as_slice()

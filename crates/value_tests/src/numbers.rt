@@ -3,9 +3,9 @@ ghost use Rattle.std.specs.Prelude.{◌≡◌, length};
 ghost use Rattle.columnar_base.specs.Format.{IsSound};
 
 use columnar_base::fault::StoreFault;
-use columnar_base::traits::{Clear, Column, Index, Len, Push, PushRef};
 use columnar_base::iter::IterOwn;
 use columnar_base::slice::Slice;
+use columnar_base::traits::{Clear, Column, Index, Len, Push, PushRef};
 use columnar_base::view::View;
 use columnar_core::bytes::{AsBytes, Check, Stored};
 use columnar_core::container::{

@@ -142,8 +142,7 @@ impl<'x, T: Item, TC: Truncate + PushRef<T>, BC: Offsets + Push<u64>> PushRef<&'
     }
 }
 
-impl<T: Item, TC: Truncate + PushRef<T>, BC: Offsets + Push<u64>> PushRef<Vec<T>>
-    for Vecs<TC, BC> {
+impl<T: Item, TC: Truncate + PushRef<T>, BC: Offsets + Push<u64>> PushRef<Vec<T>> for Vecs<TC, BC> {
     fn push_ref(&mut self, item: &Vec<T>) -> Result<(), GrowError> {
         self.push_items(item.as_slice())
     }

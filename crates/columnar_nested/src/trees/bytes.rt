@@ -21,11 +21,7 @@ use columnar_core::words::{byte_count, word_at, word_count};
 use std::alloc::Global;
 
 // Are groups and bounds whole words? Slices are counted from `from` on.
-fn judged_words(
-    groups: View<'_, u64>,
-    bounds: View<'_, u64>,
-    from: usize,
-) -> Result<(), StoreFault>
+fn judged_words(groups: View<'_, u64>, bounds: View<'_, u64>, from: usize) -> Result<(), StoreFault>
     requires { from + 1 < 2 ^ 64 }
     ensures { verdict result ≡ first (both_broken words_format words_format (slice (view_bytes groups.entry)) (slice (view_bytes bounds.entry)) from) }
 {

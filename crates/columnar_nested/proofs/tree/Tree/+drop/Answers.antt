@@ -19,8 +19,9 @@ loop-kid-preserved g t c = rest_lighter g.row.T.Denot c.in-Some.kid c.pop_front.
 pub loop-next-smaller : goal.loop-next-smaller
 loop-next-smaller g t c =
     elim c.match-append.branch [
-      in-Err+in_default-pop_front w ↦ queue_left g.row.T.Denot c.loop-next.self c.in-Some-pop_front.node c.loop-next.waiting.items c.append.new.self.items c.pop_front-in-loop-next.new.self.items w.in-Err.ensures.items c.in-Some-pop_front.ensures.items
-    | in_default w ↦ queue_fewer g.row.T.Denot c.loop-next.self c.in-Some-pop_front.node c.loop-next.waiting.items c.append.new.self.items c.pop_front-in-loop-next.new.self.items (w.in_default.ensures.items ∙ ap (λ us. c.loop-next.waiting.items ++ us) c.from_vec-next.ensures.items) c.in-Some-pop_front.ensures.items ]
+      | in-Err+in_default-pop_front w ↦ queue_left g.row.T.Denot c.loop-next.self c.in-Some-pop_front.node c.loop-next.waiting.items c.append.new.self.items c.pop_front-in-loop-next.new.self.items w.in-Err.ensures.items c.in-Some-pop_front.ensures.items
+      | in_default w ↦ queue_fewer g.row.T.Denot c.loop-next.self c.in-Some-pop_front.node c.loop-next.waiting.items c.append.new.self.items c.pop_front-in-loop-next.new.self.items (w.in_default.ensures.items ∙ ap (λ us. c.loop-next.waiting.items ++ us) c.from_vec-next.ensures.items) c.in-Some-pop_front.ensures.items
+    ]
 
 pub loop-next-preserved : goal.loop-next-preserved
 loop-next-preserved g t c =

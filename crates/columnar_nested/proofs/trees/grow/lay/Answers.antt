@@ -41,7 +41,7 @@ returns-in_err-append-clause-begun g c = (c.loop-node.invariant.taken ++ g.T.Ite
 pub loop-node-smaller : goal.loop-node-smaller
 loop-node-smaller g c =
     let e : c.append.new.self.items ≡ c.pop_front.new.self.items ++ (out-Tree g.row.T.Denot c.in-Some.node).kids.items =
-      c.in_ok-append.ensures.items ∙ ap (λ x. c.pop_front.new.self.items ++ x) (c.from_vec-next.ensures.items ∙ ap (λ k. k.items) c.into_parts-value.ensures.kids) in
+    c.in_ok-append.ensures.items ∙ ap (λ x. c.pop_front.new.self.items ++ x) (c.from_vec-next.ensures.items ∙ ap (λ k. k.items) c.into_parts-value.ensures.kids) in
     let f = turn_fewer g.row.T.Denot Row g.T.Item.meaning c.in-Some.node c.pop_front.new.self.items in
     let h : length (in_order g.T.Item.meaning c.append.new.self.items) < length (in_order g.T.Item.meaning c.loop-node.waiting.items) = rw (e, c.in-Some.ensures.items) f in
     h
@@ -53,4 +53,4 @@ loop-node-preserved g c =
     let l3 : c.len-in-Some-2.result ≡ length (out-Tree g.row.T.Denot c.in-Some.node).kids.items = c.len-in-Some-2.ensures ∙ (c.into_parts-value.result.1.ok.0 ∙ ap (λ k. length k.items) c.into_parts-value.ensures.kids) in
     let d : c.in-Some-bound_of.bound ≡ (c.len.result + c.len-in-Some.result + 1) + c.len-in-Some-2.result = c.in-Some-bound_of.ensures.some in
     laid_more g.row.T.Denot g.T.Item.meaning c.in-Some.node c.pop_front.new.self.items c.in-Some-bound_of.bound c.loop-node.invariant c.in-Some.ensures.items (rw (l1, l2, l3) at d) (omega arith)
-      (rw c.into_parts-value.ensures.value at c.in_ok-push_ref.ensures.ok) c.in_ok-push.ensures.items (c.in_ok-append.ensures.items ∙ ap (λ x. c.pop_front.new.self.items ++ x) (c.from_vec-next.ensures.items ∙ ap (λ k. k.items) c.into_parts-value.ensures.kids))
+    (rw c.into_parts-value.ensures.value at c.in_ok-push_ref.ensures.ok) c.in_ok-push.ensures.items (c.in_ok-append.ensures.items ∙ ap (λ x. c.pop_front.new.self.items ++ x) (c.from_vec-next.ensures.items ∙ ap (λ k. k.items) c.into_parts-value.ensures.kids))

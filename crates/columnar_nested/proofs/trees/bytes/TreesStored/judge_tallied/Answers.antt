@@ -12,7 +12,7 @@ use Rattle.columnar_nested.proofs.trees.bytes.TreesStored.judge_tallied.Goals as
 pub returns-in_err-judge_tallied-clause-exact : goal.returns-in_err-judge_tallied-clause-exact
 returns-in_err-judge_tallied-clause-exact g c =
     rw (passed_on c.from_residual-in_err-judge_tallied.result c.from_residual-in_err-judge_tallied.ensures.1)
-      (values_judged_at g.TC.Column.format (slices_in c.args.store.now) c.args.offset c.get.result.now c.get-2.result.now (fault_of c.in_err-judge_tallied.field-0.0) (record { room = c.requires.room; groups = c.get.ensures; bounds = c.get-2.ensures }) (rw (ap bytes_of c.from_le_bytes-groups.ensures, ap bytes_of c.from_le_bytes-bounds.ensures) at c.in_ok-judged_words.ensures) c.in_err-judge_tallied.ensures.exact)
+    (values_judged_at g.TC.Column.format (slices_in c.args.store.now) c.args.offset c.get.result.now c.get-2.result.now (fault_of c.in_err-judge_tallied.field-0.0) (record { room = c.requires.room; groups = c.get.ensures; bounds = c.get-2.ensures }) (rw (ap bytes_of c.from_le_bytes-groups.ensures, ap bytes_of c.from_le_bytes-bounds.ensures) at c.in_ok-judged_words.ensures) c.in_err-judge_tallied.ensures.exact)
 
 pub rows_in-nodes-requires-clause-fits : goal.rows_in-nodes-requires-clause-fits
 rows_in-nodes-requires-clause-fits g c = fits_from g.TC.Column.format (c.args.offset + 2) (slices_in c.args.store.now) (omega (arith, c.requires.room)) c.in_ok-judge_tallied.ensures.exact

@@ -22,11 +22,11 @@ returns-clause-bounds g c = ap (λ xs. slice_set xs 0 0) c.truncate-2.ensures.it
 pub returns-clause-sound : goal.returns-clause-sound
 returns-clause-sound g c =
     none_sound g.TC.Column.format (slice_set c.truncate.new.self.items 0 0) (slice_set c.truncate-2.new.self.items 0 0) (g.TC.Column.content c.clear.new.self)
-      (ap (λ xs. slice_set xs 0 0) c.truncate.ensures.items ∙ set_first c.args.self.now.groups.items (groups_there g.TC.Column.format c.args.self.now.groups.items c.args.self.now.bounds.items (g.TC.Column.content c.args.self.now.values) c.requires))
-      (ap (λ xs. slice_set xs 0 0) c.truncate-2.ensures.items ∙ set_first c.args.self.now.bounds.items (bounds_there g.TC.Column.format c.args.self.now.groups.items c.args.self.now.bounds.items (g.TC.Column.content c.args.self.now.values) c.requires))
-      c.clear.ensures.sound c.clear.ensures.rows
+    (ap (λ xs. slice_set xs 0 0) c.truncate.ensures.items ∙ set_first c.args.self.now.groups.items (groups_there g.TC.Column.format c.args.self.now.groups.items c.args.self.now.bounds.items (g.TC.Column.content c.args.self.now.values) c.requires))
+    (ap (λ xs. slice_set xs 0 0) c.truncate-2.ensures.items ∙ set_first c.args.self.now.bounds.items (bounds_there g.TC.Column.format c.args.self.now.groups.items c.args.self.now.bounds.items (g.TC.Column.content c.args.self.now.values) c.requires))
+    c.clear.ensures.sound c.clear.ensures.rows
 
 pub returns-clause-rows : goal.returns-clause-rows
 returns-clause-rows g c =
     none_rows g.TC.Column.format (slice_set c.truncate.new.self.items 0 0) (slice_set c.truncate-2.new.self.items 0 0) (g.TC.Column.content c.clear.new.self)
-      (ap (λ xs. slice_set xs 0 0) c.truncate-2.ensures.items ∙ set_first c.args.self.now.bounds.items (bounds_there g.TC.Column.format c.args.self.now.groups.items c.args.self.now.bounds.items (g.TC.Column.content c.args.self.now.values) c.requires))
+    (ap (λ xs. slice_set xs 0 0) c.truncate-2.ensures.items ∙ set_first c.args.self.now.bounds.items (bounds_there g.TC.Column.format c.args.self.now.groups.items c.args.self.now.bounds.items (g.TC.Column.content c.args.self.now.values) c.requires))

@@ -2,12 +2,12 @@
 """Tries the edits crates/NAME/edits/*.edit: each is a wrong body, and the prover must refuse the function that it is in.
 
 An edit has lines 'file: src/..', 'old: TEXT' (standing once in that file) and 'new: TEXT', as those of must-fail/ have.
-Many are tried in one check, which proves their functions alone: no two of a group are in functions of one name and one
-file, and a function is proved from the contracts of what it calls alone, so what one edit breaks is not blamed on
-another. An edit passes where a goal of its own function is not proved. One of which that can't be said is tried alone:
-it passes where a goal of any function or a lemma is not proved. One that is refused for a name that it took away, or for
-no goal, fails. An edit that is in no function (of a constant, say) has a line 'of: FUNCTION ..' that names those of its
-file that must be refused.
+Many are tried in one check, which proves their functions alone: no two of a group are in one function, and a function is
+proved from the contracts of what it calls alone, so what one edit breaks is not blamed on another. An edit passes where a
+goal of its own function is not proved; those in functions of one name and one file pass where as many functions are not
+proved. One of which that can't be said is tried alone: it passes where a goal of any function or a lemma is not proved. One that is refused for a name that it took away, or for
+no goal, fails. An edit that is in no function, of a constant or a definition, say, has a line 'of: FUNCTION ..' that names
+those of its file whose proofs need it, and these alone are proved.
 
 usage: .ci/edits.py [--jobs N] [CRATE ..]      after the crates' libraries were built, as by rt ci or rt all check
        .ci/edits.py --behind LOG               beside the rt ci that writes LOG: the edits of a crate begin once it is
@@ -95,7 +95,11 @@ class Edit:
 
     def functions(self, folder):
         """The functions that it is in, by module and name, as far as the first pair of each file tells."""
-        names = set()
+        return {within(file, name) for file, _, name in self.heads(folder)}
+
+    def heads(self, folder):
+        """The same, each by its file, its line and its name."""
+        found = set()
         for file, old, _ in self.pairs:
             with open(f"{folder}/{file}", encoding="utf-8") as it:
                 text = it.read()
@@ -103,14 +107,14 @@ class Edit:
                 continue
             above = text[: text.index(old) + len(old)].split("\n")
             depth = len(above[-1]) - len(above[-1].lstrip())
-            for line in reversed(above):
+            for number, line in reversed(list(enumerate(above))):
                 head = re.match(r"( *)(?:pub(?:\([a-z]+\))? )?(?:final )?(?:const )?fn (\w+)", line)
                 if head:
-                    names.add(within(file, head[2]))
+                    found.add((file, number, head[2]))
                     break
-                if re.match(r"\S", line) and not re.match(r"[){}]|where\b|//|#|for ", line) and depth > 0:
+                if re.match(r"\S", line) and not re.match(r"[>){}]|where\b|//|#|for ", line) and depth > 0:
                     break
-        return names
+        return found
 
 
 def guard():
@@ -209,9 +213,18 @@ def lemmas(said, texts, folder):
     return found
 
 
-def verdict(edit, names, said):
-    """Whether the edit is refused for what its function has to show, and what to say."""
+def unproved(said, names):
+    """How many functions of these places the check does not prove."""
+    paths = set(re.findall(r"(?m)^fn (\S+): (?:no proof|not proved)", said))
+    return sum(any(meet(placed(path), name) for name in names) for path in paths)
+
+
+def verdict(edit, names, said, beside=0):
+    """Whether the edit is refused for what its function has to show, and what to say, where so many other edits of the
+    check are in functions of its places."""
     open_goals, gone = judged(said)
+    if beside and unproved(said, names) <= beside:
+        return False, "NOT REFUSED"
     goals = [goal for place in open_goals for goal in open_goals[place] if any(meet(place, name) for name in names)]
     if goals:
         return True, "refused: " + ", ".join(dict.fromkeys(goals))
@@ -224,24 +237,32 @@ MOST = 40
 
 
 def grouped(edits, folder):
-    """Groups of edits, no two of one group in functions of one place or in one text; and those that are in none."""
+    """Groups of edits, no two of one group in one function or in one text; and those that are in none."""
     groups, alone = [], []
     for edit in edits:
-        names = edit.functions(folder)
+        names, heads = edit.functions(folder), edit.heads(folder)
         if edit.of or not names or any(not file.endswith(".rt") for file, _, _ in edit.pairs):
             alone.append(edit)
             continue
         for group in groups:
-            fits = len(group["edits"]) < MOST and not any(meet(one, other) for one in names for other in group["names"])
+            fits = len(group["edits"]) < MOST and not heads & group["heads"]
+            # (those of several functions would not be told apart)
+            fits = fits and (len(heads) == 1 or not beside(names, group["edits"]))
             if fits and edit.made(dict(group["texts"]), folder) is None:
                 break
         else:
-            group = {"names": set(), "texts": {}, "edits": []}
+            group = {"names": set(), "heads": set(), "texts": {}, "edits": []}
             groups.append(group)
         edit.made(group["texts"], folder)
         group["names"] |= names
+        group["heads"] |= heads
         group["edits"].append((edit, names))
     return groups, alone
+
+
+def beside(names, edits):
+    """How many of these edits are in functions of these places."""
+    return sum(any(meet(one, other) for one in names for other in others) for _, others in edits)
 
 
 def in_its_function(edit, names, crate):
@@ -252,17 +273,17 @@ def in_its_function(edit, names, crate):
     return verdict(edit, names, said) if status == 1 and reached(said) else (False, "")
 
 
-def by_itself(edit, names, crate):
-    """The verdict of an edit that is tried alone."""
-    texts = {}
+def by_itself(edit, crate):
+    """The verdict of an edit that is tried alone: over the functions that it names, or else over the whole crate."""
+    texts, names = {}, set(edit.of)
     edit.made(texts, crate.folder)
-    status, said = crate.check(texts)
+    status, said = crate.check(texts, names)
     if status == 0:
-        return False, "NOT REFUSED: the crate is still proved"
-    if not said.rstrip().split("\n")[-1].startswith("logic=not-proved"):
+        return False, f"NOT REFUSED: {'what it names' if names else 'the crate'} is still proved"
+    if not reached(said):
         errors = [line for line in said.split("\n") if ": error" in line]
         return False, f"BAD EDIT: it did not reach the prover: {errors[0][:200] if errors else said[-200:]}"
-    well, text = verdict(edit, names, said)
+    well, text = verdict(edit, names | edit.functions(crate.folder), said)
     if well:
         return True, text
     open_goals, gone = judged(said)
@@ -321,15 +342,14 @@ def tried(crate, is_proved):
         for group in groups:
             status, said = crate.check(group["texts"], group["names"])
             for edit, names in group["edits"]:
-                well, text = verdict(edit, names, said) if reached(said) else (False, "")
+                well, text = verdict(edit, names, said, beside(names, group["edits"]) - 1) if reached(said) else (False, "")
                 if not well and len(group["edits"]) > 1:
                     well, text = in_its_function(edit, names, crate)
                 if not well:
-                    well, text = by_itself(edit, names, crate)
+                    well, text = by_itself(edit, crate)
                 tell(edit, well, text)
         for edit in alone:
-            well, text = in_its_function(edit, set(edit.of), crate) if edit.of else (False, "")
-            tell(edit, *((well, text) if well else by_itself(edit, set(edit.of), crate)))
+            tell(edit, *by_itself(edit, crate))
     return passed, failed
 
 

@@ -1,5 +1,6 @@
 pub use Rattle.columnar_core.specs.Format
 pub use Rattle.columnar_core.specs.Row
+pub use Rattle.columnar_core.specs.Texts
 pub use Rattle.columnar_core.specs.Frame
 pub use Rattle.columnar_core.specs.Change
 pub use Rattle.columnar_core.specs.ChangeLaws
@@ -16,12 +17,18 @@ pub use Rattle.columnar_sums.specs.Counting
 pub use Rattle.columnar_sums.specs.RankColumns
 pub use Rattle.columnar_sums.specs.Options
 pub use Rattle.columnar_sums.specs.Results
+pub use Rattle.columnar_sums.specs.Discriminants
+pub use Rattle.columnar_sums.specs.DiscriminantLaws
 pub use Rattle.columnar_nested.specs.Forest
 pub use Rattle.columnar_nested.specs.Layout
 pub use Rattle.columnar_nested.specs.TreeRows
+pub use Rattle.columnar_nested.specs.TreeValues
 pub use Rattle.columnar_nested.specs.Trees
+pub use Rattle.columnar_nested.specs.NodeRefs
+pub use Rattle.columnar_nested.specs.Refs
 pub use Rattle.columnar_lists.specs.Lists
 pub use Rattle.columnar_lists.specs.Cut
+pub use Rattle.columnar_strings.specs.Strings
 pub use Rattle.columnar_bytes.specs.Machine
 pub use Rattle.columnar_bytes.specs.States
 pub use Rattle.columnar_bytes.specs.Written

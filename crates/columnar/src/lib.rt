@@ -4,13 +4,14 @@
 #![tactic(auto)]
 
 pub mod adts;
+pub mod boxed;
 pub mod bytes;
 pub mod common;
 pub mod fault;
 pub mod primitive;
+pub mod rc;
+pub mod string;
 pub mod sums;
-#[cfg(test)]
-mod tests;
 pub mod tuple;
 pub mod vector;
 
@@ -25,6 +26,8 @@ pub use columnar_core::traits::{
     Clear, Column, CopyAs, Index, IndexAs, Item, Len, Push, PushInto, PushRef,
 };
 pub use columnar_lists::vector::Vecs;
+pub use columnar_strings::string::Strings;
+pub use columnar_sums::discriminant::Discriminant;
 pub use columnar_sums::option::Options;
 pub use columnar_sums::rank_select::{RankSelect, RankSelectCursor};
 pub use columnar_sums::result::Results;

@@ -4,7 +4,7 @@ use Rattle.std.specs.Prelude.{min, slice_set}
 use Rattle.std.specs.List.{flat_map}
 use Rattle.std.proofs.lemmas.List.{length-replicate, length-take-le, take_at, take_all, take_more_set}
 use Rattle.std.proofs.lemmas.Bool.{cases_lt}
-use Rattle.columnar_base.specs.Row.{Row, array, list, row_eq}
+use Rattle.columnar_base.specs.Row.{Row, list, row_eq}
 use Rattle.columnar_base.specs.Elements.{pieces}
 use Rattle.columnar_base.specs.ElementLaws.{IsElement, length-flat, pieces-flat, map_back, read_more}
 use Rattle.columnar_base.specs.Arrays.{filled, array_size, array_bytes, array_row_of, array_row}
@@ -32,14 +32,14 @@ pub array_bytes_are : {T : Type 0} {size : ℕ} {bytes : T → List ℕ} {row_of
 array_bytes_are {T} {size} {bytes} zero e xs p l = absurd (omega arith)
 array_bytes_are {T} {size} {bytes} (suc n) e xs p l = filled_whole (size * suc n) (flat_map bytes xs) (length-flat size bytes e.sized xs ∙ ap (λ k. size * k) l)
 
--- the row of an array holds the rows of its elements
-pub array_row_is : {T : Type 0} {size : ℕ} {bytes : T → List ℕ} {row_of : List ℕ → Row} {meaning : T → Row} (n : ℕ) → IsElement size bytes row_of meaning → (xs : List T) → length xs ≡ n → array_row n size bytes row_of xs ≡ array (list (map meaning xs))
+-- the row of an array is the list of its elements' rows
+pub array_row_is : {T : Type 0} {size : ℕ} {bytes : T → List ℕ} {row_of : List ℕ → Row} {meaning : T → Row} (n : ℕ) → IsElement size bytes row_of meaning → (xs : List T) → length xs ≡ n → array_row n size bytes row_of xs ≡ list (map meaning xs)
 array_row_is zero e [] l = refl
 array_row_is zero e (x ∷ xs) l = cc
 array_row_is {T} {size} {bytes} {row_of} (suc n) e xs l =
     let b = array_bytes_are (suc n) e xs (omega arith) l in
     let p : pieces size (suc n) (flat_map bytes xs) ≡ map bytes xs = ap (λ k. pieces size k (flat_map bytes xs)) (sym l) ∙ pieces-flat size bytes e.sized xs in
-    ap (λ bs. array_row_of (suc n) size row_of bs) b ∙ ap (λ ps. array (list (map row_of ps))) p ∙ ap (λ rs. array (list rs)) (map_back e xs)
+    ap (λ bs. array_row_of (suc n) size row_of bs) b ∙ ap (λ ps. list (map row_of ps)) p ∙ ap list (map_back e xs)
 
 -- how many bytes, as far as they can be counted
 pub array_size_is : (size n s : ℕ) → 1 ≤ size → s ≡ min size (2 ^ 64 - 1) → 0 < n → min (s * n) (2 ^ 64 - 1) ≡ min (array_size size n) (2 ^ 64 - 1)

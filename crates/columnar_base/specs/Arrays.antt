@@ -1,7 +1,7 @@
 -- Arrays of elements, as elements.
 use Rattle.std.specs.Prelude.{ℕ, zero, suc, List, ◌++◌, ◌*◌, ◌^◌, map, take, replicate}
 use Rattle.std.specs.List.{flat_map}
-use Rattle.columnar_base.specs.Row.{Row, array, list}
+use Rattle.columnar_base.specs.Row.{Row, list}
 use Rattle.columnar_base.specs.Elements.{pieces}
 
 -- n bytes: those of bs, and zeros where they are too few
@@ -20,7 +20,7 @@ array_bytes n size bytes xs = filled (array_size size n) (flat_map bytes xs)
 
 -- the row that so many bytes are
 abbrev pub array_row_of : ℕ → ℕ → (List ℕ → Row) → List ℕ → Row
-array_row_of n size row_of bs = array (list (map row_of (pieces size n bs)))
+array_row_of n size row_of bs = list (map row_of (pieces size n bs))
 
 -- the row of an array of n elements
 abbrev pub array_row : {T : Type 0} → ℕ → ℕ → (T → List ℕ) → (List ℕ → Row) → List T → Row

@@ -3,10 +3,10 @@ use Rattle.std.proofs.Common.{◌≡◌, ℕ, ◌-◌, ◌≤◌, List, length, 
 use Rattle.std.specs.Int.{Width, w8, w16, w32, w64, w128, byte_len, to_le_bytes, from_le_bytes, cast_signed, cast_unsigned}
 use Rattle.columnar_base.specs.Row.{Row, number, integer}
 use Rattle.columnar_base.specs.ElementLaws.{IsElement}
-use Rattle.columnar_base.specs.Numbers.{cut, unsigned_row, unsigned_row_of, signed_bytes, signed_row, signed_row_of}
+use Rattle.columnar_base.specs.Numbers.{wrapped, unsigned_row, unsigned_row_of, signed_bytes, signed_row, signed_row_of}
 
 -- the bytes of a number read as what the width holds of it
-pub number_back : (w : Width) (n : ℕ) → from_le_bytes w (to_le_bytes w n) ≡ cut w n
+pub number_back : (w : Width) (n : ℕ) → from_le_bytes w (to_le_bytes w n) ≡ wrapped w n
 number_back w8 n = refl
 number_back w16 n = omega arith
 number_back w32 n = omega arith

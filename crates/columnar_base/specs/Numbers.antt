@@ -4,12 +4,12 @@ use Rattle.std.specs.Int.{Width, byte_len, to_le_bytes, from_le_bytes, cast_sign
 use Rattle.columnar_base.specs.Row.{Row, number, integer}
 
 -- what a number is cut to where a width can't hold it
-abbrev pub cut : Width → ℕ → ℕ
-cut w n = n % 2 ^ (8 * byte_len w)
+abbrev pub wrapped : Width → ℕ → ℕ
+wrapped w n = n % 2 ^ (8 * byte_len w)
 
 -- an unsigned number
 abbrev pub unsigned_row : Width → ℕ → Row
-unsigned_row w n = number (cut w n)
+unsigned_row w n = number (wrapped w n)
 
 abbrev pub unsigned_row_of : Width → List ℕ → Row
 unsigned_row_of w bs = number (from_le_bytes w bs)
@@ -19,7 +19,7 @@ abbrev pub signed_bytes : Width → ℤ → List ℕ
 signed_bytes w z = to_le_bytes w (cast_unsigned w z)
 
 abbrev pub signed_row : Width → ℤ → Row
-signed_row w z = integer (cast_signed w (cut w (cast_unsigned w z)))
+signed_row w z = integer (cast_signed w (wrapped w (cast_unsigned w z)))
 
 abbrev pub signed_row_of : Width → List ℕ → Row
 signed_row_of w bs = integer (cast_signed w (from_le_bytes w bs))

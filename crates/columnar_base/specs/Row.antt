@@ -3,7 +3,7 @@ use Rattle.std.specs.Prelude.{ℕ, ℤ, Bool, true, false, List, [], ◌∷◌, 
 use Rattle.std.specs.Ordering.{int_eq}
 
 -- A row of any type. A list of rows is `empty` or `more`; a tuple of three is a tuple of the first and the tuple of
--- the others; an array holds the list of its elements, a team the list of its members, a tree its value and the
+-- the others; an array is the list of its elements; a team holds the list of its members, a tree its value and the
 -- list of its kids.
 pub data Row : Type 0 where
   number : ℕ → Row
@@ -12,8 +12,6 @@ pub data Row : Type 0 where
   truth : Bool → Row
   unit : Row
   duration : ℕ → ℕ → Row
-  text : List ℕ → Row
-  array : Row → Row
   tuple : Row → Row → Row
   none : Row
   some : Row → Row
@@ -50,20 +48,14 @@ abbrev pub items_of : Row → List Row
 items_of (more r rs) = r ∷ items_of rs
 items_of _ = []
 
-abbrev pub end_of : Row → Row
-end_of (more r rs) = end_of rs
-end_of r = r
+abbrev pub list_end : Row → Row
+list_end (more r rs) = list_end rs
+list_end r = r
 
 -- a tuple without its parts; any other row as it is
 abbrev pub bare_tuple : Row → Row
 bare_tuple (tuple r s) = tuple unit unit
 bare_tuple r = r
-
--- do two lists of numbers agree
-abbrev pub numbers_eq : List ℕ → List ℕ → Bool
-numbers_eq [] [] = true
-numbers_eq (n ∷ ns) (m ∷ ms) = nat_eq n m && numbers_eq ns ms
-numbers_eq _ _ = false
 
 -- do two truth values agree
 abbrev pub truth_eq : Bool → Bool → Bool
@@ -79,8 +71,6 @@ row_eq (character n) (character m) = nat_eq n m
 row_eq (truth b) (truth c) = truth_eq b c
 row_eq unit unit = true
 row_eq (duration s n) (duration t m) = nat_eq s t && nat_eq n m
-row_eq (text xs) (text ys) = numbers_eq xs ys
-row_eq (array r) (array s) = row_eq r s
 row_eq (tuple r s) (tuple t u) = row_eq r t && row_eq s u
 row_eq none none = true
 row_eq (some r) (some s) = row_eq r s

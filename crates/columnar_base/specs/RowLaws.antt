@@ -1,18 +1,8 @@
-use Rattle.std.proofs.Common.{◌≡◌, ℕ, Bool, true, false, List, [], ◌∷◌, refl, sym, ◌∙◌, ap}
+use Rattle.std.proofs.Common.{◌≡◌, Bool, true, false, List, [], ◌∷◌, refl, sym, ◌∙◌, ap}
 use Rattle.std.specs.Prelude.{nat_eq}
 use Rattle.std.proofs.lemmas.Bool.{and_parts, and_from, eqb-true, eq-eqb}
 use Rattle.std.proofs.lemmas.Bool.Decides.{Decides-int_eq}
-use Rattle.columnar_base.specs.Row.{Row, number, integer, character, truth, unit, duration, text, array, tuple, none, some, ok, err, empty, more, variant, solo, team, tree, list, first_of, second_of, bare_tuple, items_of, end_of, numbers_eq, truth_eq, row_eq}
-
-numbers_eq-refl : (xs : List ℕ) → numbers_eq xs xs ≡ true
-numbers_eq-refl [] = refl
-numbers_eq-refl (x ∷ xs) = and_from _ _ (eq-eqb x x refl) (numbers_eq-refl xs)
-
-numbers_eq-is : (xs ys : List ℕ) → numbers_eq xs ys ≡ true → xs ≡ ys
-numbers_eq-is [] [] h = refl
-numbers_eq-is [] (y ∷ ys) h = cc
-numbers_eq-is (x ∷ xs) [] h = cc
-numbers_eq-is (x ∷ xs) (y ∷ ys) h = let p = and_parts (nat_eq x y) (numbers_eq xs ys) h in let e = eqb-true x y p.0 in let t = numbers_eq-is xs ys p.1 in rw (e, t) refl
+use Rattle.columnar_base.specs.Row.{Row, number, integer, character, truth, unit, duration, tuple, none, some, ok, err, empty, more, variant, solo, team, tree, list, first_of, second_of, bare_tuple, items_of, list_end, truth_eq, row_eq}
 
 truth_eq-refl : (b : Bool) → truth_eq b b ≡ true
 truth_eq-refl true = refl
@@ -32,8 +22,6 @@ row_eq-refl (character n) = eq-eqb n n refl
 row_eq-refl (truth b) = truth_eq-refl b
 row_eq-refl unit = refl
 row_eq-refl (duration s n) = and_from _ _ (eq-eqb s s refl) (eq-eqb n n refl)
-row_eq-refl (text xs) = numbers_eq-refl xs
-row_eq-refl (array r) = row_eq-refl r
 row_eq-refl (tuple r s) = and_from _ _ (row_eq-refl r) (row_eq-refl s)
 row_eq-refl none = refl
 row_eq-refl (some r) = row_eq-refl r
@@ -54,8 +42,6 @@ row_eq-is (character n) (character m) h = ap character (eqb-true n m h)
 row_eq-is (truth b) (truth c) h = ap truth (truth_eq-is b c h)
 row_eq-is unit unit h = refl
 row_eq-is (duration s n) (duration t m) h = let p = and_parts (nat_eq s t) (nat_eq n m) h in let a = eqb-true s t p.0 in let b = eqb-true n m p.1 in rw (a, b) refl
-row_eq-is (text xs) (text ys) h = ap text (numbers_eq-is xs ys h)
-row_eq-is (array r) (array s) h = ap array (row_eq-is r s h)
 row_eq-is (tuple r s) (tuple t u) h = let p = and_parts (row_eq r t) (row_eq s u) h in let a = row_eq-is r t p.0 in let b = row_eq-is s u p.1 in rw (a, b) refl
 row_eq-is none none h = refl
 row_eq-is (some r) (some s) h = ap some (row_eq-is r s h)
@@ -88,18 +74,18 @@ abbrev listed : List Row → Row → Row
 listed [] end = end
 listed (r ∷ rs) end = more r (listed rs end)
 
-listed-is : (r : Row) → listed (items_of r) (end_of r) ≡ r
+listed-is : (r : Row) → listed (items_of r) (list_end r) ≡ r
 listed-is (more r s) = ap (more r) (listed-is s)
 listed-is _ = refl
 
 -- a row is its items and what stands at their end
-pub same_items : (r s : Row) → items_of r ≡ items_of s → end_of r ≡ end_of s → r ≡ s
+pub same_items : (r s : Row) → items_of r ≡ items_of s → list_end r ≡ list_end s → r ≡ s
 same_items r s a b = sym (listed-is r) ∙ (rw (a, b) (listed-is s))
 
 pub items_of-list : (rs : List Row) → items_of (list rs) ≡ rs
 items_of-list [] = refl
 items_of-list (r ∷ rs) = ap (λ t. r ∷ t) (items_of-list rs)
 
-pub end_of-list : (rs : List Row) → end_of (list rs) ≡ empty
+pub end_of-list : (rs : List Row) → list_end (list rs) ≡ empty
 end_of-list [] = refl
 end_of-list (r ∷ rs) = end_of-list rs

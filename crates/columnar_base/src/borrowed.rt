@@ -6,6 +6,7 @@ ghost use Rattle.columnar_base.specs.Format.{IsSound};
 use crate::element::Element;
 use crate::traits::{Clear, Column, Index, Len};
 use crate::view::element_at;
+use std::rc::Rc;
 
 impl<'a, T: Element> Column for &'a [T] {
     ghost format = { elements_format T.size T.align T.row_of };
@@ -99,4 +100,16 @@ fn shared_at<'a, T>(items: &'a [T], index: usize) -> &'a T
     ensures { slice_get items.now index ≡ Some result.now }
 {
     &items[index]
+}
+
+impl<C: Column> Column for Rc<C> {
+    ghost format = { C.format };
+
+    ghost content = { λ r. C.content r.value };
+}
+
+impl<C: Len> Len for Rc<C> {
+    fn len(&self) -> usize {
+        self.as_ref().len()
+    }
 }

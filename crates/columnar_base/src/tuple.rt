@@ -1,8 +1,8 @@
 //! Tuples of columns of one length, side by side: a column of tuples.
-ghost use Rattle.std.specs.Prelude.{◌≡◌, ◌≤◌, length};
+ghost use Rattle.std.specs.Prelude.{◌≡◌, ◌≤◌, length, List, [], ◌∷◌, Ok, OnOk, IfOk, IfErr};
 ghost use Rattle.columnar_base.specs.Row.{tuple};
 ghost use Rattle.columnar_base.specs.Format.{both, IsSound};
-ghost use Rattle.columnar_base.specs.Change.{WasCut};
+ghost use Rattle.columnar_base.specs.Change.{Took, Refused, Stayed, WasCut};
 ghost use Rattle.columnar_base.specs.Tuples.{pair_format};
 ghost use Rattle.columnar_base.specs.TupleLaws.{pair_lawful};
 
@@ -10,6 +10,9 @@ use crate::fault::GrowError;
 use crate::storage::{Reserve, Storage, Truncate};
 use crate::traits::{Clear, Column, Index, Item, Len, Push, PushInto, PushRef};
 use std::alloc::Global;
+
+pub mod one;
+pub mod three;
 
 /// As a row, it is the tuple of the rows of its parts.
 impl<S: Item, T: Item> Item for (S, T) {
@@ -120,10 +123,85 @@ impl<P: PushInto<(A, B)>, A: Column, B: Column> Push<P> for (A, B) {
     }
 }
 
-// Cuts a part to its first `rows` rows, since the other part refused one; the error is given back.
+/// What is handed to one column, and how the column takes it.
+pub trait Enter<C: Column>: Item {
+    /// Adds a row to the column that is alike to this item, or is refused, as `push`.
+    fn enter(self, column: &mut C) -> Result<(), GrowError>
+        requires sound { IsSound C.format (C.content column.old) }
+        requires valid { Self.valid self }
+        ensures ok { OnOk result (Took C.format (C.content column.old) (C.content column.new) (Self.meaning self ∷ [])) }
+        ensures err { IfErr result (λ e. Refused C.format (C.content column.old) (C.content column.new) (Self.meaning self ∷ []) e) };
+}
+
+/// An item that is pushed.
+#[derive(Drop)]
+pub struct ByValue<T>(pub T);
+
+impl<T: Item> Item for ByValue<T> {
+    ghost meaning = { λ v. T.meaning v.0 };
+
+    ghost valid = { λ v. T.valid v.0 };
+}
+
+impl<T: Item, C: Push<T>> Enter<C> for ByValue<T> {
+    #[inline(always)]
+    fn enter(self, column: &mut C) -> Result<(), GrowError> {
+        column.push(self.0)
+    }
+}
+
+/// An item that is lent.
+#[derive(Clone, Copy)]
+pub struct ByRef<'x, T>(pub &'x T);
+
+impl<'x, T: Item> Item for ByRef<'x, T> {
+    ghost meaning = { λ v. T.meaning v.0.now };
+
+    ghost valid = { λ v. T.valid v.0.now };
+}
+
+impl<'x, T: Item, C: PushRef<T>> Enter<C> for ByRef<'x, T> {
+    #[inline(always)]
+    fn enter(self, column: &mut C) -> Result<(), GrowError> {
+        column.push_ref(self.0)
+    }
+}
+
+/// What was duplicated of the earlier parts, and one more part; unless an earlier one was refused it.
+pub fn duplicate_after<E: Drop, A: Storage>(
+    earlier: Result<E, GrowError>,
+    part: &A,
+    alloc: Global,
+) -> Result<(E, A), GrowError>
+    requires { IfErr earlier (λ e. e ≡ GrowError.Memory) }
+    ensures earlier { IfOk result (λ p. earlier ≡ Ok p.0) }
+    ensures content { IfOk result (λ p. A.content p.1 ≡ A.content part.now) }
+    ensures memory { IfErr result (λ e. e ≡ GrowError.Memory) }
+{
+    let earlier = earlier?;
+    let copy = part.duplicate(alloc)?;
+    Ok((earlier, copy))
+}
+
+/// Makes room in one more part, unless an earlier part was refused it; its rows stay.
+pub fn reserve_after<A: Reserve>(
+    earlier: Result<(), GrowError>,
+    part: &mut A,
+    room: A::Room,
+) -> Result<(), GrowError>
+    requires sound { IsSound A.format (A.content part.old) }
+    requires memory { IfErr earlier (λ e. e ≡ GrowError.Memory) }
+    ensures stayed { Stayed A.format (A.content part.old) (A.content part.new) }
+    ensures memory { IfErr result (λ e. e ≡ GrowError.Memory) }
+{
+    earlier?;
+    part.reserve_room(room)
+}
+
+/// Cuts a part to its first `rows` rows, since another part refused one; the error is given back.
 #[cold]
 #[inline(never)]
-fn taken_back<A: Truncate>(part: &mut A, rows: usize, error: GrowError) -> GrowError
+pub fn taken_back<A: Truncate>(part: &mut A, rows: usize, error: GrowError) -> GrowError
     requires sound { IsSound A.format (A.content part.old) }
     requires in_range { rows ≤ length (A.format.rows (A.content part.old)) }
     ensures cut { WasCut A.format (A.content part.old) (A.content part.new) rows }
@@ -133,17 +211,39 @@ fn taken_back<A: Truncate>(part: &mut A, rows: usize, error: GrowError) -> GrowE
     error
 }
 
+/// Each of two parts takes its own item. Where one of them refuses it, neither has taken any.
+#[inline(always)]
+pub fn push_two<A: Truncate, B: Column, P: Enter<A>, Q: Enter<B> + Drop>(
+    first: &mut A,
+    second: &mut B,
+    p: P,
+    q: Q,
+) -> Result<(), GrowError>
+    requires sound { IsSound (pair_format A.format B.format) (both (A.content first.old) (B.content second.old)) }
+    requires valid_first { P.valid p }
+    requires valid_second { Q.valid q }
+    ensures ok { OnOk result (Took (pair_format A.format B.format) (both (A.content first.old) (B.content second.old)) (both (A.content first.new) (B.content second.new)) (tuple (P.meaning p) (Q.meaning q) ∷ [])) }
+    ensures err { IfErr result (λ e. Refused (pair_format A.format B.format) (both (A.content first.old) (B.content second.old)) (both (A.content first.new) (B.content second.new)) (tuple (P.meaning p) (Q.meaning q) ∷ []) e) }
+{
+    let before = first.len();
+    p.enter(first)?;
+    match q.enter(second) {
+        Ok(()) => Ok(()),
+        Err(error) => Err(taken_back(first, before, error)),
+    }
+}
+
 /// Each part takes its own of the item. Where one of them refuses it, neither has taken any.
 impl<S: Item, T: Item + Drop, A: Truncate + Push<S>, B: Push<T>> PushInto<(A, B)> for (S, T) {
     #[inline(always)]
     fn push_into(self, column: &mut (A, B)) -> Result<(), GrowError> {
-        let before = column.0.len();
         let (first, second) = self;
-        column.0.push(first)?;
-        match column.1.push(second) {
-            Ok(()) => Ok(()),
-            Err(error) => Err(taken_back(&mut column.0, before, error)),
-        }
+        push_two(
+            &mut column.0,
+            &mut column.1,
+            ByValue(first),
+            ByValue(second),
+        )
     }
 }
 
@@ -159,11 +259,6 @@ impl<'x, S: Item, T: Item, A: Truncate + PushRef<S>, B: PushRef<T>> PushInto<(A,
 impl<S: Item, T: Item, A: Truncate + PushRef<S>, B: PushRef<T>> PushRef<(S, T)> for (A, B) {
     #[inline(always)]
     fn push_ref(&mut self, item: &(S, T)) -> Result<(), GrowError> {
-        let rows = self.0.len();
-        self.0.push_ref(&item.0)?;
-        match self.1.push_ref(&item.1) {
-            Ok(()) => Ok(()),
-            Err(error) => Err(taken_back(&mut self.0, rows, error)),
-        }
+        push_two(&mut self.0, &mut self.1, ByRef(&item.0), ByRef(&item.1))
     }
 }

@@ -1,11 +1,15 @@
 //! Values of the language as rows.
-ghost use Rattle.std.specs.Prelude.{◌/◌, ◌%◌, map, All};
+ghost use Rattle.std.specs.Prelude.{◌/◌, ◌%◌, map, All, string_bytes};
+ghost use Rattle.std.specs.Box.{boxed_str_bytes};
 ghost use Rattle.std.specs.Duration.{as_nanos};
 ghost use Rattle.columnar_base.specs.Row.{character, duration, list, unit};
 ghost use Rattle.std.specs.Int.{w64, w128};
 ghost use Rattle.columnar_base.specs.Numbers.{signed_row, unsigned_row};
+ghost use Rattle.columnar_base.specs.Texts.{text_row};
 
 use crate::traits::Item;
+use smallvec::SmallVec;
+use std::boxed::BoxedStr;
 use std::time::Duration;
 
 impl Item for () {
@@ -51,11 +55,46 @@ impl<'x, T: Item> Item for &'x [T] {
     ghost valid = { λ s. All T.valid s.now };
 }
 
+/// As a row, it is what it holds.
+impl<T: Item> Item for Box<T> {
+    ghost meaning = { λ b. T.meaning b.value };
+
+    ghost valid = { λ b. T.valid b.value };
+}
+
 /// As a row, it is the list of its items.
 impl<T: Item> Item for Vec<T> {
     ghost meaning = { λ v. list (map T.meaning v.items) };
 
     ghost valid = { λ v. All T.valid v.items };
+}
+
+/// As a row, it is the list of its items.
+impl<T: Item, const N: usize> Item for SmallVec<T, N> {
+    ghost meaning = { λ v. list (map T.meaning v.items) };
+
+    ghost valid = { λ v. All T.valid v.items };
+}
+
+/// As a row, it is the list of its bytes.
+impl<'x> Item for &'x str {
+    ghost meaning = { λ s. text_row s.now };
+
+    ghost valid = { λ s. Unit {0} };
+}
+
+/// As a row, it is the list of its bytes.
+impl Item for String {
+    ghost meaning = { λ s. text_row (string_bytes s) };
+
+    ghost valid = { λ s. Unit {0} };
+}
+
+/// As a row, it is the list of its bytes.
+impl Item for BoxedStr {
+    ghost meaning = { λ s. text_row (boxed_str_bytes s) };
+
+    ghost valid = { λ s. Unit {0} };
 }
 
 /// Its whole seconds, and the nanoseconds besides.

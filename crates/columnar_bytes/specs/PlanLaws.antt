@@ -4,7 +4,7 @@ use Rattle.std.specs.List.{flat_map}
 use Rattle.std.proofs.lemmas.List.{drop_more, drop_all, ext_get_or}
 use Rattle.std.proofs.lemmas.List.FromFn.{get_or-map-range_with_len}
 use Rattle.columnar_core.specs.Bytes.{word, rounded, word_bytes, le_bytes}
-use Rattle.columnar_core.specs.Words.{ends, table_words, slice_words, words, word_count}
+use Rattle.columnar_core.specs.Words.{slice_ends, table_words, slice_words, words, word_count}
 use Rattle.columnar_core.specs.WordLaws.{length-slice_words, word-le_bytes}
 use Rattle.columnar_core.specs.WordViewLaws.{length-le_bytes}
 
@@ -18,11 +18,11 @@ words_rest slices i l =
 pub words_done : (slices : List (List ℕ)) (i : ℕ) → length slices ≤ i → length (flat_map slice_words (drop i slices)) ≡ 0
 words_done slices i l = ap (λ t. length (flat_map slice_words t)) (drop_all i slices l)
 
-pub ends_rest : (start : ℕ) (slices : List (List ℕ)) (i : ℕ) → i < length slices → ends start (drop i slices) ≡ ((start + length (get_or slices i [])) ∷ []) ++ ends (rounded (start + length (get_or slices i []))) (drop (i + 1) slices)
-ends_rest start slices i l = ap (ends start) (drop_more slices i [] l)
+pub ends_rest : (start : ℕ) (slices : List (List ℕ)) (i : ℕ) → i < length slices → slice_ends start (drop i slices) ≡ ((start + length (get_or slices i [])) ∷ []) ++ slice_ends (rounded (start + length (get_or slices i []))) (drop (i + 1) slices)
+ends_rest start slices i l = ap (slice_ends start) (drop_more slices i [] l)
 
-pub ends_done : (start : ℕ) (slices : List (List ℕ)) (i : ℕ) → length slices ≤ i → ends start (drop i slices) ≡ []
-ends_done start slices i l = ap (ends start) (drop_all i slices l)
+pub ends_done : (start : ℕ) (slices : List (List ℕ)) (i : ℕ) → length slices ≤ i → slice_ends start (drop i slices) ≡ []
+ends_done start slices i l = ap (slice_ends start) (drop_all i slices l)
 
 pub pieces_rest : (f : List ℕ → List ℕ) (slices : List (List ℕ)) (i : ℕ) → i < length slices → flat_map f (drop i slices) ≡ f (get_or slices i []) ++ flat_map f (drop (i + 1) slices)
 pieces_rest f slices i l = ap (flat_map f) (drop_more slices i [] l)
@@ -49,17 +49,17 @@ pub words_out : (s : List ℕ) (i : ℕ) → (length s + 7) / 8 ≤ i → drop i
 words_out s i l = drop_all i (slice_words s) (omega (arith, length-slice_words s))
 
 -- one slice on in the table
-pub ends_step : (start : ℕ) (slices : List (List ℕ)) (i end next : ℕ) → i < length slices → end ≡ start + length (get_or slices i []) → next ≡ rounded end → ends start (drop i slices) ≡ (end ∷ []) ++ ends next (drop (i + 1) slices)
+pub ends_step : (start : ℕ) (slices : List (List ℕ)) (i end next : ℕ) → i < length slices → end ≡ start + length (get_or slices i []) → next ≡ rounded end → slice_ends start (drop i slices) ≡ (end ∷ []) ++ slice_ends next (drop (i + 1) slices)
 ends_step start slices i end next l p q = rw (q, p) (ends_rest start slices i l)
 
-pub table_step : (slices : List (List ℕ)) (count : ℕ) → count ≡ length slices → table_words slices ≡ (8 * (count + 1) ∷ []) ++ ends (8 * (count + 1)) slices
-table_step slices count e = ap (λ n. 8 * (n + 1) ∷ ends (8 * (n + 1)) slices) (sym e)
+pub table_step : (slices : List (List ℕ)) (count : ℕ) → count ≡ length slices → table_words slices ≡ (8 * (count + 1) ∷ []) ++ slice_ends (8 * (count + 1)) slices
+table_step slices count e = ap (λ n. 8 * (n + 1) ∷ slice_ends (8 * (n + 1)) slices) (sym e)
 
-pub ends_bytes : (start : ℕ) (slices : List (List ℕ)) (i end next : ℕ) → i < length slices → end ≡ start + length (get_or slices i []) → next ≡ rounded end → le_bytes (ends start (drop i slices)) ≡ word_bytes end ++ le_bytes (ends next (drop (i + 1) slices))
+pub ends_bytes : (start : ℕ) (slices : List (List ℕ)) (i end next : ℕ) → i < length slices → end ≡ start + length (get_or slices i []) → next ≡ rounded end → le_bytes (slice_ends start (drop i slices)) ≡ word_bytes end ++ le_bytes (slice_ends next (drop (i + 1) slices))
 unfolding word_bytes
 ends_bytes start slices i end next l p q = ap le_bytes (ends_step start slices i end next l p q)
 
-pub table_bytes : (slices : List (List ℕ)) (count : ℕ) → count ≡ length slices → le_bytes (table_words slices) ≡ word_bytes (8 * (count + 1)) ++ le_bytes (ends (8 * (count + 1)) slices)
+pub table_bytes : (slices : List (List ℕ)) (count : ℕ) → count ≡ length slices → le_bytes (table_words slices) ≡ word_bytes (8 * (count + 1)) ++ le_bytes (slice_ends (8 * (count + 1)) slices)
 unfolding word_bytes
 table_bytes slices count e = ap le_bytes (table_step slices count e)
 

@@ -17,11 +17,15 @@ pub mod Bounds
 pub mod BoundLaws
 pub mod StoreLaws
 pub mod Appended
+pub mod SidesLaws
 pub use Rattle.columnar_base.specs.Row
 pub use Rattle.columnar_base.specs.Format
 pub use Rattle.columnar_base.specs.FaultLaws
 pub use Rattle.columnar_base.specs.AlikeLaws
 pub use Rattle.columnar_base.specs.TwoParts
+pub use Rattle.columnar_base.specs.Tuples
+pub use Rattle.columnar_base.specs.LongTuples
+pub use Rattle.columnar_base.specs.Solos
 pub use Rattle.columnar_base.specs.Change
 pub use Rattle.columnar_base.specs.ChangeLaws
 pub use Rattle.columnar_base.specs.Faults
@@ -35,3 +39,4 @@ pub use Rattle.columnar_base.specs.OptionRows
 pub use Rattle.columnar_base.specs.ResultRows
 pub use Rattle.columnar_base.specs.WordViews
 pub use Rattle.columnar_base.specs.WordViewLaws
+pub use Rattle.columnar_base.specs.Texts

@@ -13,23 +13,23 @@ abbrev pub inside : {T : Type 0} → (T → List ℕ) → Wrapping T → List �
 inside bytes x = bytes x.0
 
 -- the bytes of the elements, each lowest first
-abbrev pub bytes_of : Elements → List ℕ
-bytes_of (Bytes bs) = bs.now
-bytes_of (U16 xs) = flat_map (to_le_bytes w16) xs.now
-bytes_of (U32 xs) = flat_map (to_le_bytes w32) xs.now
-bytes_of (U64 xs) = flat_map (to_le_bytes w64) xs.now
-bytes_of (I8 xs) = flat_map (signed_bytes w8) xs.now
-bytes_of (I16 xs) = flat_map (signed_bytes w16) xs.now
-bytes_of (I32 xs) = flat_map (signed_bytes w32) xs.now
-bytes_of (I64 xs) = flat_map (signed_bytes w64) xs.now
-bytes_of (WrappingU8 xs) = flat_map (inside (to_le_bytes w8)) xs.now
-bytes_of (WrappingU16 xs) = flat_map (inside (to_le_bytes w16)) xs.now
-bytes_of (WrappingU32 xs) = flat_map (inside (to_le_bytes w32)) xs.now
-bytes_of (WrappingU64 xs) = flat_map (inside (to_le_bytes w64)) xs.now
-bytes_of (WrappingI8 xs) = flat_map (inside (signed_bytes w8)) xs.now
-bytes_of (WrappingI16 xs) = flat_map (inside (signed_bytes w16)) xs.now
-bytes_of (WrappingI32 xs) = flat_map (inside (signed_bytes w32)) xs.now
-bytes_of (WrappingI64 xs) = flat_map (inside (signed_bytes w64)) xs.now
+abbrev pub element_bytes : Elements → List ℕ
+element_bytes (Bytes bs) = bs.now
+element_bytes (U16 xs) = flat_map (to_le_bytes w16) xs.now
+element_bytes (U32 xs) = flat_map (to_le_bytes w32) xs.now
+element_bytes (U64 xs) = flat_map (to_le_bytes w64) xs.now
+element_bytes (I8 xs) = flat_map (signed_bytes w8) xs.now
+element_bytes (I16 xs) = flat_map (signed_bytes w16) xs.now
+element_bytes (I32 xs) = flat_map (signed_bytes w32) xs.now
+element_bytes (I64 xs) = flat_map (signed_bytes w64) xs.now
+element_bytes (WrappingU8 xs) = flat_map (inside (to_le_bytes w8)) xs.now
+element_bytes (WrappingU16 xs) = flat_map (inside (to_le_bytes w16)) xs.now
+element_bytes (WrappingU32 xs) = flat_map (inside (to_le_bytes w32)) xs.now
+element_bytes (WrappingU64 xs) = flat_map (inside (to_le_bytes w64)) xs.now
+element_bytes (WrappingI8 xs) = flat_map (inside (signed_bytes w8)) xs.now
+element_bytes (WrappingI16 xs) = flat_map (inside (signed_bytes w16)) xs.now
+element_bytes (WrappingI32 xs) = flat_map (inside (signed_bytes w32)) xs.now
+element_bytes (WrappingI64 xs) = flat_map (inside (signed_bytes w64)) xs.now
 
 -- so many they are, and each is a byte
 pub record IsCounted (count : ℕ) (bs : List ℕ) : Type 0 where

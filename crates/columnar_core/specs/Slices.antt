@@ -1,11 +1,11 @@
 -- What a slice of a column holds.
 use Rattle.std.specs.Prelude.{ℕ, List}
 use Rattle.columnar_core.specs.declared.byte_slice.ByteSlice.{ByteSlice}
-use Rattle.columnar_core.specs.SliceBytes.{bytes_of}
+use Rattle.columnar_core.specs.SliceBytes.{element_bytes}
 
 -- the bytes that a slice stands for
 abbrev pub bytes_in : ByteSlice → List ℕ
-bytes_in slice = bytes_of slice.elements
+bytes_in slice = element_bytes slice.elements
 
 -- the alignment that its elements ask for, in bytes
 abbrev pub alignment : ByteSlice → ℕ

@@ -7,7 +7,7 @@ use Rattle.std.proofs.lemmas.List.FromFn.{length-map-range_with_len}
 use Rattle.std.proofs.lemmas.Nat.{from_le_bytes-to_le_bytes_8}
 use Rattle.columnar_base.specs.WordViewLaws.{length-le_bytes}
 use Rattle.columnar_core.specs.Bytes.{word, rounded, word_bytes, le_bytes}
-use Rattle.columnar_core.specs.Words.{ends, table_words, slice_words, words, padded, store_bytes}
+use Rattle.columnar_core.specs.Words.{slice_ends, table_words, slice_words, words, padded, store_bytes}
 use Rattle.columnar_core.specs.Frame.{end_of, start_of, Frame, IsLegal}
 
 pub length-word_bytes : (n : ℕ) → length (word_bytes n) ≡ 8
@@ -36,7 +36,7 @@ word-le_bytes (x ∷ xs) rest (suc i) l b =
     ap (λ t. word t (suc i)) (append_assoc (word_bytes x) (le_bytes xs) rest)
     ∙ word-behind (word_bytes x) (le_bytes xs ++ rest) i (length-word_bytes x) ∙ word-le_bytes xs rest i (omega arith) b
 
-pub length-ends : (start : ℕ) (slices : List (List ℕ)) → length (ends start slices) ≡ length slices
+pub length-ends : (start : ℕ) (slices : List (List ℕ)) → length (slice_ends start slices) ≡ length slices
 length-ends start [] = refl
 length-ends start (s ∷ ss) = ap suc (length-ends (rounded (start + length s)) ss)
 
@@ -64,14 +64,14 @@ length-store_bytes slices =
 -- where slice i starts, of slices that are laid out from `start` on
 abbrev pub from_of : ℕ → List (List ℕ) → ℕ → ℕ
 from_of start slices zero = start
-from_of start slices (suc i) = rounded (get_or (ends start slices) i 0)
+from_of start slices (suc i) = rounded (get_or (slice_ends start slices) i 0)
 
 pub from_shift : (start : ℕ) (s : List ℕ) (ss : List (List ℕ)) (i : ℕ) → from_of start (s ∷ ss) (suc i) ≡ from_of (rounded (start + length s)) ss i
 from_shift start s ss zero = refl
 from_shift start s ss (suc i) = refl
 
 -- s lies in all, between two places
-pub record IsAt (all s : List ℕ) (from to : ℕ) : Type 0 where
+pub record LiesAt (all s : List ℕ) (from to : ℕ) : Type 0 where
   pub ordered : from ≤ to
   pub within : to ≤ length all
   pub is : s ≡ take (to - from) (drop from all)
@@ -88,7 +88,7 @@ zeros_read [] n k = get_or-zeros n k
 zeros_read (x ∷ s) n zero = refl
 zeros_read (x ∷ s) n (suc k) = zeros_read s n k
 
-at_first : (pre s : List ℕ) (n : ℕ) (rest : List ℕ) (start : ℕ) → length pre ≡ start → rounded (start + length s) ≡ start + length s + n → IsAt (pre ++ ((s ++ replicate n 0) ++ rest)) s start (start + length s)
+at_first : (pre s : List ℕ) (n : ℕ) (rest : List ℕ) (start : ℕ) → length pre ≡ start → rounded (start + length s) ≡ start + length s + n → LiesAt (pre ++ ((s ++ replicate n 0) ++ rest)) s start (start + length s)
 at_first pre s n rest start e r =
     let size : length (s ++ replicate n 0) ≡ length s + n = length-append s (replicate n 0) ∙ ap (λ k. length s + k) (length-replicate {A = ℕ} n 0) in
     record {
@@ -105,13 +105,13 @@ at_first pre s n rest start e r =
     }
 
 -- slices that are laid out, each behind the one before
-pub laid : (pre : List ℕ) (start : ℕ) (slices : List (List ℕ)) (i : ℕ) → length pre ≡ start → start % 8 ≡ 0 → i < length slices → IsAt (pre ++ flat_map padded slices) (get_or slices i []) (from_of start slices i) (get_or (ends start slices) i 0)
+pub laid : (pre : List ℕ) (start : ℕ) (slices : List (List ℕ)) (i : ℕ) → length pre ≡ start → start % 8 ≡ 0 → i < length slices → LiesAt (pre ++ flat_map padded slices) (get_or slices i []) (from_of start slices i) (get_or (slice_ends start slices) i 0)
 laid pre start [] i e m l = absurd (omega arith)
 laid pre start (s ∷ ss) zero e m l = at_first pre s (rounded (length s) - length s) (flat_map padded ss) start e (omega arith)
 laid pre start (s ∷ ss) (suc i) e m l =
     let k : length (pre ++ padded s) ≡ rounded (start + length s) = length-append pre (padded s) ∙ omega (arith, length-padded s) in
     let h = laid (pre ++ padded s) (rounded (start + length s)) ss i k (omega arith) (omega arith) in
-    let P : List ℕ → ℕ → Type 0 = λ all from. IsAt all (get_or ss i []) from (get_or (ends (rounded (start + length s)) ss) i 0) in
+    let P : List ℕ → ℕ → Type 0 = λ all from. LiesAt all (get_or ss i []) from (get_or (slice_ends (rounded (start + length s)) ss) i 0) in
     subst (λ (all : List ℕ). P all (from_of start (s ∷ ss) (suc i))) (append_assoc pre (padded s) (flat_map padded ss))
     (subst (P ((pre ++ padded s) ++ flat_map padded ss)) (sym (from_shift start s ss i)) h)
 
@@ -120,7 +120,7 @@ first_word slices b =
     word-le_bytes (table_words slices) (flat_map padded slices) 0 (omega arith)
     (omega (arith, length-words slices))
 
-later_word : (slices : List (List ℕ)) (i : ℕ) → 8 * length (words slices) < 2 ^ 64 → i < length slices → word (store_bytes slices) (suc i) ≡ get_or (ends (8 * (length slices + 1)) slices) i 0
+later_word : (slices : List (List ℕ)) (i : ℕ) → 8 * length (words slices) < 2 ^ 64 → i < length slices → word (store_bytes slices) (suc i) ≡ get_or (slice_ends (8 * (length slices + 1)) slices) i 0
 later_word slices i b l =
     let start = 8 * (length slices + 1) in
     let k : length (le_bytes (table_words slices)) ≡ start = length-le_bytes (table_words slices) ∙ omega (arith, length-ends start slices) in
@@ -133,10 +133,10 @@ pub start_word : (slices : List (List ℕ)) (i : ℕ) → 8 * length (words slic
 start_word slices zero b l = first_word slices b
 start_word slices (suc i) b l = ap (λ k. rounded (word (store_bytes slices) k)) (omega arith) ∙ ap rounded (later_word slices i b (omega arith))
 
-end_word : (slices : List (List ℕ)) (i : ℕ) → 8 * length (words slices) < 2 ^ 64 → i < length slices → end_of (store_bytes slices) i ≡ get_or (ends (8 * (length slices + 1)) slices) i 0
+end_word : (slices : List (List ℕ)) (i : ℕ) → 8 * length (words slices) < 2 ^ 64 → i < length slices → end_of (store_bytes slices) i ≡ get_or (slice_ends (8 * (length slices + 1)) slices) i 0
 end_word slices i b l = ap (word (store_bytes slices)) (omega arith) ∙ later_word slices i b l
 
-pub at_words : (slices : List (List ℕ)) (i : ℕ) → 8 * length (words slices) < 2 ^ 64 → i < length slices → IsAt (store_bytes slices) (get_or slices i []) (start_of (store_bytes slices) i) (end_of (store_bytes slices) i)
+pub at_words : (slices : List (List ℕ)) (i : ℕ) → 8 * length (words slices) < 2 ^ 64 → i < length slices → LiesAt (store_bytes slices) (get_or slices i []) (start_of (store_bytes slices) i) (end_of (store_bytes slices) i)
 at_words slices i b l =
     let start = 8 * (length slices + 1) in
     let k : length (le_bytes (table_words slices)) ≡ start = length-le_bytes (table_words slices) ∙ omega (arith, length-ends start slices) in

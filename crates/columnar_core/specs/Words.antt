@@ -4,13 +4,13 @@ use Rattle.std.specs.List.{range_with_len, flat_map}
 use Rattle.columnar_core.specs.Bytes.{word, rounded, le_bytes}
 
 -- where slices end, of which the first starts at `start`
-abbrev pub ends : ℕ → List (List ℕ) → List ℕ
-ends start [] = []
-ends start (s ∷ ss) = (start + length s) ∷ ends (rounded (start + length s)) ss
+abbrev pub slice_ends : ℕ → List (List ℕ) → List ℕ
+slice_ends start [] = []
+slice_ends start (s ∷ ss) = (start + length s) ∷ slice_ends (rounded (start + length s)) ss
 
 -- the table of the slices: its own end, and the end of each slice
 abbrev pub table_words : List (List ℕ) → List ℕ
-table_words slices = 8 * (length slices + 1) ∷ ends (8 * (length slices + 1)) slices
+table_words slices = 8 * (length slices + 1) ∷ slice_ends (8 * (length slices + 1)) slices
 
 -- the words of a slice, the last one filled with zeros
 abbrev pub slice_words : List ℕ → List ℕ

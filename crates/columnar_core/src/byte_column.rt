@@ -68,6 +68,17 @@ where
     }
 }
 
+impl<'a, 'b, T: Item> ReborrowRef<'b> for &'a [T]
+where
+    'a: 'b,
+{
+    type ShortRef = &'b [T];
+
+    fn reborrow_ref(self) -> &'b [T] {
+        self
+    }
+}
+
 impl<'v, T: Element> Stored for &'v [T] {
     ghost storable = { elements_storable T.size T.align T.row_of };
 

@@ -5,9 +5,9 @@ ghost use Rattle.std.specs.Io.KnownBytes.{Appends};
 ghost use Rattle.columnar_base.specs.WordViews.{view_bytes};
 ghost use Rattle.columnar_core.specs.Bytes.{word, le_bytes, AreBytes};
 ghost use Rattle.columnar_core.specs.Sent.{AppendsBeginning};
-ghost use Rattle.columnar_core.specs.SliceBytes.{IsCounted, bytes_of};
+ghost use Rattle.columnar_core.specs.SliceBytes.{IsCounted, element_bytes};
 
-use super::store::word_at;
+use super::store::word_in_bytes;
 use super::writer::WriteBytes;
 use byteorder::{ByteOrder, LittleEndian};
 use columnar_base::element::Primitive;
@@ -26,7 +26,7 @@ pub struct ByteSlice<'a> {
     elements: Elements<'a>,
     count: usize,
     align: u64,
-    ghost counted: { IsCounted count (bytes_of elements) },
+    ghost counted: { IsCounted count (element_bytes elements) },
 }
 
 // The elements of a slice, by their type
@@ -205,7 +205,7 @@ fn word_or_zeros(bytes: &[u8], index: usize) -> u64
     ensures { result ≡ word bytes.now index }
 {
     if bytes.len() - 8 * index >= 8 {
-        word_at(bytes, index)
+        word_in_bytes(bytes, index)
     } else {
         word_of(bytes, index)
     }

@@ -12,7 +12,7 @@ use crate::bytes::Stored;
 use crate::store::DecodedStore;
 use columnar_base::fault::GrowError;
 pub use columnar_base::storage::{Reserve, Storage, Truncate};
-use columnar_base::traits::{Column, Index, Item, Len, Push};
+use columnar_base::traits::{Column, CopyAs, Index, Item, Len, Push, PushRef};
 use std::alloc::Global;
 use std::marker::PhantomData;
 use std::ops::Range;
@@ -148,6 +148,16 @@ pub trait Container<'a>: Borrow<'a>
     + Storage
     + Push<<Self as Borrow<'a>>::Ref>
     + ExtendFrom<<Self as Borrow<'a>>::Borrowed> {}
+
+/// A column whose rows, once it is borrowed, are read as `T`s.
+pub trait BorrowIndexAs<'a, T: Item>: Borrow<'a, Ref: CopyAs<T>> {}
+
+impl<'a, T: Item, C: Borrow<'a, Ref: CopyAs<T>>> BorrowIndexAs<'a, T> for C {}
+
+/// A container whose rows are pushed by reference to a `T`, and read as `T`s.
+pub trait PushIndexAs<'a, T: Item>: BorrowIndexAs<'a, T> + Container<'a> + PushRef<T> {}
+
+impl<'a, T: Item, C: BorrowIndexAs<'a, T> + Container<'a> + PushRef<T>> PushIndexAs<'a, T> for C {}
 
 /// A container that can be written to bytes and loaded from them. What it says of bytes is what its view says.
 pub trait ContainerBytes: Stored {

@@ -4,7 +4,7 @@ ghost use Rattle.columnar_core.specs.Bytes.{word, rounded};
 ghost use Rattle.columnar_core.specs.Frame.{IsStore, framed_slices};
 
 /// Word `index` of the bytes, lowest first. Asks that the bytes have all of it.
-pub fn word_at(bytes: &[u8], index: usize) -> u64
+pub fn word_in_bytes(bytes: &[u8], index: usize) -> u64
     requires { 8 * index + 8 ≤ length bytes.now }
     ensures { result ≡ word bytes.now index }
 {
@@ -51,7 +51,7 @@ impl<'a> DecodedStore<'a> {
     pub fn len(&self) -> usize
         ensures { result ≡ length (slices_in self.now) }
     {
-        word_at(self.bytes, 0) as usize / 8 - 1
+        word_in_bytes(self.bytes, 0) as usize / 8 - 1
     }
 
     /// The bytes of slice `index`, without padding. Asks that `index` is below the number of slices.
@@ -59,8 +59,8 @@ impl<'a> DecodedStore<'a> {
         requires { index < length (slices_in self.now) }
         ensures { result.now ≡ slice_index_or (slices_in self.now) index [] }
     {
-        let start = round_up(word_at(self.bytes, index) as usize);
-        let end = word_at(self.bytes, index + 1) as usize;
+        let start = round_up(word_in_bytes(self.bytes, index) as usize);
+        let end = word_in_bytes(self.bytes, index + 1) as usize;
         &self.bytes[start..end]
     }
 }

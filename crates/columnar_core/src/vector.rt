@@ -46,7 +46,9 @@ fn with_all<T: Element>(column: Vec<T>, bytes: &[u8]) -> Vec<T>
     column
 }
 
-// Appends the elements that the bytes are; want of memory refuses all of them.
+// Appends the elements that the bytes are; want of memory refuses all of them. Its loop stays out of the body of a copy,
+// so that a copy of elements is small enough to be made part of a push.
+#[inline(never)]
 fn append_bytes<T: Element>(column: &mut Vec<T>, bytes: &[u8]) -> Result<(), GrowError>
     requires { length bytes.now % T.size ≡ 0 }
     ensures ok { OnOk result (Appended T.le_bytes column.old.items column.new.items bytes.now) }
@@ -65,6 +67,7 @@ impl<'x, T: Viewed + 'x> ExtendFrom<View<'x, T>> for Vec<T> {
         room.saturating_add(view.len())
     }
 
+    #[inline(always)]
     fn extend_from_self(
         &mut self,
         view: View<'x, T>,
@@ -220,8 +223,8 @@ fn elements_of<T: Element>(alloc: Global, bytes: &[u8]) -> Result<Vec<T>, GrowEr
     Ok(with_all(column, bytes))
 }
 
-// The elements start..end of a slice.
-pub(crate) fn elements_between<T>(items: &[T], start: usize, end: usize) -> &[T]
+/// The elements start..end of a slice.
+pub fn elements_between<T>(items: &[T], start: usize, end: usize) -> &[T]
     requires ordered { start ≤ end }
     requires in_range { end ≤ length items.now }
     ensures { result.now ≡ take (end - start) (drop start items.now) }

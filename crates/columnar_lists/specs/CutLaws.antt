@@ -5,7 +5,7 @@ use Rattle.std.specs.Prelude.{slice_get, Some, nat_le}
 use Rattle.std.proofs.lemmas.List.{take-append-le, drop-append-le, take-map, drop-drop}
 use Rattle.std.proofs.lemmas.Option.{slice_get-map}
 use Rattle.std.proofs.lemmas.Bool.{and_parts, and_from, eqb-true, eq-eqb, leb-true, le-leb}
-use Rattle.columnar_base.specs.Row.{Row, list, number, items_of, end_of, empty, row_eq}
+use Rattle.columnar_base.specs.Row.{Row, list, number, items_of, list_end, empty, row_eq}
 use Rattle.columnar_base.specs.RowLaws.{row_eq-is, is-row_eq, same_items, items_of-list, end_of-list}
 use Rattle.columnar_base.specs.Format.{IsSame, IsExact, all_alike}
 use Rattle.columnar_base.specs.AlikeLaws.{alike_is, alike_all, same_pulled, same_both, row_eq_same, row_eq_exact, alike_back, alike_on, alike_take, alike_drop}
@@ -87,11 +87,11 @@ cut-more from (n ∷ ns) vs ws h =
 -- each row is a list
 abbrev pub are_lists : List Row → Bool
 are_lists [] = true
-are_lists (r ∷ rs) = row_eq (end_of r) empty && are_lists rs
+are_lists (r ∷ rs) = row_eq (list_end r) empty && are_lists rs
 
 pub cut_lists : (from : ℕ) (ns : List ℕ) (vs : List Row) → are_lists (cut from ns vs) ≡ true
 cut_lists from [] vs = refl
-cut_lists from (n ∷ ns) vs = and_from _ _ (is-row_eq (end_of (list (take (n - from) (drop from vs)))) empty (end_of-list (take (n - from) (drop from vs)))) (cut_lists n ns vs)
+cut_lists from (n ∷ ns) vs = and_from _ _ (is-row_eq (list_end (list (take (n - from) (drop from vs)))) empty (end_of-list (take (n - from) (drop from vs)))) (cut_lists n ns vs)
 
 -- a piece, and the piece behind it
 pub pieces_joined : (m k l : ℕ) (vs : List Row) → m ≤ k → k ≤ l → take (k - m) (drop m vs) ++ take (l - k) (drop k vs) ≡ take (l - m) (drop m vs)
@@ -137,17 +137,17 @@ ends_rise from (r ∷ rs) end e =
     and_from _ _ (le-leb from (from + length (items_of r)) (omega arith)) (ends_rise (from + length (items_of r)) rs end (omega (arith, e, length-append (items_of r) (joined rs))))
 
 -- rows that are alike to a list's items make a list that is alike to it
-pub list_alike-items : (same : Row → Row → Bool) (us : List Row) (r : Row) → row_eq (end_of r) empty ≡ true → all_alike same us (items_of r) ≡ true → list_alike same (list us) r ≡ true
+pub list_alike-items : (same : Row → Row → Bool) (us : List Row) (r : Row) → row_eq (list_end r) empty ≡ true → all_alike same us (items_of r) ≡ true → list_alike same (list us) r ≡ true
 list_alike-items same us r h k =
-    let e : end_of (list us) ≡ end_of r = end_of-list us ∙ sym (row_eq-is (end_of r) empty h) in
+    let e : list_end (list us) ≡ list_end r = end_of-list us ∙ sym (row_eq-is (list_end r) empty h) in
     let i : all_alike same (items_of (list us)) (items_of r) ≡ true = rw (items_of-list us) k in
-    and_from _ _ (is-row_eq (end_of (list us)) (end_of r) e) i
+    and_from _ _ (is-row_eq (list_end (list us)) (list_end r) e) i
 
 -- values that are alike to the items of lists, cut at the ends of these lists, are alike to them
 pub cut_alike : (same : Row → Row → Bool) (from : ℕ) (vs rs : List Row) → are_lists rs ≡ true → all_alike same (drop from vs) (joined rs) ≡ true → all_alike (list_alike same) (cut from (numbers (ends from rs)) vs) rs ≡ true
 cut_alike same from vs [] l h = refl
 cut_alike same from vs (r ∷ rs) l h =
-    let p = and_parts (row_eq (end_of r) empty) (are_lists rs) l in
+    let p = and_parts (row_eq (list_end r) empty) (are_lists rs) l in
     let n : ℕ = length (items_of r) in
     let a : from + length (items_of r) - from ≡ length (items_of r) = omega arith in
     let t : take (length (items_of r)) (items_of r ++ joined rs) ≡ items_of r = take-append_seam (items_of r) (joined rs) in
@@ -165,7 +165,7 @@ all_same same e = record {
 }
 
 pub lists_same : (same : Row → Row → Bool) → IsSame same → IsSame (list_alike same)
-lists_same same e = same_both (λ r s. row_eq (end_of r) (end_of s)) (λ r s. all_alike same (items_of r) (items_of s)) (same_pulled row_eq end_of row_eq_same) (all_same same e)
+lists_same same e = same_both (λ r s. row_eq (list_end r) (list_end s)) (λ r s. all_alike same (items_of r) (items_of s)) (same_pulled row_eq list_end row_eq_same) (all_same same e)
 
 -- what is alike one for one is kin one for one
 all_related : (alike kin : Row → Row → Bool) → ((r s : Row) → alike r s ≡ true → kin r s ≡ true) → (rs ss : List Row) → all_alike alike rs ss ≡ true → all_alike kin rs ss ≡ true
@@ -178,14 +178,14 @@ all_related alike kin e (r ∷ rs) (s ∷ ss) h =
 
 pub lists_related : (alike kin : Row → Row → Bool) → ((r s : Row) → alike r s ≡ true → kin r s ≡ true) → (r s : Row) → list_alike alike r s ≡ true → list_alike kin r s ≡ true
 lists_related alike kin e r s h =
-    let p = and_parts (row_eq (end_of r) (end_of s)) (all_alike alike (items_of r) (items_of s)) h in
+    let p = and_parts (row_eq (list_end r) (list_end s)) (all_alike alike (items_of r) (items_of s)) h in
     and_from _ _ p.0 (all_related alike kin e (items_of r) (items_of s) p.1)
 
 pub list_exact : (same : Row → Row → Bool) → IsExact same → IsExact (list_alike same)
 list_exact same p = record {
   exact = λ r s h.
-      let u = and_parts (row_eq (end_of r) (end_of s)) (all_alike same (items_of r) (items_of s)) h in
-      same_items r s (alike_is same p (items_of r) (items_of s) u.1) (row_eq-is (end_of r) (end_of s) u.0);
+      let u = and_parts (row_eq (list_end r) (list_end s)) (all_alike same (items_of r) (items_of s)) h in
+      same_items r s (alike_is same p (items_of r) (items_of s) u.1) (row_eq-is (list_end r) (list_end s) u.0);
 }
 
 -- values that are the items of lists, cut at the ends of these lists, are they

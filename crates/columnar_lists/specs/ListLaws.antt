@@ -1,15 +1,15 @@
 -- What the format of lists keeps to, and what growth, a refusal and a cut of its parts leave of it.
 use Rattle.std.proofs.Common.{◌≡◌, ℕ, zero, suc, ◌+◌, ◌%◌, ◌^◌, ◌-◌, ◌<◌, ◌≤◌, Bool, true, false, ◌&&◌, ◌||◌, List, [], ◌∷◌, ◌++◌, length, take, drop, refl, sym, ◌∙◌, ap, arith, length-append, length-take, length-drop, append-nil}
 use Rattle.std.proofs.Math.Seq.{drop-append_seam, take-length}
-use Rattle.std.specs.Prelude.{slice_get, Some, nat_le}
+use Rattle.std.specs.Prelude.{slice_get, Some}
 use Rattle.std.proofs.lemmas.List.{take-append-drop, take-append-le, map-append, length-map, take-map}
-use Rattle.std.proofs.lemmas.Bool.{or_right, and_parts, and_from, leb-true, le-leb}
-use Rattle.columnar_base.specs.Row.{Row, list, number, number_of, items_of, end_of, empty}
+use Rattle.std.proofs.lemmas.Bool.{or_right, and_from}
+use Rattle.columnar_base.specs.Row.{Row, list, number, number_of, items_of, list_end, empty}
 use Rattle.columnar_base.specs.RowLaws.{is-row_eq, items_of-list, end_of-list}
 use Rattle.columnar_base.specs.Elements.{word_row}
-use Rattle.columnar_base.specs.FaultLaws.{nothing_left, nothing_both, unless_true, true_unless}
+use Rattle.columnar_base.specs.PartLaws.{piece_from}
 use Rattle.columnar_base.specs.AlikeLaws.{alike_length}
-use Rattle.columnar_base.specs.Format.{Format, Content, slice, both, part, plain, part_format, IsSound, IsLawful, IsStorable, lengths, unless, fault, Excess, refuses_more}
+use Rattle.columnar_base.specs.Format.{Format, Content, slice, both, part, plain, part_format, IsSound, IsLawful, IsStorable, lengths, Excess, refuses_more}
 use Rattle.columnar_base.specs.Change.{Keeps, Grew, Stayed, WasCut, Took, Copied, Refused}
 use Rattle.columnar_base.specs.ChangeLaws.{grew_exactly, true_from}
 use Rattle.columnar_base.specs.TwoParts.{TwoParts, two_parts, two_sound, two_storable}
@@ -260,28 +260,12 @@ end_within b t {x} {y} n {e} s p =
     let m = last-take n 0 (numbers (b.rows x)) (length (t.rows y)) q.rise in
     rw k at m
 
--- a range of rows may be read
-pub piece_from : (f : Format) {l u : ℕ} {c : Content} → IsSound f c → l ≤ u → u ≤ length (f.rows c) → IsSound (part_format f) (part l u c)
-piece_from f {l} {u} {c} s a b = record { accepted = nothing_both (f.broken c) (unless (nat_le l u && nat_le u (length (f.rows c))) (fault 11 0)) s.accepted (true_unless (nat_le l u && nat_le u (length (f.rows c))) (fault 11 0) (and_from _ _ (le-leb l u a) (le-leb u (length (f.rows c)) b))) }
-
 -- list i may be read
 pub piece_sound : (b t : Format) {x y : Content} (i : ℕ) {l u : ℕ} → IsSound (lists_format b t) (both x y) → slice_get (0 ∷ numbers (b.rows x)) i ≡ Some l → slice_get (b.rows x) i ≡ Some (number u) → IsSound (part_format t) (part l u y)
 piece_sound b t {x} {y} i {l} {u} s p h =
     let q = lists_parts b t s in
     let r = rises_get i 0 (numbers (b.rows x)) (length (t.rows y)) l u q.rise p (number_get (b.rows x) i u h) in
     piece_from t q.values r.0 r.1
-
--- what the soundness of a range of rows is made of
-pub record SoundPiece (f : Format) (l u : ℕ) (c : Content) : Type 0 where
-  pub whole : IsSound f c
-  pub ordered : l ≤ u
-  pub within : u ≤ length (f.rows c)
-
-pub piece_parts : (f : Format) {l u : ℕ} {c : Content} → IsSound (part_format f) (part l u c) → SoundPiece f l u c
-piece_parts f {l} {u} {c} s =
-    let p = nothing_left (f.broken c) (unless (nat_le l u && nat_le u (length (f.rows c))) (fault 11 0)) s.accepted in
-    let q = and_parts (nat_le l u) (nat_le u (length (f.rows c))) (unless_true (nat_le l u && nat_le u (length (f.rows c))) (fault 11 0) p.1) in
-    record { whole = record { accepted = p.0 }; ordered = leb-true l u q.0; within = leb-true u (length (f.rows c)) q.1 }
 
 -- one list
 
@@ -298,7 +282,7 @@ one_ends from end us e =
     rw k refl
 
 one_list : (us : List Row) → are_lists (list us ∷ []) ≡ true
-one_list us = and_from _ _ (is-row_eq (end_of (list us)) empty (end_of-list us)) refl
+one_list us = and_from _ _ (is-row_eq (list_end (list us)) empty (end_of-list us)) refl
 
 pub took_length : {f : Format} {x y : Content} {us : List Row} → Took f x y us → length (f.rows y) ≡ length (f.rows x) + length us
 took_length {f} {x} {y} {us} g = ap length g.grew.rows ∙ (length-append (f.rows x) g.fresh ∙ omega (arith, alike_length f.alike g.fresh us g.alike))

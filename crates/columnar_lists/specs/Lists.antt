@@ -1,6 +1,6 @@
 -- Columns of lists: the items of all lists one after another, and where each list ends.
 use Rattle.std.specs.Prelude.{ℕ, Bool, false, List, [], ◌∷◌, ◌++◌, length, ◌+◌, ◌-◌, take, drop, ◌&&◌, ◌||◌, map}
-use Rattle.columnar_base.specs.Row.{Row, list, number, items_of, end_of, row_eq}
+use Rattle.columnar_base.specs.Row.{Row, list, number, items_of, list_end, row_eq}
 use Rattle.columnar_base.specs.Format.{Format, Content, slice, both, part, plain, Fault, two_broken, all_alike, Excess}
 use Rattle.columnar_core.specs.Bounds.{numbers, rises}
 
@@ -53,7 +53,7 @@ lists_extent b t (plain rs) n = []
 
 -- item by item
 abbrev pub list_alike : (Row → Row → Bool) → Row → Row → Bool
-list_alike same r s = row_eq (end_of r) (end_of s) && all_alike same (items_of r) (items_of s)
+list_alike same r s = row_eq (list_end r) (list_end s) && all_alike same (items_of r) (items_of s)
 
 -- the bounds can't take the ends of the lists, or the values can't take their items
 abbrev pub lists_refuses : Format → Format → Excess → Content → ℕ → List Row → Bool

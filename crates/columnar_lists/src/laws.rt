@@ -1,5 +1,5 @@
-//! Laws of lists: what it is that bounds cut values into lists. Each call does nothing when it runs; its contract is
-//! the law.
+//! Laws of lists: what it is that bounds cut values into lists, and which list an array is. Each call does nothing when
+//! it runs; its contract is the law.
 ghost use Rattle.std.specs.Prelude.{ℕ, List, ◌≡◌, ◌↔◌, IsTrue, length, map};
 ghost use Rattle.columnar_base.specs.Row.{Row, list};
 ghost use Rattle.columnar_base.specs.Format.{both, IsSound};
@@ -7,7 +7,8 @@ ghost use Rattle.columnar_core.specs.Bounds.{rises, numbers};
 ghost use Rattle.columnar_lists.specs.Cut.{IsCut};
 ghost use Rattle.columnar_lists.specs.Lists.{lists_format};
 
-use columnar_base::traits::Column;
+use columnar_base::element::Element;
+use columnar_base::traits::{Column, Item};
 
 /// Bounds cut values into lists exactly where, after a first 0, they never fall and the last one is the number of the
 /// values.
@@ -29,4 +30,9 @@ pub fn rows_are_the_cut<TC: Column, BC: Column>()
 /// What `Offsets::rises_to` tests: offsets rise to `end` exactly where they cut any `end` values into lists.
 pub fn offsets_cut_any_values()
     ensures { (offsets : List ℕ) (end : ℕ) → IsTrue (rises 0 offsets end) ↔ ((values : List Row) → length values ≡ end → (lists : List (List Row)) × IsCut offsets values lists) }
+{}
+
+/// As a row, an array is the list of its elements.
+pub fn array_is_the_list<T: Element, const N: usize>(_array: &[T; N])
+    ensures { ⟦<[T; N] as Item>⟧.meaning _array.now ≡ list (map T.meaning _array.now) }
 {}

@@ -1,15 +1,12 @@
 //! Lists of rows: their items one after another in one column, and where each list ends in another.
-ghost use Rattle.std.specs.Prelude.{◌≡◌, ℕ, ◌+◌, ◌-◌, ◌^◌, ◌<◌, ◌≤◌, length, ◌∷◌, slice_get, Some, take, drop, OnOk, IfErr};
-ghost use Rattle.columnar_base.specs.Row.{number};
-ghost use Rattle.columnar_base.specs.Format.{both, IsSound};
-ghost use Rattle.columnar_base.specs.Change.{Took, Refused};
+ghost use Rattle.columnar_base.specs.Format.{both};
 ghost use Rattle.columnar_base.specs.TwoParts.{two_counted};
-ghost use Rattle.columnar_core.specs.Bounds.{numbers};
-ghost use Rattle.columnar_lists.specs.Lists.{lists_format, shifted};
+ghost use Rattle.columnar_lists.specs.Lists.{lists_format};
 ghost use Rattle.columnar_lists.specs.ListLaws.{same_lists, lists_lawful, lists_storable};
 
 mod push;
 
+use crate::parts::{check_lists, copy_lists, cut_lists, range_of, reserve_lists};
 use columnar_base::fault::{GrowError, StoreFault};
 use columnar_base::slice::Slice;
 use columnar_base::tally::Tally;
@@ -21,9 +18,7 @@ use columnar_core::container::{
 };
 use columnar_core::offsets::{Offsets, StoredOffsets};
 use columnar_core::store::DecodedStore;
-use columnar_core::two::{
-    byte_slice_of_two, check_two, judge_two, load_two, sizes_of_two, slice_of_two,
-};
+use columnar_core::two::{byte_slice_of_two, judge_two, load_two, sizes_of_two, slice_of_two};
 use std::alloc::Global;
 use std::ops::Range;
 
@@ -35,31 +30,6 @@ pub struct Vecs<TC, BC = Vec<u64>> {
     pub bounds: BC,
     /// The items of all lists.
     pub values: TC,
-}
-
-// Where list `index` begins.
-fn start_of<BC: Offsets>(bounds: &BC, index: usize) -> u64
-    requires sound { IsSound BC.format (BC.content bounds.now) }
-    requires in_range { index ≤ length (BC.format.rows (BC.content bounds.now)) }
-    ensures { slice_get (0 ∷ numbers (BC.format.rows (BC.content bounds.now))) index ≡ Some result }
-{
-    if index == 0 {
-        0
-    } else {
-        bounds.offset(index - 1)
-    }
-}
-
-// Where list `index` begins, and where it ends.
-fn range_of<BC: Offsets>(bounds: &BC, index: usize) -> (usize, usize)
-    requires sound { IsSound BC.format (BC.content bounds.now) }
-    requires in_range { index < length (BC.format.rows (BC.content bounds.now)) }
-    ensures lower { slice_get (0 ∷ numbers (BC.format.rows (BC.content bounds.now))) index ≡ Some result.0 }
-    ensures upper { slice_get (BC.format.rows (BC.content bounds.now)) index ≡ Some (number result.1) }
-{
-    let lower = start_of(bounds, index);
-    let upper = bounds.offset(index);
-    (lower as usize, upper as usize)
 }
 
 impl<TC: Column, BC: Column> Column for Vecs<TC, BC> {
@@ -115,9 +85,7 @@ impl<TC: Truncate, BC: Truncate + Offsets> Truncate for Vecs<TC, BC> {
     ghost lawful = { lists_lawful BC.format TC.format BC.lawful TC.lawful };
 
     fn truncate(&mut self, n: usize) {
-        let end = start_of(&self.bounds, n);
-        self.values.truncate(end as usize);
-        self.bounds.truncate(n);
+        cut_lists(&mut self.bounds, &mut self.values, n);
     }
 }
 
@@ -143,8 +111,7 @@ impl<TC: Reserve, BC: Reserve> Reserve for Vecs<TC, BC> {
     }
 
     fn reserve_room(&mut self, room: (BC::Room, TC::Room)) -> Result<(), GrowError> {
-        self.bounds.reserve_room(room.0)?;
-        self.values.reserve_room(room.1)
+        reserve_lists(&mut self.bounds, &mut self.values, room)
     }
 }
 
@@ -164,36 +131,6 @@ impl<'a, TC: Borrow<'a>, BC: Borrow<'a, Borrowed: Offsets>> Borrow<'a> for Vecs<
     }
 }
 
-// Pushes bounds of a view, those of the range, each moved from `lower` to `start`; or none of them.
-fn push_shifted<W: Offsets, BC: Truncate + Push<u64>>(
-    bounds: &mut BC,
-    view: &W,
-    range: Range<usize>,
-    lower: u64,
-    start: usize,
-) -> Result<(), GrowError>
-    requires sound { IsSound BC.format (BC.content bounds.old) }
-    requires view_sound { IsSound W.format (W.content view.now) }
-    requires ordered { range.start ≤ range.«end» }
-    requires in_range { range.«end» ≤ length (W.format.rows (W.content view.now)) }
-    requires held { (i n : ℕ) → range.start ≤ i → i < range.«end» → slice_get (numbers (W.format.rows (W.content view.now))) i ≡ Some n → (lower ≤ n) × (start + (n - lower) < 2 ^ 64) }
-    ensures ok { OnOk result (Took BC.format (BC.content bounds.old) (BC.content bounds.new) (take (range.«end» - range.start) (drop range.start (shifted lower start (numbers (W.format.rows (W.content view.now))))))) }
-    ensures err { IfErr result (λ e. Refused BC.format (BC.content bounds.old) (BC.content bounds.new) (take (range.«end» - range.start) (drop range.start (shifted lower start (numbers (W.format.rows (W.content view.now)))))) e) }
-{
-    let before = bounds.len();
-    for i in range.start..range.end {
-        let end = view.offset(i) - lower;
-        match bounds.push(start as u64 + end) {
-            Ok(()) => {}
-            Err(error) => {
-                bounds.truncate(before);
-                return Err(error);
-            }
-        }
-    }
-    Ok(())
-}
-
 impl<
     V: Index + Copy,
     W: Index + Offsets + Copy,
@@ -208,20 +145,13 @@ impl<
     }
 
     fn extend_from_self(&mut self, view: Vecs<V, W>, range: Range<usize>) -> Result<(), GrowError> {
-        let before = self.values.len();
-        let lower = start_of(&view.bounds, range.start);
-        let upper = start_of(&view.bounds, range.end);
-        self.values
-            .extend_from_self(view.values, lower as usize..upper as usize)?;
-        // All values have a number of 64 bits, so the moved bounds do.
-        let _end = self.values.len();
-        match push_shifted(&mut self.bounds, &view.bounds, range, lower, before) {
-            Ok(()) => Ok(()),
-            Err(error) => {
-                self.values.truncate(before);
-                Err(error)
-            }
-        }
+        copy_lists(
+            &mut self.bounds,
+            &mut self.values,
+            &view.bounds,
+            view.values,
+            range,
+        )
     }
 }
 
@@ -279,13 +209,7 @@ impl<TC: Stored, BC: StoredOffsets> Stored for Vecs<TC, BC> {
 
 impl<TC: Check + Len, BC: Check + StoredOffsets + Offsets> Check for Vecs<TC, BC> {
     fn check_from_tallied<L>(&self, from: usize, tally: &mut Tally<L>) -> Result<(), StoreFault> {
-        check_two(&self.bounds, &self.values, from, tally)?;
-        let values = self.values.len();
-        if self.bounds.rises_to_tallied(values as u64, tally) {
-            Ok(())
-        } else {
-            Err(StoreFault::Bounds(from))
-        }
+        check_lists(&self.bounds, &self.values, from, tally)
     }
 }
 

@@ -24,14 +24,14 @@ starts at no_trees = at ∷ []
 starts at (tree_and v k r) = at ∷ starts (at + length (level_order (tree_and v k no_trees))) r
 
 -- for each node, the start of its tree, plus 1, plus the kid counts of that tree's nodes up to and with it
-abbrev pub ends : {A : Type 0} → ℕ → Forest A → List ℕ
-ends at no_trees = []
-ends at (tree_and v k r) = totals (suc at) (kid_counts (level_order (tree_and v k no_trees))) ++ ends (at + length (level_order (tree_and v k no_trees))) r
+abbrev pub kid_ends : {A : Type 0} → ℕ → Forest A → List ℕ
+kid_ends at no_trees = []
+kid_ends at (tree_and v k r) = totals (suc at) (kid_counts (level_order (tree_and v k no_trees))) ++ kid_ends (at + length (level_order (tree_and v k no_trees))) r
 
 -- groups, bounds and values are the layout of the trees ts
 pub record IsLayout {A : Type 0} (ts : Forest A) (groups bounds : List ℕ) (values : List A) : Type 0 where
   pub at_starts : groups ≡ starts 0 ts
-  pub at_ends : bounds ≡ 0 ∷ ends 0 ts
+  pub at_ends : bounds ≡ 0 ∷ kid_ends 0 ts
   pub in_order : values ≡ values_of (nodes ts)
 
 -- the places, from `place` on, of the numbers that equal their place

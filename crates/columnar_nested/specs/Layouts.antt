@@ -4,7 +4,7 @@ use Rattle.std.specs.Prelude.{nat_eq, nat_le, slice_index}
 use Rattle.std.proofs.lemmas.Bool.{and_parts, and_from, eqb-true, eq-eqb, leb-true, le-leb, false≢true}
 use Rattle.std.proofs.lemmas.List.{length-map}
 use Rattle.columnar_nested.specs.Forest.{Forest, no_trees, tree_and, Node, width, roots, level_order}
-use Rattle.columnar_nested.specs.Layout.{IsLayout, IsTreeRule, bounds_keep, nodes, values_of, kid_counts, totals, starts, ends, own_places, keeps}
+use Rattle.columnar_nested.specs.Layout.{IsLayout, IsTreeRule, bounds_keep, nodes, values_of, kid_counts, totals, starts, kid_ends, own_places, keeps}
 use Rattle.columnar_nested.specs.Reading.{pending, trees_from, trees_of}
 use Rattle.columnar_nested.specs.Walk.{walk_nodes, walk_ends, walk_starts, walk_nodes-whole, walk_ends-whole, walk_starts-whole}
 use Rattle.columnar_nested.specs.OneForest.{IsRead, IsKept, IsMade, read_all, kept_all, made_all, keeps-step, eq-false}
@@ -121,13 +121,13 @@ passed_layout {groups = groups} {bounds = b ∷ bs} {values = values} p =
     let c = keeps-count 0 b bs (length values) q.1 in
     let m = made_all 0 b bs values (length values) q.1 (omega arith) (omega (arith, c)) in
     let nothing_left : pending 0 b bs values ≡ no_trees = let w = m.wide in width-zero (pending 0 b bs values) (omega (arith, w, z)) in
-    let e : ends 0 (trees_from 0 b bs values) ≡ bs =
+    let e : kid_ends 0 (trees_from 0 b bs values) ≡ bs =
     sym (walk_ends-whole (trees_from 0 b bs values)) ∙ (ap (λ x. walk_ends 0 x (trees_from 0 b bs values)) (sym nothing_left) ∙ m.bounds_same) in
     let v : values_of (nodes (trees_from 0 b bs values)) ≡ values =
     ap values_of (sym (walk_nodes-whole (trees_from 0 b bs values)) ∙ ap (λ x. walk_nodes x (trees_from 0 b bs values)) (sym nothing_left)) ∙ m.values_same in
     let k = kept_all 0 no_trees (trees_from 0 b bs values) in
     let g = k.groups_at in
-    let g1 : own_places 0 (0 ∷ ends 0 (trees_from 0 b bs values)) ≡ starts 0 (trees_from 0 b bs values) = rw (walk_ends-whole (trees_from 0 b bs values), walk_starts-whole (trees_from 0 b bs values)) at g in
+    let g1 : own_places 0 (0 ∷ kid_ends 0 (trees_from 0 b bs values)) ≡ starts 0 (trees_from 0 b bs values) = rw (walk_ends-whole (trees_from 0 b bs values), walk_starts-whole (trees_from 0 b bs values)) at g in
     record {
       at_starts = p.at_own_places ∙ (ap (own_places 0) (ap (λ x. x ∷ bs) z ∙ ap (λ x. 0 ∷ x) (sym e)) ∙ g1);
       at_ends = ap (λ x. x ∷ bs) z ∙ ap (λ x. 0 ∷ x) (sym e);

@@ -5,7 +5,7 @@ use Rattle.std.proofs.lemmas.Bool.{eq-eqb, eqb-true, cases_lt, cases_eq, ne_eqb}
 use Rattle.std.proofs.lemmas.Option.{slice_get_within, slice_get-map}
 use Rattle.std.proofs.lemmas.List.{length-map, map-append}
 use Rattle.columnar_nested.specs.Forest.{Forest, no_trees, tree_and, Node, width, roots, level_order, levels, in_line, beside}
-use Rattle.columnar_nested.specs.Layout.{IsLayout, IsTreeRule, nodes, values_of, kid_counts, totals, starts, ends, own_places, keeps}
+use Rattle.columnar_nested.specs.Layout.{IsLayout, IsTreeRule, nodes, values_of, kid_counts, totals, starts, kid_ends, own_places, keeps}
 use Rattle.columnar_nested.specs.ForestLaws.{joined, joined-no_trees, width-joined, level_order-tree}
 use Rattle.columnar_nested.specs.Walk.{walk_nodes-whole, walk_ends-whole, walk_starts-whole}
 use Rattle.columnar_nested.specs.Nodes.{IsTold, told_all, get-after, first_kid, first_kid-after}
@@ -28,7 +28,7 @@ roots-within (tree_and v k r) (suc c) h = roots-within r c (omega (arith, h))
 pub layout_node : {A : Type 0} {ts : Forest A} {groups bounds : List ℕ} {values : List A} → IsLayout ts groups bounds values → (i : ℕ) (x : Node A) → slice_get (nodes ts) i ≡ Some x → IsNode ts bounds values i x
 layout_node {A = A} {ts = ts} {bounds = bounds} l i x g =
     let w = told_all 0 no_trees ts in
-    let t : IsTold 0 (nodes ts) (0 ∷ ends 0 ts) = rw (walk_nodes-whole ts, walk_ends-whole ts) at w in
+    let t : IsTold 0 (nodes ts) (0 ∷ kid_ends 0 ts) = rw (walk_nodes-whole ts, walk_ends-whole ts) at w in
     let s : IsTold 0 (nodes ts) bounds = rw (l.at_ends) t in
     let z : 0 + i ≡ i = omega arith in
     let a : i ≤ slice_index bounds i = let b = s.ahead i (slice_get_within (nodes ts) i x g) in omega (arith, b) in
@@ -86,14 +86,14 @@ pub nodes-joined : {A : Type 0} (f g : Forest A) → nodes (joined f g) ≡ node
 nodes-joined no_trees g = refl
 nodes-joined (tree_and v k r) g = rw (nodes-joined r g) (sym (append_assoc (level_order (tree_and v k no_trees)) (nodes r) (nodes g)))
 
-ends-joined : {A : Type 0} (at : ℕ) (f g : Forest A) → ends at (joined f g) ≡ ends at f ++ ends (at + length (nodes f)) g
-ends-joined at no_trees g = let z : at ≡ at + 0 = omega arith in ap (λ x. ends x g) z
+ends-joined : {A : Type 0} (at : ℕ) (f g : Forest A) → kid_ends at (joined f g) ≡ kid_ends at f ++ kid_ends (at + length (nodes f)) g
+ends-joined at no_trees g = let z : at ≡ at + 0 = omega arith in ap (λ x. kid_ends x g) z
 ends-joined at (tree_and v k r) g =
     let e = length-append (level_order (tree_and v k no_trees)) (nodes r) in
     let z : (at + length (level_order (tree_and v k no_trees))) + length (nodes r) ≡ at + length (level_order (tree_and v k no_trees) ++ nodes r) = omega (arith, e) in
     let h = ends-joined (at + length (level_order (tree_and v k no_trees))) r g in
-    ap (λ x. totals (suc at) (kid_counts (level_order (tree_and v k no_trees))) ++ x) (h ∙ ap (λ x. ends (at + length (level_order (tree_and v k no_trees))) r ++ ends x g) z)
-    ∙ sym (append_assoc (totals (suc at) (kid_counts (level_order (tree_and v k no_trees)))) (ends (at + length (level_order (tree_and v k no_trees))) r) (ends (at + length (level_order (tree_and v k no_trees) ++ nodes r)) g))
+    ap (λ x. totals (suc at) (kid_counts (level_order (tree_and v k no_trees))) ++ x) (h ∙ ap (λ x. kid_ends (at + length (level_order (tree_and v k no_trees))) r ++ kid_ends x g) z)
+    ∙ sym (append_assoc (totals (suc at) (kid_counts (level_order (tree_and v k no_trees)))) (kid_ends (at + length (level_order (tree_and v k no_trees))) r) (kid_ends (at + length (level_order (tree_and v k no_trees) ++ nodes r)) g))
 
 starts-joined : {A : Type 0} (at : ℕ) (f : Forest A) (v : A) (k : Forest A) → starts at (joined f (tree_and v k no_trees)) ≡ starts at f ++ (at + length (nodes f) + length (level_order (tree_and v k no_trees))) ∷ []
 starts-joined at no_trees v k =
@@ -114,7 +114,7 @@ layout_pushed {A = A} {ts = ts} {groups = groups} {bounds = bounds} {values = va
     record {
       at_starts = ap (λ x. x ++ (length values + length (level_order (tree_and v k no_trees))) ∷ []) l.at_starts ∙ sym (starts-joined 0 ts v k ∙ ap (λ x. starts 0 ts ++ (x + length (level_order (tree_and v k no_trees))) ∷ []) z);
       at_ends = ap (λ x. x ++ totals (suc (length values)) (kid_counts (level_order (tree_and v k no_trees)))) l.at_ends
-          ∙ ap (λ x. 0 ∷ x) (sym (ends-joined 0 ts (tree_and v k no_trees) ∙ (ap (λ x. ends 0 ts ++ ends x (tree_and v k no_trees)) z ∙ ap (λ x. ends 0 ts ++ x) (append-nil (totals (suc (length values)) (kid_counts (level_order (tree_and v k no_trees))))))));
+          ∙ ap (λ x. 0 ∷ x) (sym (ends-joined 0 ts (tree_and v k no_trees) ∙ (ap (λ x. kid_ends 0 ts ++ kid_ends x (tree_and v k no_trees)) z ∙ ap (λ x. kid_ends 0 ts ++ x) (append-nil (totals (suc (length values)) (kid_counts (level_order (tree_and v k no_trees))))))));
       in_order = ap (λ x. x ++ values_of (level_order (tree_and v k no_trees))) l.in_order
           ∙ sym (ap values_of (nodes-joined ts (tree_and v k no_trees)) ∙ (map-append (λ x. x.value) (nodes ts) (level_order (tree_and v k no_trees) ++ []) ∙ ap (λ x. values_of (nodes ts) ++ values_of x) (append-nil (level_order (tree_and v k no_trees)))));
     }

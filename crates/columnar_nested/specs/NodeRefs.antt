@@ -7,6 +7,10 @@ use Rattle.columnar_nested.specs.Refs.{node_at, IsRef}
 use Rattle.columnar_nested.specs.TreeRows.{tree_row}
 use Rattle.columnar_nested.specs.declared.trees.read.TreesRef.{TreesRef}
 
+-- its number among the nodes of its column
+abbrev pub number_of : {V B : Type 0} → TreesRef V B → ℕ
+number_of r = r.index
+
 -- the tree below it, as a row
 abbrev pub ref_row : {V B : Type 0} → (B → List ℕ) → (V → List Row) → TreesRef V B → Row
 ref_row bytes rows r = tree_row (node_at (words_in (bytes r.bounds)) (rows r.values) r.index)

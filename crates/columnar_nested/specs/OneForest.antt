@@ -3,7 +3,7 @@ use Rattle.std.proofs.Common.{◌≡◌, ℕ, zero, suc, ◌+◌, ◌-◌, ◌<�
 use Rattle.std.specs.Prelude.{nat_eq, nat_le}
 use Rattle.std.proofs.lemmas.Bool.{cases_lt, ne_eqb, and_parts, and_from, eqb-true, eq-eqb, leb-true, le-leb}
 use Rattle.columnar_nested.specs.Forest.{Forest, no_trees, tree_and, Node, width, roots, level_order}
-use Rattle.columnar_nested.specs.Layout.{nodes, values_of, kid_counts, totals, starts, ends, own_places, keeps}
+use Rattle.columnar_nested.specs.Layout.{nodes, values_of, kid_counts, totals, starts, kid_ends, own_places, keeps}
 use Rattle.columnar_nested.specs.ForestLaws.{joined, joined-no_trees, width-joined}
 use Rattle.columnar_nested.specs.Reading.{first_trees, later_trees, pending, trees_from, trees_of}
 use Rattle.columnar_nested.specs.Walk.{walk_nodes, walk_ends, walk_starts, nodes-root, nodes-next, ends-root, ends-next, starts-root, starts-next, nodes-done, ends-done, starts-done, walk_nodes-whole, walk_ends-whole, walk_starts-whole, walk_all}

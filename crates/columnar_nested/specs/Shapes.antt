@@ -5,7 +5,7 @@ use Rattle.std.proofs.lemmas.List.{length-map}
 use Rattle.columnar_base.specs.Row.{Row, tree, more, unit, list, row_eq}
 use Rattle.columnar_base.specs.RowLaws.{is-row_eq}
 use Rattle.columnar_nested.specs.Forest.{Forest, no_trees, tree_and, Node, width, level_order}
-use Rattle.columnar_nested.specs.Layout.{IsLayout, IsTreeRule, nodes, values_of, kid_counts, totals, starts, ends}
+use Rattle.columnar_nested.specs.Layout.{IsLayout, IsTreeRule, nodes, values_of, kid_counts, totals, starts, kid_ends}
 use Rattle.columnar_nested.specs.Reading.{first_trees, later_trees, pending, trees_from, trees_of}
 use Rattle.columnar_nested.specs.Layouts.{layout_read, layout_rule, passed_layout, rule_passed}
 use Rattle.columnar_nested.specs.NodeLaws.{starts-length}
@@ -94,19 +94,19 @@ pub record Refit (n : Node Row) (vs : List Row) : Type 0 where
 alone : {A : Type 0} (v : A) (k : Forest A) → nodes (tree_and v k no_trees) ≡ level_order (tree_and v k no_trees)
 alone v k = append-nil (level_order (tree_and v k no_trees))
 
-alone_ends : {A : Type 0} (v : A) (k : Forest A) → ends 0 (tree_and v k no_trees) ≡ totals 1 (kid_counts (level_order (tree_and v k no_trees)))
+alone_ends : {A : Type 0} (v : A) (k : Forest A) → kid_ends 0 (tree_and v k no_trees) ≡ totals 1 (kid_counts (level_order (tree_and v k no_trees)))
 alone_ends v k = append-nil (totals 1 (kid_counts (level_order (tree_and v k no_trees))))
 
-layout_self : {A : Type 0} (ts : Forest A) → IsLayout ts (starts 0 ts) (0 ∷ ends 0 ts) (values_of (nodes ts))
+layout_self : {A : Type 0} (ts : Forest A) → IsLayout ts (starts 0 ts) (0 ∷ kid_ends 0 ts) (values_of (nodes ts))
 layout_self ts = record { at_starts = refl; at_ends = refl; in_order = refl }
 
 more-first : (r s t u : Row) → more r s ≡ more t u → r ≡ t
 more-first r s t u e = cc
 
-refit_of : (n g : Node Row) (vs : List Row) → IsLayout (tree_and g.value g.kids no_trees) (starts 0 (tree_and n.value n.kids no_trees)) (0 ∷ ends 0 (tree_and n.value n.kids no_trees)) vs
+refit_of : (n g : Node Row) (vs : List Row) → IsLayout (tree_and g.value g.kids no_trees) (starts 0 (tree_and n.value n.kids no_trees)) (0 ∷ kid_ends 0 (tree_and n.value n.kids no_trees)) vs
     → length vs ≡ length (values_of (nodes (tree_and n.value n.kids no_trees))) → Refit n vs
 refit_of n g vs l e =
-    let b : List ℕ = 0 ∷ ends 0 (tree_and n.value n.kids no_trees) in
+    let b : List ℕ = 0 ∷ kid_ends 0 (tree_and n.value n.kids no_trees) in
     let one : trees_of b vs ≡ tree_and g.value g.kids no_trees = layout_read l in
     let two : trees_of b (values_of (nodes (tree_and n.value n.kids no_trees))) ≡ tree_and n.value n.kids no_trees = layout_read (layout_self (tree_and n.value n.kids no_trees)) in
     let u = map-unit vs (values_of (nodes (tree_and n.value n.kids no_trees))) e in
@@ -114,8 +114,8 @@ refit_of n g vs l e =
     ap (forest_map (λ (v : Row). unit)) (sym one) ∙ (sym (trees_of-map (λ (v : Row). unit) b vs) ∙ (ap (trees_of b) u ∙ (trees_of-map (λ (v : Row). unit) b (values_of (nodes (tree_and n.value n.kids no_trees))) ∙ ap (forest_map (λ (v : Row). unit)) two))) in
     let s : bare_tree (list (tree_rows (tree_and g.value g.kids no_trees))) ≡ bare_tree (list (tree_rows (tree_and n.value n.kids no_trees))) =
     bare_rows (tree_and g.value g.kids no_trees) ∙ (ap (λ x. list (tree_rows x)) m ∙ sym (bare_rows (tree_and n.value n.kids no_trees))) in
-    let t : 0 ∷ ends 0 (tree_and n.value n.kids no_trees) ≡ 0 ∷ ends 0 (tree_and g.value g.kids no_trees) = l.at_ends in
-    let q : ends 0 (tree_and g.value g.kids no_trees) ≡ ends 0 (tree_and n.value n.kids no_trees) = cc in
+    let t : 0 ∷ kid_ends 0 (tree_and n.value n.kids no_trees) ≡ 0 ∷ kid_ends 0 (tree_and g.value g.kids no_trees) = l.at_ends in
+    let q : kid_ends 0 (tree_and g.value g.kids no_trees) ≡ kid_ends 0 (tree_and n.value n.kids no_trees) = cc in
     record {
       is = g;
       values = sym (l.in_order ∙ ap values_of (alone g.value g.kids));
@@ -126,8 +126,8 @@ refit_of n g vs l e =
 pub refit : (n : Node Row) (vs : List Row) → length vs ≡ length (values_of (level_order (tree_and n.value n.kids no_trees))) → Refit n vs
 refit n vs e =
     let a : length vs ≡ length (values_of (nodes (tree_and n.value n.kids no_trees))) = e ∙ ap (λ x. length (values_of x)) (sym (alone n.value n.kids)) in
-    let r : IsTreeRule (starts 0 (tree_and n.value n.kids no_trees)) (0 ∷ ends 0 (tree_and n.value n.kids no_trees)) (length (values_of (nodes (tree_and n.value n.kids no_trees)))) = layout_rule (layout_self (tree_and n.value n.kids no_trees)) in
-    let l : IsLayout (trees_of (0 ∷ ends 0 (tree_and n.value n.kids no_trees)) vs) (starts 0 (tree_and n.value n.kids no_trees)) (0 ∷ ends 0 (tree_and n.value n.kids no_trees)) vs = passed_layout (rule_passed (subst (λ m. IsTreeRule (starts 0 (tree_and n.value n.kids no_trees)) (0 ∷ ends 0 (tree_and n.value n.kids no_trees)) m) (sym a) r)) in
-    let w : suc (width (trees_of (0 ∷ ends 0 (tree_and n.value n.kids no_trees)) vs)) ≡ suc 1 = sym (starts-length 0 (trees_of (0 ∷ ends 0 (tree_and n.value n.kids no_trees)) vs)) ∙ (ap length (sym l.at_starts) ∙ starts-length 0 (tree_and n.value n.kids no_trees)) in
-    let o = one_tree (trees_of (0 ∷ ends 0 (tree_and n.value n.kids no_trees)) vs) (omega (arith, w)) in
-    refit_of n o.0 vs (subst (λ x. IsLayout x (starts 0 (tree_and n.value n.kids no_trees)) (0 ∷ ends 0 (tree_and n.value n.kids no_trees)) vs) o.1 l) a
+    let r : IsTreeRule (starts 0 (tree_and n.value n.kids no_trees)) (0 ∷ kid_ends 0 (tree_and n.value n.kids no_trees)) (length (values_of (nodes (tree_and n.value n.kids no_trees)))) = layout_rule (layout_self (tree_and n.value n.kids no_trees)) in
+    let l : IsLayout (trees_of (0 ∷ kid_ends 0 (tree_and n.value n.kids no_trees)) vs) (starts 0 (tree_and n.value n.kids no_trees)) (0 ∷ kid_ends 0 (tree_and n.value n.kids no_trees)) vs = passed_layout (rule_passed (subst (λ m. IsTreeRule (starts 0 (tree_and n.value n.kids no_trees)) (0 ∷ kid_ends 0 (tree_and n.value n.kids no_trees)) m) (sym a) r)) in
+    let w : suc (width (trees_of (0 ∷ kid_ends 0 (tree_and n.value n.kids no_trees)) vs)) ≡ suc 1 = sym (starts-length 0 (trees_of (0 ∷ kid_ends 0 (tree_and n.value n.kids no_trees)) vs)) ∙ (ap length (sym l.at_starts) ∙ starts-length 0 (tree_and n.value n.kids no_trees)) in
+    let o = one_tree (trees_of (0 ∷ kid_ends 0 (tree_and n.value n.kids no_trees)) vs) (omega (arith, w)) in
+    refit_of n o.0 vs (subst (λ x. IsLayout x (starts 0 (tree_and n.value n.kids no_trees)) (0 ∷ kid_ends 0 (tree_and n.value n.kids no_trees)) vs) o.1 l) a

@@ -1,14 +1,14 @@
 -- A walk over the nodes of a layout: at node j the trees q of the current tree are still to be met, and after it the trees ts.
 use Rattle.std.proofs.Common.{◌≡◌, ℕ, zero, suc, ◌+◌, ◌-◌, ◌<◌, ◌≤◌, List, [], ◌∷◌, ◌++◌, length, take, drop, map, refl, sym, ◌∙◌, ap, arith, length-append, append_assoc, append-nil}
 use Rattle.columnar_nested.specs.Forest.{Forest, no_trees, tree_and, Node, width, roots, beside, levels, in_line, level_order}
-use Rattle.columnar_nested.specs.Layout.{nodes, values_of, kid_counts, totals, starts, ends}
+use Rattle.columnar_nested.specs.Layout.{nodes, values_of, kid_counts, totals, starts, kid_ends}
 use Rattle.columnar_nested.specs.ForestLaws.{joined, joined-no_trees, width-joined, level_order-tree}
 
 unfoldable pub walk_nodes : {A : Type 0} → Forest A → Forest A → List (Node A)
 walk_nodes q ts = level_order q ++ nodes ts
 
 unfoldable pub walk_ends : {A : Type 0} → ℕ → Forest A → Forest A → List ℕ
-walk_ends j q ts = totals (j + width q) (kid_counts (level_order q)) ++ ends (j + length (level_order q)) ts
+walk_ends j q ts = totals (j + width q) (kid_counts (level_order q)) ++ kid_ends (j + length (level_order q)) ts
 
 unfoldable pub walk_starts : {A : Type 0} → ℕ → Forest A → Forest A → List ℕ
 walk_starts j q ts = starts (j + length (level_order q)) ts
@@ -27,10 +27,10 @@ ends-root j v k r =
     let z : j + 0 ≡ j = omega arith in
     let l : j + suc (length (level_order k)) ≡ suc j + length (level_order k) = omega arith in
     let e = level_order-tree v k no_trees in
-    let one : ends (j + 0) (tree_and v k r) ≡ ends j (tree_and v k r) = ap (λ x. ends x (tree_and v k r)) z in
-    let two : ends j (tree_and v k r) ≡ totals (suc j) (width k ∷ kid_counts (level_order k)) ++ ends (j + suc (length (level_order k))) r =
-    ap (λ x. totals (suc j) (kid_counts x) ++ ends (j + length x) r) e in
-    one ∙ (two ∙ ap (λ x. totals (suc j) (width k ∷ kid_counts (level_order k)) ++ ends x r) l)
+    let one : kid_ends (j + 0) (tree_and v k r) ≡ kid_ends j (tree_and v k r) = ap (λ x. kid_ends x (tree_and v k r)) z in
+    let two : kid_ends j (tree_and v k r) ≡ totals (suc j) (width k ∷ kid_counts (level_order k)) ++ kid_ends (j + suc (length (level_order k))) r =
+    ap (λ x. totals (suc j) (kid_counts x) ++ kid_ends (j + length x) r) e in
+    one ∙ (two ∙ ap (λ x. totals (suc j) (width k ∷ kid_counts (level_order k)) ++ kid_ends x r) l)
 
 pub ends-next : {A : Type 0} (j : ℕ) (v : A) (k r ts : Forest A) → walk_ends j (tree_and v k r) ts ≡ (suc j + width (joined r k)) ∷ walk_ends (suc j) (joined r k) ts
 unfolding walk_ends
@@ -38,12 +38,12 @@ ends-next j v k r ts =
     let w = width-joined r k in
     let m : (j + suc (width r)) + width k ≡ suc j + width (joined r k) = omega arith in
     let l : j + suc (length (level_order (joined r k))) ≡ suc j + length (level_order (joined r k)) = omega arith in
-    let one : walk_ends j (tree_and v k r) ts ≡ totals (j + suc (width r)) (width k ∷ kid_counts (level_order (joined r k))) ++ ends (j + suc (length (level_order (joined r k)))) ts =
-    ap (λ x. totals (j + suc (width r)) (kid_counts x) ++ ends (j + length x) ts) (level_order-tree v k r) in
-    let two : totals (j + suc (width r)) (width k ∷ kid_counts (level_order (joined r k))) ++ ends (j + suc (length (level_order (joined r k)))) ts
-    ≡ (suc j + width (joined r k)) ∷ (totals (suc j + width (joined r k)) (kid_counts (level_order (joined r k))) ++ ends (j + suc (length (level_order (joined r k)))) ts) =
-    ap (λ x. x ∷ (totals x (kid_counts (level_order (joined r k))) ++ ends (j + suc (length (level_order (joined r k)))) ts)) m in
-    one ∙ (two ∙ ap (λ x. (suc j + width (joined r k)) ∷ (totals (suc j + width (joined r k)) (kid_counts (level_order (joined r k))) ++ ends x ts)) l)
+    let one : walk_ends j (tree_and v k r) ts ≡ totals (j + suc (width r)) (width k ∷ kid_counts (level_order (joined r k))) ++ kid_ends (j + suc (length (level_order (joined r k)))) ts =
+    ap (λ x. totals (j + suc (width r)) (kid_counts x) ++ kid_ends (j + length x) ts) (level_order-tree v k r) in
+    let two : totals (j + suc (width r)) (width k ∷ kid_counts (level_order (joined r k))) ++ kid_ends (j + suc (length (level_order (joined r k)))) ts
+    ≡ (suc j + width (joined r k)) ∷ (totals (suc j + width (joined r k)) (kid_counts (level_order (joined r k))) ++ kid_ends (j + suc (length (level_order (joined r k)))) ts) =
+    ap (λ x. x ∷ (totals x (kid_counts (level_order (joined r k))) ++ kid_ends (j + suc (length (level_order (joined r k)))) ts)) m in
+    one ∙ (two ∙ ap (λ x. (suc j + width (joined r k)) ∷ (totals (suc j + width (joined r k)) (kid_counts (level_order (joined r k))) ++ kid_ends x ts)) l)
 
 pub starts-root : {A : Type 0} (j : ℕ) (v : A) (k r : Forest A) → walk_starts j no_trees (tree_and v k r) ≡ j ∷ walk_starts (suc j) k r
 unfolding walk_starts
@@ -75,7 +75,7 @@ pub walk_nodes-whole : {A : Type 0} (ts : Forest A) → walk_nodes no_trees ts �
 unfolding walk_nodes
 walk_nodes-whole ts = refl
 
-pub walk_ends-whole : {A : Type 0} (ts : Forest A) → walk_ends 0 no_trees ts ≡ ends 0 ts
+pub walk_ends-whole : {A : Type 0} (ts : Forest A) → walk_ends 0 no_trees ts ≡ kid_ends 0 ts
 unfolding walk_ends
 walk_ends-whole ts = refl
 

@@ -1,17 +1,16 @@
 -- Numbers of 128 bits, kept as arrays of their bytes.
-use Rattle.std.specs.Prelude.{ℕ, List, [], map}
+use Rattle.std.specs.Prelude.{ℕ, List, map}
 use Rattle.std.specs.Int.{from_le_bytes, cast_signed, w128}
-use Rattle.columnar_base.specs.Row.{Row, array, number, integer, number_of, items_of}
+use Rattle.columnar_base.specs.Row.{Row, number, integer, number_of, items_of}
 
 -- the bytes that an array holds
-abbrev pub bytes_of : Row → List ℕ
-bytes_of (array r) = map number_of (items_of r)
-bytes_of _ = []
+abbrev pub large_bytes : Row → List ℕ
+large_bytes r = map number_of (items_of r)
 
 -- the number that they are
 abbrev pub as_u128 : Row → Row
-as_u128 r = number (from_le_bytes w128 (bytes_of r))
+as_u128 r = number (from_le_bytes w128 (large_bytes r))
 
 -- the same in two's complement
 abbrev pub as_i128 : Row → Row
-as_i128 r = integer (cast_signed w128 (from_le_bytes w128 (bytes_of r)))
+as_i128 r = integer (cast_signed w128 (from_le_bytes w128 (large_bytes r)))

@@ -7,7 +7,8 @@ use Rattle.std.proofs.lemmas.Bool.{and_parts, and_from, leb-true, le-leb, ltb-tr
 use Rattle.std.proofs.lemmas.List.{map-append, length-map, take-map, take_all, length-replicate, replicate_more}
 use Rattle.std.proofs.lemmas.List.Sums.{sum_by-append, sum_by-cons, count_by-le-length}
 use Rattle.std.proofs.lemmas.Option.{slice_get-map}
-use Rattle.columnar_core.specs.Row.{Row, tuple, numbers_eq}
+use Rattle.columnar_core.specs.Row.{Row, tuple}
+use Rattle.columnar_sums.specs.Agree.{numbers_eq}
 use Rattle.columnar_core.specs.Format.{Content, slice, both, IsSound, IsLawful, IsStorable, lengths, fault, Excess, too_many, misplaced}
 use Rattle.columnar_core.specs.FaultLaws.{unless_true, true_unless}
 use Rattle.columnar_core.specs.AlikeLaws.{row_eq_same}

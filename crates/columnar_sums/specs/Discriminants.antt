@@ -1,7 +1,8 @@
 -- Columns of variants, each with the number of earlier rows of it.
 use Rattle.std.specs.Prelude.{ℕ, Bool, true, false, List, [], ◌∷◌, ◌++◌, length, ◌+◌, ◌-◌, ◌*◌, drop, take, map, replicate, ◌&&◌, nat_eq, nat_le, nat_lt, cond, count_by, Option, Some, None}
 use Rattle.std.specs.Int.{w8}
-use Rattle.columnar_core.specs.Row.{Row, row_eq, numbers_eq}
+use Rattle.columnar_core.specs.Row.{Row, row_eq}
+use Rattle.columnar_sums.specs.Agree.{numbers_eq}
 use Rattle.columnar_core.specs.Format.{Format, Content, slice, both, part, plain, two_broken}
 use Rattle.columnar_core.specs.Elements.{elements_format, first_slice, past_count, word_row, words_format}
 use Rattle.columnar_base.specs.Numbers.{unsigned_row, unsigned_row_of}

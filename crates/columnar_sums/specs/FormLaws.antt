@@ -1,15 +1,16 @@
 -- What the parts of a column of variants tell, and what they are after a change.
 use Rattle.std.proofs.Common.{◌≡◌, ℕ, zero, suc, ◌+◌, ◌-◌, ◌*◌, ◌%◌, ◌^◌, ◌<◌, ◌≤◌, Bool, true, false, ◌&&◌, List, [], ◌∷◌, ◌++◌, length, take, drop, map, replicate, refl, sym, ◌∙◌, ap, arith, ⊎_elim}
 use Rattle.columnar_core.specs.StoreLaws.{drop_at}
-use Rattle.std.specs.Prelude.{slice_get, slice_index, slice_index_or, slice_set, Some, None, nat_eq, nat_lt}
+use Rattle.std.specs.Prelude.{slice_get, slice_index, slice_index_or, slice_set, Option, Some, None, IfSome, nat_eq, nat_lt}
 use Rattle.std.specs.Int.{w8, w64, to_le_bytes, from_le_bytes}
 use Rattle.std.specs.List.{range_with_len}
 use Rattle.std.proofs.Math.Path.{ap₂}
 use Rattle.std.proofs.lemmas.Bool.{cond-true, cond-false, lt-ltb, le-ltb, eq-eqb, ne_eqb, and_from, and_left, and_right, cases_lt, cases_eq}
 use Rattle.std.proofs.lemmas.List.Sums.{count_by_more_yes, count_by_more_no}
 use Rattle.std.proofs.lemmas.List.{nil_from_length, replicate_more, length-replicate, take-replicate, take_all, length-take, get_or-replicate, get_or-set_same, get_or-set_other, get_or_default, same_lists}
-use Rattle.std.proofs.lemmas.Option.{slice_get-get_or, get_or_from_slice_get, same_Some}
-use Rattle.columnar_core.specs.Row.{tuple, numbers_eq}
+use Rattle.std.proofs.lemmas.Option.{slice_get-get_or, get_or_from_slice_get, same_Some, none-some}
+use Rattle.columnar_core.specs.Row.{tuple}
+use Rattle.columnar_sums.specs.Agree.{numbers_eq}
 use Rattle.columnar_core.specs.Format.{both, slice, IsSound}
 use Rattle.columnar_core.specs.Change.{Took, WasCut}
 use Rattle.columnar_core.specs.ChangeLaws.{take-suc_get}
@@ -121,13 +122,20 @@ get_of_many zero k i l = absurd (omega arith)
 get_of_many (suc n) k zero l = refl
 get_of_many (suc n) k (suc i) l = get_of_many n k i (omega arith)
 
-pub common_row : {vs bs : List ℕ} (i : ℕ) → SoundForms vs bs → length vs ≡ 0 → i < length (variant_rows [] (variants_in vs (words_in bs))) → slice_get (variant_rows [] (variants_in vs (words_in bs))) i ≡ Some (tuple (unsigned_row w8 (word bs 0 - 1)) (word_row i))
+-- row i is of the variant v, and m rows before it are
+pub record IsRowOf (ks : List ℕ) (i v m : ℕ) : Type 0 where
+  pub variant : slice_get ks i ≡ Some v
+  pub before : m ≡ times v (take i ks)
+
+pub row_of : {ks : List ℕ} {i v m : ℕ} → IsRowOf ks i v m → slice_get (variant_rows [] ks) i ≡ Some (tuple (unsigned_row w8 v) (word_row m))
+row_of {ks} {i} {v} {m} r = rw r.before (row_at i ks v r.variant)
+
+pub common_row : {vs bs : List ℕ} (i : ℕ) → SoundForms vs bs → length vs ≡ 0 → i < length (variant_rows [] (variants_in vs (words_in bs))) → IsRowOf (variants_in vs (words_in bs)) i (word bs 0 - 1) i
 common_row {vs} {bs} i s n l =
     let c = is_common_form s n (common_size i s n l) in
     let m : i < word bs 1 = omega (arith, l, length-variant_rows (variants_in vs (words_in bs)), ap length c.all, length-replicate (word bs 1) (word bs 0 - 1)) in
-    let r = row_at i (replicate (word bs 1) (word bs 0 - 1)) (word bs 0 - 1) (get_of_many (word bs 1) (word bs 0 - 1) i m) in
     let t : times (word bs 0 - 1) (take i (replicate (word bs 1) (word bs 0 - 1))) ≡ i = ap (times (word bs 0 - 1)) (take-replicate i (word bs 1) (word bs 0 - 1) (omega arith)) ∙ times-replicate (word bs 0 - 1) i in
-    rw c.all (r ∙ ap (λ (k : ℕ). Some (tuple (unsigned_row w8 (word bs 0 - 1)) (word_row k))) t)
+    rw c.all (record { variant = get_of_many (word bs 1) (word bs 0 - 1) i m; before = sym t })
 
 pub numbered_within : {vs bs : List ℕ} (i : ℕ) → SoundForms vs bs → 0 < length vs → i < length (variant_rows [] (variants_in vs (words_in bs))) → (i < length vs) × (8 * i + 8 ≤ length bs)
 numbered_within {vs} {bs} i s n l =
@@ -135,21 +143,47 @@ numbered_within {vs} {bs} i s n l =
     let m : i < length vs = omega (arith, l, length-variant_rows (variants_in vs (words_in bs)), ap length c.all) in
     (m, omega (arith, m, length-words_in bs, ap length c.numbers, length-earlier [] vs))
 
-pub numbered_row : {vs bs : List ℕ} (i : ℕ) → SoundForms vs bs → 0 < length vs → i < length (variant_rows [] (variants_in vs (words_in bs))) → slice_get (variant_rows [] (variants_in vs (words_in bs))) i ≡ Some (tuple (unsigned_row w8 (slice_index vs i)) (word_row (word bs i)))
+pub numbered_row : {vs bs : List ℕ} (i : ℕ) → SoundForms vs bs → 0 < length vs → i < length (variant_rows [] (variants_in vs (words_in bs))) → IsRowOf (variants_in vs (words_in bs)) i (slice_index vs i) (word bs i)
 numbered_row {vs} {bs} i s n l =
     let c = is_numbered_form s n in
     let w = numbered_within i s n l in
     let g = slice_get-get_or vs i 0 w.0 in
     let e : word bs i ≡ times (slice_index vs i) (take i vs) = sym (word_is bs i w.1) ∙ (ap (λ ws. slice_index ws i) c.numbers ∙ get_or_from_slice_get (earlier [] vs) i (times (slice_index vs i) (take i vs)) 0 (earlier-get i [] vs (slice_index vs i) g)) in
-    rw (c.all, e) (row_at i vs (slice_index vs i) g)
+    rw c.all (record { variant = g; before = e })
+
+-- what is kept where all rows are of one variant
+pub record IsSoleForm (vs bs : List ℕ) (v : ℕ) : Type 0 where
+  pub next : times v (variants_in vs (words_in bs)) ≡ length (variants_in vs (words_in bs))
+  pub bare : vs ≡ []
+  pub words : words_in bs ≡ (v + 1) ∷ length (variants_in vs (words_in bs)) ∷ []
+
+pub sole_form : {vs bs : List ℕ} (v : ℕ) → SoundForms vs bs → sole (variants_in vs (words_in bs)) ≡ Some v → IsSoleForm vs bs v
+sole_form {vs} {bs} v s h = elim_form s.form
+  where
+    of_many : (k x : ℕ) → sole (replicate k x) ≡ Some v → x ≡ v
+    of_many zero x e = cc
+    of_many (suc k) x e = same_Some x v (sym (cond-false (is_mixed (replicate (suc k) x)) None (Some x) (same_replicate x (suc k))) ∙ e)
+
+    elim_form : Form vs (words_in bs) → IsSoleForm vs bs v
+    elim_form (nothing p q) = let e : sole (variants_in vs (words_in bs)) ≡ None = rw (p, q) refl in absurd (none-some v (sym e ∙ h))
+    elim_form (common tag count p q l k o) =
+        let a : variants_in vs (words_in bs) ≡ replicate count (tag - 1) = rw (p, q) refl in
+        let x : tag - 1 ≡ v = of_many count (tag - 1) (ap sole (sym a) ∙ h) in
+        let t : tag ≡ v + 1 = omega (arith, x, l) in
+        let n : count ≡ length (variants_in vs (words_in bs)) = sym (ap length a ∙ length-replicate count (tag - 1)) in
+        record { next = rw (a, x) (times-replicate v count ∙ sym (length-replicate count v)); bare = p; words = q ∙ ap₂ (λ (y z : ℕ). y ∷ z ∷ []) t n }
+    elim_form (mixed u rest p k q) = let e : variants_in vs (words_in bs) ≡ u ∷ rest = rw p refl in absurd (none-some v (sole_mixed (u ∷ rest) k ∙ (ap sole (sym e) ∙ h)))
 
 -- changes
 
 pub forms_empty : IsSound discriminant_format (owned_forms [] [])
 forms_empty = forms_sound refl (let e : words_in [] ≡ [] = words_back [] in rw e refl)
 
+pub forms_no_variants : variants_of (owned_forms [] []) ≡ []
+forms_no_variants = let e : words_in [] ≡ [] = words_back [] in rw e refl
+
 pub forms_no_rows : discriminant_format.rows (owned_forms [] []) ≡ []
-forms_no_rows = let e : words_in [] ≡ [] = words_back [] in rw e refl
+forms_no_rows = ap (variant_rows []) forms_no_variants
 
 -- the bytes of words are whole
 whole_words : (os : List ℕ) → length (le_bytes os) % 8 ≡ 0
@@ -291,7 +325,7 @@ long_offsets vs os s z =
 
 -- none left
 pub holds_none : (ks : List ℕ) (n : ℕ) → n ≡ 0 → Holds [] [] (take n ks)
-holds_none ks n z = rw z (record { sound = forms_empty; variants = (let e : words_in [] ≡ [] = words_back [] in rw e refl) })
+holds_none ks n z = rw z (record { sound = forms_empty; variants = forms_no_variants })
 
 -- of one variant, as before
 pub holds_fewer : (vs os : List ℕ) (n : ℕ) → IsSound discriminant_format (owned_forms vs os) → length vs ≡ 0 → 1 ≤ n → n < 2 ^ 64 → n ≤ length (variants_of (owned_forms vs os)) → Holds vs (slice_set os 1 n) (take n (variants_of (owned_forms vs os)))
@@ -348,6 +382,19 @@ holds_front vs os n s z p m h =
 
 pub cut_held : (vs os vs' os' : List ℕ) (n : ℕ) → n ≤ length (variant_rows [] (variants_of (owned_forms vs os))) → Holds vs' os' (take n (variants_of (owned_forms vs os))) → WasCut discriminant_format (owned_forms vs os) (owned_forms vs' os') n
 cut_held vs os vs' os' n l h = forms_cut n h.sound (omega (arith, l, length-variant_rows (variants_of (owned_forms vs os)))) h.variants
+
+-- what is left of the first n rows, where these are of one variant
+pub cut_to_one : (vs os vs' os' : List ℕ) (n : ℕ) → n ≤ length (variant_rows [] (variants_of (owned_forms vs os))) → Holds vs' os' (take n (variants_of (owned_forms vs os))) → IfSome (sole (take n (variants_of (owned_forms vs os)))) (λ v. (vs' ≡ []) × (words_in (le_bytes os') ≡ (v + 1) ∷ n ∷ []))
+cut_to_one vs os vs' os' n l h = if_some (sole (take n ks)) (λ v e.
+    let f = sole_form v (forms_parts h.sound) (ap sole h.variants ∙ e) in
+    (f.bare, f.words ∙ ap (λ (m : ℕ). (v + 1) ∷ m ∷ []) (ap length h.variants ∙ (length-take n ks ∙ omega (arith, l, length-variant_rows ks)))))
+  where
+    ks : List ℕ
+    ks = variants_of (owned_forms vs os)
+
+    if_some : {P : ℕ → Type 0} (o : Option ℕ) → ((v : ℕ) → o ≡ Some v → P v) → IfSome o P
+    if_some None h = tt
+    if_some (Some v) h = h v refl
 
 -- tests
 

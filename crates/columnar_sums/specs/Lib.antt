@@ -1,3 +1,4 @@
+pub mod Agree
 pub mod Counting
 pub mod CountLaws
 pub mod CountsKept

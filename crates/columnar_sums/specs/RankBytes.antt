@@ -3,7 +3,7 @@ use Rattle.std.proofs.Common.{◌≡◌, ℕ, suc, ◌+◌, ◌*◌, ◌/◌, �
 use Rattle.std.specs.Prelude.{slice_index, slice_index_or, Some, None, nat_eq}
 use Rattle.std.proofs.lemmas.Bool.{cases_lt, eq-eqb, ne_eqb}
 use Rattle.std.proofs.lemmas.List.{drop-drop}
-use Rattle.columnar_core.specs.Row.{numbers_eq}
+use Rattle.columnar_sums.specs.Agree.{numbers_eq}
 use Rattle.columnar_core.specs.Format.{Content, slice, both, first, moved, Fault, fault, Fits}
 use Rattle.columnar_core.specs.TwoParts.{two_right, two_own, two_fine}
 use Rattle.columnar_core.specs.StoreLaws.{drop_at}

@@ -3,7 +3,8 @@ use Rattle.std.proofs.Common.{◌≡◌, ℕ, ◌+◌, ◌*◌, ◌/◌, ◌%◌
 use Rattle.std.specs.Prelude.{slice_index, count_by, count_ones}
 use Rattle.std.proofs.lemmas.List.{map-append, length-map, take-map, length-take-le, take-append-le, get_or_append_left, get_or_push, length_push, take_at, nil_from_length}
 use Rattle.std.proofs.lemmas.Bool.{cases_lt}
-use Rattle.columnar_core.specs.Row.{Row, truth, row_eq, numbers_eq}
+use Rattle.columnar_core.specs.Row.{Row, truth, row_eq}
+use Rattle.columnar_sums.specs.Agree.{numbers_eq}
 use Rattle.columnar_core.specs.Format.{Content, slice, both, IsSound}
 use Rattle.columnar_core.specs.AlikeLaws.{alike_all, row_eq_same}
 use Rattle.columnar_core.specs.Change.{Keeps, Grew, Stayed, WasCut, Took, Copied, Refused}

@@ -1,7 +1,8 @@
 -- Columns of truth values with counts, and where a cursor over them stands.
 use Rattle.std.specs.Prelude.{ℕ, Bool, true, false, List, [], ◌∷◌, ◌≡◌, ◌≤◌, ◌<◌, ◌+◌, ◌*◌, ◌/◌, length, map, drop, slice_index_or, Vec}
 use Rattle.std.specs.Global.{Global}
-use Rattle.columnar_core.specs.Row.{truth, row_eq, numbers_eq}
+use Rattle.columnar_core.specs.Row.{truth, row_eq}
+use Rattle.columnar_sums.specs.Agree.{numbers_eq}
 use Rattle.columnar_core.specs.Format.{Format, Content, slice, both, part, plain, Fault, two_broken, IsSound}
 use Rattle.columnar_core.specs.Elements.{first_slice, past_count, words_format}
 use Rattle.columnar_core.specs.WordViews.{words_in, bytes_of, le_bytes}

@@ -1,8 +1,8 @@
 //! Which variant each row is of, and how many earlier rows are of the same.
-ghost use Rattle.std.specs.Prelude.{◌≡◌, ℕ, ◌≤◌, ◌*◌, List, length};
+ghost use Rattle.std.specs.Prelude.{◌≡◌, ℕ, ◌+◌, ◌<◌, List, [], ◌∷◌, length, take, slice_get, Some, IfSome, IsTrue, IsFalse};
 ghost use Rattle.columnar_core.specs.Format.{both, slice, IsSound};
-ghost use Rattle.columnar_core.specs.WordViews.{view_bytes};
-ghost use Rattle.columnar_sums.specs.Discriminants.{discriminant_format, forms_content, variants_of, is_mixed, sole};
+ghost use Rattle.columnar_core.specs.WordViews.{view_bytes, words_in};
+ghost use Rattle.columnar_sums.specs.Discriminants.{discriminant_format, forms_content, variants_of, is_mixed, sole, times, earlier};
 
 mod bytes;
 mod grow;
@@ -76,8 +76,19 @@ impl<CVar: Variants, COff: Words> Len for Discriminant<CVar, COff> {
 impl<CVar: Variants, COff: Words> Index for Discriminant<CVar, COff> {
     type Ref = (u8, u64);
 
-    /// The variant of row `index`, and how many earlier rows are of it.
     fn get(&self, index: usize) -> (u8, u64) {
+        Discriminant::get(self, index)
+    }
+}
+
+impl<CVar: Variants, COff: Words> Discriminant<CVar, COff> {
+    /// The variant of row `index`, and how many earlier rows are of it.
+    pub fn get(&self, index: usize) -> (u8, u64)
+        requires sound { IsSound discriminant_format (forms_content CVar.bytes COff.bytes self.now) }
+        requires in_range { index < length (discriminant_format.rows (forms_content CVar.bytes COff.bytes self.now)) }
+        ensures variant { slice_get (variants_of (forms_content CVar.bytes COff.bytes self.now)) index ≡ Some result.0 }
+        ensures earlier { result.1 ≡ times result.0 (take index (variants_of (forms_content CVar.bytes COff.bytes self.now))) }
+    {
         let variants = self.variant.variants();
         if variants.len() == 0 {
             ((self.offset.word(0) - 1) as u8, index as u64)
@@ -85,21 +96,26 @@ impl<CVar: Variants, COff: Words> Index for Discriminant<CVar, COff> {
             (variants[index], self.offset.word(index))
         }
     }
-}
 
-impl<CVar: Variants, COff: Words> Discriminant<CVar, COff> {
-    /// Are there two different variants at least?
+    /// Are there two different variants at least? Then a variant and an offset are kept for each row, and no variant
+    /// else.
     pub fn is_heterogeneous(&self) -> bool
         requires { IsSound discriminant_format (forms_content CVar.bytes COff.bytes self.now) }
-        ensures { result ≡ is_mixed (variants_of (forms_content CVar.bytes COff.bytes self.now)) }
+        ensures mixed { result ≡ is_mixed (variants_of (forms_content CVar.bytes COff.bytes self.now)) }
+        ensures written { IsTrue result → (CVar.bytes self.now.variant ≡ variants_of (forms_content CVar.bytes COff.bytes self.now)) × (words_in (COff.bytes self.now.offset) ≡ earlier [] (variants_of (forms_content CVar.bytes COff.bytes self.now))) }
+        ensures bare { IsFalse result → (CVar.bytes self.now.variant ≡ []) }
     {
         self.variant.variants().len() > 0
     }
 
-    /// The variant of all rows; None where there is no row, or where there are two different variants.
+    /// The variant of all rows; None where there is no row, or where there are two different variants. Where there is
+    /// one, one more than it and the number of rows are all that is kept.
     pub fn homogeneous(&self) -> Option<u8>
         requires { IsSound discriminant_format (forms_content CVar.bytes COff.bytes self.now) }
-        ensures { result ≡ sole (variants_of (forms_content CVar.bytes COff.bytes self.now)) }
+        ensures sole { result ≡ sole (variants_of (forms_content CVar.bytes COff.bytes self.now)) }
+        ensures next { IfSome result (λ v. times v (variants_of (forms_content CVar.bytes COff.bytes self.now)) ≡ length (variants_of (forms_content CVar.bytes COff.bytes self.now))) }
+        ensures bare { IfSome result (λ v. CVar.bytes self.now.variant ≡ []) }
+        ensures common { IfSome result (λ v. words_in (COff.bytes self.now.offset) ≡ (v + 1) ∷ length (variants_of (forms_content CVar.bytes COff.bytes self.now)) ∷ []) }
     {
         if self.variant.variants().len() == 0 && self.offset.size() == 16 {
             Some((self.offset.word(0) - 1) as u8)

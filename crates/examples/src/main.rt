@@ -3,12 +3,14 @@
 
 mod level;
 mod log;
+mod spans;
 
-use columnar::bytes::stash::Command;
+use columnar::bytes::stash::{Command, Stash};
 use columnar::fault::GrowError;
 use columnar::{Borrow, Index, Push, Storage};
 use level::{Level, Levels};
 use log::Log;
+use spans::{Span, Spans};
 use std::alloc::{AllocError, Global};
 use std::io::{self, Write};
 use std::process::ExitCode;
@@ -48,7 +50,8 @@ fn main(rt: HostRuntime) -> ExitCode {
 
 fn shown<O: Write>(alloc: Global, out: &mut O) -> Result<(), Failure> {
     events(alloc, out)?;
-    levels(alloc, out)
+    levels(alloc, out)?;
+    times(alloc, out)
 }
 
 // A column of values of one's own type.
@@ -59,6 +62,24 @@ fn levels<O: Write>(alloc: Global, out: &mut O) -> Result<(), Failure> {
     for level in column.borrow().into_index_iter() {
         writeln!(out, "{level:?}")?;
     }
+    Ok(())
+}
+
+// A container of one's own over two parts.
+fn times<O: Write>(alloc: Global, out: &mut O) -> Result<(), Failure> {
+    let mut kept: Stash<Spans<Vec<u64>, Vec<u32>>, Vec<u8>> = Stash::empty(alloc);
+    kept.push(Span {
+        start: 12,
+        length: 3,
+    })?;
+    kept.push(Span {
+        start: 20,
+        length: 1,
+    })?;
+    for span in kept.borrow().into_index_iter() {
+        writeln!(out, "from {} for {}", span.start, span.length)?;
+    }
+    writeln!(out, "{} bytes", kept.length_in_bytes().unwrap_or(0))?;
     Ok(())
 }
 

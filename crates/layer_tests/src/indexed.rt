@@ -14,9 +14,11 @@ use columnar_core::fault::{GrowError, StoreFault, WriteFault};
 use columnar_core::tally::Tally;
 use columnar_core::traits::Column;
 use columnar_core::view::View;
-use std::alloc::{AllocError, Global};
-use std::io::{Error, ErrorKind, Write};
+use std::alloc::Global;
+use std::io::{Error, ErrorKind};
 use std::test::Fail;
+use test_support::stores::{bytes_of, front};
+use test_support::writers::Slow;
 
 // A column of bytes beside one of words: two slices
 #[derive(Clone, Copy)]
@@ -98,15 +100,6 @@ impl<'v> AsBytes<'v> for BytesAndWords<'v> {
     }
 }
 
-// The bytes of words, each lowest first
-fn bytes_of(alloc: Global, words: &[u64]) -> Result<Vec<u8>, Error> {
-    let mut bytes = Vec::new(alloc);
-    match ByteSlice::of_words(words).write(&mut bytes) {
-        Ok(()) => Ok(bytes),
-        Err(fault) => Err(fault),
-    }
-}
-
 // What `write` sends, in a vector
 fn written<'a, S: AsBytes<'a>>(alloc: Global, item: &S) -> Result<Vec<u8>, WriteFault<Error>>
     requires { IsTrue (representable S.format) }
@@ -128,45 +121,10 @@ fn encoded<'a, S: AsBytes<'a>>(alloc: Global, item: &S) -> Result<Vec<u8>, Error
     bytes_of(alloc, &words)
 }
 
-// The first bytes
-fn front(bytes: &[u8], len: usize) -> &[u8] {
-    if len <= bytes.len() {
-        &bytes[..len]
-    } else {
-        bytes
-    }
-}
-
 // The test of words as a store of so many slices
 fn tested(alloc: Global, words: &[u64], expected: usize) -> Result<Result<(), StoreFault>, Error> {
     let bytes = bytes_of(alloc, words)?;
     Ok(validate_structure(&bytes, expected))
-}
-
-// Takes at most one byte a call, and fails once `limit` bytes are taken
-#[derive(Drop)]
-struct Slow {
-    taken: Vec<u8>,
-    limit: usize,
-    kind: Option<ErrorKind>,
-}
-
-impl Write for Slow {
-    fn write(&mut self, buf: &[u8]) -> std::io::Result<usize> {
-        if self.taken.len() >= self.limit {
-            return match self.kind {
-                Some(kind) => Err(Error::from(kind)),
-                None => Ok(0),
-            };
-        }
-        let count = buf.len().min(1);
-        self.taken.extend_from_slice(&buf[..count])?;
-        Ok(count)
-    }
-
-    fn flush(&mut self) -> std::io::Result<()> {
-        Ok(())
-    }
 }
 
 #[test]

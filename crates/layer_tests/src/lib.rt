@@ -1,7 +1,9 @@
-//! Tests of ranks, options, lists and framing, by their public calls alone. They stand here and not in the layers' own
-//! crates, since a crate with tests is proved twice: once without them, and once with them.
+//! Tests of lists, strings, rows that may be absent, tuples, trees and framing, by their public calls alone. They stand
+//! here and not in the layers' own crates, since a crate with tests is proved twice: once without them, and once with them.
 #![tactic(auto)]
 
+#[cfg(test)]
+mod boxed;
 #[cfg(test)]
 mod indexed;
 #[cfg(test)]
@@ -12,3 +14,11 @@ mod options;
 mod plain;
 #[cfg(test)]
 mod ranks;
+#[cfg(test)]
+mod refused;
+#[cfg(test)]
+mod strings;
+#[cfg(test)]
+mod trees;
+#[cfg(test)]
+mod tuples;

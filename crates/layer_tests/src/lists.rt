@@ -1,17 +1,17 @@
 // Lists of rows.
-ghost use Rattle.std.specs.Prelude.{◌≡◌, length, IfSome};
-ghost use Rattle.columnar_base.specs.Format.{IsSound};
+ghost use Rattle.std.specs.Prelude.{◌≡◌};
 
 use columnar_core::bytes::{AsBytes, Check, Stored};
-use columnar_core::container::{
-    Borrow, Container, ContainerBytes, ExtendFrom, Reborrow, Storage, Truncate,
-};
+use columnar_core::container::{Borrow, ContainerBytes, ExtendFrom, Reborrow, Storage, Truncate};
 use columnar_core::fault::StoreFault;
 use columnar_core::slice::Slice;
-use columnar_core::traits::{Clear, Index, Item, Len, Push, PushRef};
+use columnar_core::traits::{Clear, Len};
 use columnar_core::view::View;
+use columnar_lists::laws;
 use columnar_lists::vector::Vecs;
+use smallvec::SmallVec;
 use std::test::Fail;
+use test_support::columns::{copied, count, row_at, takes, takes_ref, takes_rows};
 
 type Lists = Vecs<Vec<u64>, Vec<u64>>;
 
@@ -19,90 +19,13 @@ type ListsView<'a> = Vecs<View<'a, u64>, View<'a, u64>>;
 
 type Nested = Vecs<Lists, Vec<u64>>;
 
-// The rows of a container, through the bound.
-fn count<'a, C: Container<'a>>(column: &'a C) -> usize
-    requires { IsSound C.format (C.content column.now) }
-    ensures { result ≡ length (C.format.rows (C.content column.now)) }
-{
-    column.len()
-}
-
-// Pushes rows of a view as one row; false where they are not there, or where the push is refused.
-fn pushed<V: Len + Copy, C: Push<Slice<V>>>(
-    column: &mut C,
-    view: V,
-    lower: usize,
-    upper: usize,
-) -> bool
-    requires sound { IsSound C.format (C.content column.old) }
-    requires view_sound { IsSound V.format (V.content view) }
-    ensures { IsSound C.format (C.content column.new) }
-{
-    if lower > upper || upper > view.len() {
-        return false;
-    }
-    let item = Slice {
-        lower,
-        upper,
-        slice: view,
-    };
-    column.push(item).is_ok()
-}
-
-// Pushes an item as one list; false where the push is refused.
-fn takes<T: Item, C: Push<T>>(column: &mut C, item: T) -> bool
-    requires sound { IsSound C.format (C.content column.old) }
-    requires valid { T.valid item }
-    ensures { IsSound C.format (C.content column.new) }
-{
-    column.push(item).is_ok()
-}
-
-// The same of an item by reference.
-fn takes_ref<T: Item, C: PushRef<T>>(column: &mut C, item: &T) -> bool
-    requires sound { IsSound C.format (C.content column.old) }
-    requires valid { T.valid item.now }
-    ensures { IsSound C.format (C.content column.new) }
-{
-    column.push_ref(item).is_ok()
-}
-
-// Copies rows of a view behind those of a container; false where they are not there, or where the copy is refused.
-fn copied<V: Len + Copy, C: ExtendFrom<V>>(
-    column: &mut C,
-    view: V,
-    start: usize,
-    end: usize,
-) -> bool
-    requires sound { IsSound C.format (C.content column.old) }
-    requires view_sound { IsSound V.format (V.content view) }
-    ensures { IsSound C.format (C.content column.new) }
-{
-    if start > end || end > view.len() {
-        return false;
-    }
-    column.extend_from_self(view, start..end).is_ok()
-}
-
-// Row `index`, where there is one.
-fn row_at<V: Index + Len>(view: &V, index: usize) -> Option<V::Ref>
-    requires { IsSound V.format (V.content view.now) }
-    ensures { IfSome result V.Ref.valid }
-{
-    if index < view.len() {
-        Some(view.get(index))
-    } else {
-        None
-    }
-}
-
 #[test]
 fn lists_of_words(rt: HostRuntime) -> Result<(), Fail> {
     let view = View::from_slice([1u64, 2, 3, 4, 5, 6].as_slice());
     let mut lists = Lists::empty(rt.alloc());
-    assert!(rt; pushed(&mut lists, view, 0, 2));
-    assert!(rt; pushed(&mut lists, view, 2, 2));
-    assert!(rt; pushed(&mut lists, view, 1, 6));
+    assert!(rt; takes_rows(&mut lists, view, 0, 2));
+    assert!(rt; takes_rows(&mut lists, view, 2, 2));
+    assert!(rt; takes_rows(&mut lists, view, 1, 6));
     assert_eq!(rt; count(&lists), 3);
     assert_eq!(rt; lists.bounds.as_slice(), [2, 2, 7].as_slice());
     assert_eq!(rt; lists.values.as_slice(), [1, 2, 2, 3, 4, 5, 6].as_slice());
@@ -142,6 +65,39 @@ fn lists_are_pushed_from_slices_and_vectors(rt: HostRuntime) -> Result<(), Fail>
 }
 
 #[test]
+fn lists_are_pushed_from_arrays(rt: HostRuntime) -> Result<(), Fail> {
+    let pair = [1u64, 2];
+    laws::array_is_the_list(&pair);
+    let mut lists = Lists::empty(rt.alloc());
+    assert!(rt; takes(&mut lists, &pair));
+    assert!(rt; takes(&mut lists, [3u64, 4, 5]));
+    assert!(rt; takes_ref(&mut lists, &[6u64]));
+    assert_eq!(rt; lists.bounds.as_slice(), [2, 5, 6].as_slice());
+    assert_eq!(rt; lists.values.as_slice(), [1, 2, 3, 4, 5, 6].as_slice());
+    let mut pairs = Vecs::<Vec<[u64; 2]>, Vec<u64>>::empty(rt.alloc());
+    assert!(rt; takes(&mut pairs, &[[1u64, 2], [3, 4], [5, 6]]));
+    assert_eq!(rt; pairs.bounds.as_slice(), [3].as_slice());
+    assert_eq!(rt;
+        pairs.values.as_slice(),
+        [[1, 2], [3, 4], [5, 6]].as_slice()
+    );
+    Ok(())
+}
+
+#[test]
+fn lists_are_pushed_from_small_vectors(rt: HostRuntime) -> Result<(), Fail> {
+    let few = SmallVec::<u64, 2>::from_slice(rt.alloc(), &[1])?;
+    let many = SmallVec::<u64, 2>::from_slice(rt.alloc(), &[2, 3, 4])?;
+    let mut lists = Lists::empty(rt.alloc());
+    assert!(rt; takes(&mut lists, &few));
+    assert!(rt; takes_ref(&mut lists, &many));
+    assert!(rt; takes(&mut lists, few));
+    assert_eq!(rt; lists.bounds.as_slice(), [1, 4, 5].as_slice());
+    assert_eq!(rt; lists.values.as_slice(), [1, 2, 3, 4, 1].as_slice());
+    Ok(())
+}
+
+#[test]
 fn lists_of_lists_are_pushed_from_slices(rt: HostRuntime) -> Result<(), Fail> {
     let first = [1u64, 2];
     let second = [3u64];
@@ -159,12 +115,12 @@ fn lists_of_lists_are_pushed_from_slices(rt: HostRuntime) -> Result<(), Fail> {
 fn ranges_of_lists(rt: HostRuntime) -> Result<(), Fail> {
     let view = View::from_slice([1u64, 2, 3, 4, 5, 6].as_slice());
     let mut source = Lists::empty(rt.alloc());
-    assert!(rt; pushed(&mut source, view, 0, 2));
-    assert!(rt; pushed(&mut source, view, 2, 5));
-    assert!(rt; pushed(&mut source, view, 5, 6));
+    assert!(rt; takes_rows(&mut source, view, 0, 2));
+    assert!(rt; takes_rows(&mut source, view, 2, 5));
+    assert!(rt; takes_rows(&mut source, view, 5, 6));
     let views = [source.borrow(), source.borrow()];
     let mut lists = Lists::with_capacity_for(rt.alloc(), views.iter().copied())?;
-    assert!(rt; pushed(&mut lists, view, 4, 6));
+    assert!(rt; takes_rows(&mut lists, view, 4, 6));
     assert!(rt; lists.reserve_for(views.iter().copied()).is_ok());
     assert!(rt; copied(&mut lists, source.borrow(), 1, 3));
     assert_eq!(rt; lists.bounds.as_slice(), [2, 5, 6].as_slice());
@@ -205,12 +161,12 @@ fn slices_of_lists(rt: HostRuntime) -> Result<(), Fail> {
 fn lists_of_lists(rt: HostRuntime) -> Result<(), Fail> {
     let view = View::from_slice([1u64, 2, 3, 4, 5, 6].as_slice());
     let mut inner = Lists::empty(rt.alloc());
-    assert!(rt; pushed(&mut inner, view, 0, 2));
-    assert!(rt; pushed(&mut inner, view, 2, 2));
-    assert!(rt; pushed(&mut inner, view, 2, 6));
+    assert!(rt; takes_rows(&mut inner, view, 0, 2));
+    assert!(rt; takes_rows(&mut inner, view, 2, 2));
+    assert!(rt; takes_rows(&mut inner, view, 2, 6));
     let mut nested = Nested::empty(rt.alloc());
-    assert!(rt; pushed(&mut nested, inner.borrow(), 1, 3));
-    assert!(rt; pushed(&mut nested, inner.borrow(), 0, 1));
+    assert!(rt; takes_rows(&mut nested, inner.borrow(), 1, 3));
+    assert!(rt; takes_rows(&mut nested, inner.borrow(), 0, 1));
     let mut copy = Nested::empty(rt.alloc());
     assert!(rt; copied(&mut copy, nested.borrow(), 0, 2));
     assert!(rt; copied(&mut copy, nested.borrow(), 0, 2));

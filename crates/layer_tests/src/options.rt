@@ -1,10 +1,10 @@
 //! Rows that may be absent, by worked rows.
-ghost use Rattle.std.specs.Prelude.{◌≡◌, ℕ, length, IfOk, IfSome};
+ghost use Rattle.std.specs.Prelude.{◌≡◌, IfOk};
 ghost use Rattle.columnar_core.specs.Format.{IsSound};
 
 use columnar_core::bytes::{Check, Stored};
-use columnar_core::container::{Borrow, Container, ExtendFrom, Storage, Truncate};
-use columnar_core::fault::{GrowError, StoreFault};
+use columnar_core::container::{Borrow, ExtendFrom, Storage};
+use columnar_core::fault::StoreFault;
 use columnar_core::traits::{Clear, Index, Len, Push, PushRef};
 use columnar_core::view::View;
 use columnar_primitive::bools::Bools;
@@ -12,54 +12,11 @@ use columnar_sums::option::Options;
 use columnar_sums::rank_select::RankSelect;
 use std::alloc::Global;
 use std::test::Fail;
+use test_support::columns::{copied, count, cut, row_at};
 
 type Held = Options<Vec<u64>, Vec<u64>, Vec<u64>, [u64; 2]>;
 
 type Viewed<'a> = Options<View<'a, u64>, View<'a, u64>, View<'a, u64>, View<'a, u64>>;
-
-// How many rows has a container, through the bound?
-fn count<'a, C: Container<'a>>(column: &'a C) -> usize
-    requires { IsSound C.format (C.content column.now) }
-    ensures { result ≡ length (C.format.rows (C.content column.now)) }
-{
-    column.len()
-}
-
-// Row `index`, where there is one
-fn row_at<V: Index + Len>(view: &V, index: usize) -> Option<V::Ref>
-    requires { IsSound V.format (V.content view.now) }
-    ensures { IfSome result V.Ref.valid }
-{
-    if index < view.len() {
-        Some(view.get(index))
-    } else {
-        None
-    }
-}
-
-// Copies rows of a view behind those of a container; false where they are not there, or where the copy is refused
-fn copied<V: Len + Copy, C: ExtendFrom<V>>(
-    column: &mut C,
-    view: V,
-    start: usize,
-    end: usize,
-) -> bool
-    requires sound { IsSound C.format (C.content column.old) }
-    requires view_sound { IsSound V.format (V.content view) }
-    ensures { IsSound C.format (C.content column.new) }
-{
-    start <= end && end <= view.len() && column.extend_from_self(view, start..end).is_ok()
-}
-
-// Keeps the first rows, where there are as many.
-fn cut<C: Storage>(column: &mut C, n: usize)
-    requires { IsSound C.format (C.content column.old) }
-    ensures { IsSound C.format (C.content column.new) }
-{
-    if n <= column.len() {
-        column.truncate(n);
-    }
-}
 
 #[test]
 fn some_and_none(rt: HostRuntime) -> Result<(), Fail> {

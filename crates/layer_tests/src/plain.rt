@@ -1,13 +1,14 @@
 //! Counting, finding and cursors, compared with plain scans over random bits.
-ghost use Rattle.std.specs.Prelude.{◌≡◌, ℕ, length, IfOk};
+ghost use Rattle.std.specs.Prelude.{◌≡◌, IfOk};
 ghost use Rattle.columnar_core.specs.Format.{IsSound};
 ghost use Rattle.columnar_sums.specs.RankColumns.{ranks_format, owned_ranks};
 
-use columnar_core::container::{Borrow, ExtendFrom, Storage, Truncate};
-use columnar_core::traits::{Index, Len, Push};
+use columnar_core::container::{Borrow, Storage};
+use columnar_core::traits::{Len, Push};
 use columnar_sums::rank_select::RankSelect;
 use std::alloc::Global;
 use std::test::Fail;
+use test_support::columns::copied;
 
 type Held = RankSelect<Vec<u64>, Vec<u64>, [u64; 2]>;
 
@@ -104,20 +105,10 @@ fn end_of(alloc: Global, column: &Held, start: usize) -> Result<Held, Fail>
     ensures { IfOk result (λ c. IsSound ranks_format (owned_ranks c)) }
 {
     let mut copy = <Held as Storage>::empty(alloc);
-    if !copied(&mut copy, column.borrow(), start) {
+    if !copied(&mut copy, column.borrow(), start, column.len()) {
         return Err(Fail::from("refused"));
     }
     Ok(copy)
-}
-
-// Copies the rows of a view from `start` on behind those of a container.
-fn copied<V: Len + Copy, C: ExtendFrom<V>>(column: &mut C, view: V, start: usize) -> bool
-    requires sound { IsSound C.format (C.content column.old) }
-    requires view_sound { IsSound V.format (V.content view) }
-    ensures { IsSound C.format (C.content column.new) }
-{
-    let end = view.len();
-    start <= end && column.extend_from_self(view, start..end).is_ok()
 }
 
 // Do so many random bits agree, and a copy of their end?

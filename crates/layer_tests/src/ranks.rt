@@ -3,8 +3,8 @@ ghost use Rattle.std.specs.Prelude.{◌≡◌, length, IfOk};
 ghost use Rattle.columnar_core.specs.Format.{IsSound};
 ghost use Rattle.columnar_sums.specs.RankColumns.{ranks_format, owned_ranks, ranked_bits};
 
-use columnar_core::container::{Borrow, Storage, Truncate};
-use columnar_core::traits::{Index, Len};
+use columnar_core::container::{Borrow, Storage};
+use columnar_core::traits::Index;
 use columnar_core::words::Words;
 use columnar_sums::rank_select::{Cursor, RankSelect, select_in_word};
 use std::alloc::Global;

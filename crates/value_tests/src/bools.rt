@@ -73,47 +73,23 @@ fn views_read_the_same_bits(rt: HostRuntime) -> Result<(), Fail> {
 
 #[test]
 fn dirty_tails_are_refused(rt: HostRuntime) -> Result<(), Fail> {
-    let dirty = [5, 2];
-    let long = [0, 64];
-    let fine = [1, 2];
-    let none = View::from_slice(&[]);
-    assert!(rt;
-        Bools {
-            values: none,
-            tail: View::from_slice(&dirty)
-        }
-        .check()
-            == Err(StoreFault::TailBits(0))
-    );
-    assert!(rt;
-        Bools {
-            values: none,
-            tail: View::from_slice(&long)
-        }
-        .check()
-            == Err(StoreFault::TailBits(0))
-    );
-    assert!(rt;
-        Bools {
-            values: none,
-            tail: View::from_slice(&fine)
-        }
-        .check()
-        .is_ok()
-    );
-    assert!(rt;
-        Bools {
-            values: none,
-            tail: none
-        }
-        .check()
-            == Err(StoreFault::HeadSize(1))
-    );
+    for (tail, wanted) in [
+        ([5, 2].as_slice(), Err(StoreFault::TailBits(0))),
+        ([0, 64].as_slice(), Err(StoreFault::TailBits(0))),
+        ([1, 2].as_slice(), Ok(())),
+        ([].as_slice(), Err(StoreFault::HeadSize(1))),
+    ] {
+        let view = Bools {
+            values: View::from_slice(&[]),
+            tail: View::from_slice(tail),
+        };
+        assert_eq!(rt; view.check(), wanted);
+    }
     let bytes = [0; 12];
     assert!(rt;
         Bools {
             values: View::from_le_bytes(&bytes),
-            tail: View::from_slice(&fine)
+            tail: View::from_slice(&[1, 2])
         }
         .check()
             == Err(StoreFault::ElementSize(0))

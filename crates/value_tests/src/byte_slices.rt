@@ -129,6 +129,11 @@ fn arrays_of_each_number_go_out(rt: HostRuntime) -> Result<(), Fail> {
     assert_eq!(rt; <[i16; 1] as Sliced>::byte_slice(&[[-1]]).word(0), 65535);
     assert_eq!(rt; <[i32; 1] as Sliced>::byte_slice(&[[7]]).word(0), 7);
     assert_eq!(rt; <[i64; 1] as Sliced>::byte_slice(&[[7]]).word(0), 7);
+    Ok(())
+}
+
+#[test]
+fn arrays_of_wrapping_numbers_go_out(rt: HostRuntime) -> Result<(), Fail> {
     assert_eq!(rt;
         <[Wrapping<u8>; 1] as Sliced>::byte_slice(&[[Wrapping(7)]]).word(0),
         7

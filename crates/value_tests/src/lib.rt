@@ -13,6 +13,8 @@ mod offsets;
 #[cfg(test)]
 mod pairs;
 #[cfg(test)]
+mod ranges;
+#[cfg(test)]
 mod tally;
 #[cfg(test)]
 mod values;

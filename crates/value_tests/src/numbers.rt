@@ -1,26 +1,18 @@
 // Columns of numbers, of bytes and of arrays.
-ghost use Rattle.std.specs.Prelude.{◌≡◌, length};
-ghost use Rattle.columnar_base.specs.Format.{IsSound};
+ghost use Rattle.std.specs.Prelude.{◌≡◌};
 
 use columnar_base::fault::StoreFault;
 use columnar_base::iter::IterOwn;
 use columnar_base::slice::Slice;
-use columnar_base::traits::{Clear, Column, Index, Len, Push, PushRef};
+use columnar_base::traits::{Clear, Index, Len, Push, PushRef};
 use columnar_base::view::View;
 use columnar_core::bytes::{AsBytes, Check, Stored};
 use columnar_core::container::{
-    Borrow, Container, ContainerBytes, ExtendFrom, Reborrow, ReborrowRef, Storage, Truncate,
+    Borrow, ContainerBytes, ExtendFrom, Reborrow, ReborrowRef, Storage, Truncate,
 };
 use std::num::Wrapping;
 use std::test::Fail;
-
-// How many rows has a container, through the bound?
-fn count<'a, C: Container<'a>>(column: &'a C) -> usize
-    requires { IsSound C.format (C.content column.now) }
-    ensures { result ≡ length (C.format.rows (C.content column.now)) }
-{
-    column.len()
-}
+use test_support::columns::count;
 
 #[test]
 fn bytes_are_pushed_as_slices(rt: HostRuntime) -> Result<(), Fail> {

@@ -4,7 +4,7 @@ ghost use Rattle.columnar_core.specs.Format.{IsSound};
 ghost use Rattle.columnar_primitive.specs.Stride.{strides_format, head_and_bounds};
 
 use columnar_core::bytes::Check;
-use columnar_core::container::{Borrow, Container, Storage, Truncate};
+use columnar_core::container::{Borrow, Container, Storage};
 use columnar_core::fault::{GrowError, StoreFault};
 use columnar_core::offsets::Offsets;
 use columnar_core::traits::{Clear, Len, Push};
@@ -12,6 +12,7 @@ use columnar_core::view::View;
 use columnar_core::words::Words;
 use columnar_primitive::offsets::{Fixeds, Strides};
 use std::test::Fail;
+use test_support::columns::cut;
 
 // Pushes through the bound.
 fn pushed<C: Push<u64>>(column: &mut C, item: u64) -> Result<(), GrowError>
@@ -52,16 +53,6 @@ fn copied<'a, C: Container<'a>>(
     match into.extend_from_self(from.borrow(), start..end) {
         Ok(()) => Some(Ok(())),
         Err(error) => Some(Err(error)),
-    }
-}
-
-// Cuts through the bound, where there are so many rows.
-fn cut<C: Storage>(column: &mut C, n: usize)
-    requires { IsSound C.format (C.content column.old) }
-    ensures { IsSound C.format (C.content column.new) }
-{
-    if n <= column.len() {
-        column.truncate(n);
     }
 }
 

@@ -1,38 +1,17 @@
 // Pairs of columns.
-ghost use Rattle.std.specs.Prelude.{◌≡◌, length};
-ghost use Rattle.columnar_base.specs.Format.{IsSound};
+ghost use Rattle.std.specs.Prelude.{◌≡◌};
 
 use columnar_core::bytes::{Check, Stored};
-use columnar_core::container::{Borrow, Container, ExtendFrom, Storage, Truncate};
-use columnar_core::fault::{GrowError, StoreFault};
+use columnar_core::container::{Borrow, ExtendFrom, Storage, Truncate};
+use columnar_core::fault::StoreFault;
 use columnar_core::traits::{Clear, Index, Len, Push, PushRef};
 use columnar_core::view::View;
 use std::test::Fail;
+use test_support::columns::{copy_all, count};
 
 type Pairs = (Vec<u64>, Vec<u64>);
 
 type PairsView<'a> = (View<'a, u64>, View<'a, u64>);
-
-// How many rows has a container, through the bound?
-fn count<'a, C: Container<'a>>(column: &'a C) -> usize
-    requires { IsSound C.format (C.content column.now) }
-    ensures { result ≡ length (C.format.rows (C.content column.now)) }
-{
-    column.len()
-}
-
-// Copies the rows of a view behind those of a container, through the bounds.
-fn copy_all<V: Len + Copy, C: ExtendFrom<V>>(column: &mut C, view: V) -> Result<(), GrowError>
-    requires sound { IsSound C.format (C.content column.old) }
-    requires view_sound { IsSound V.format (V.content view) }
-    ensures { IsSound C.format (C.content column.new) }
-{
-    let n = view.len();
-    match column.extend_from_self(view, 0..n) {
-        Ok(()) => Ok(()),
-        Err(error) => Err(error),
-    }
-}
 
 #[test]
 fn pairs_of_words(rt: HostRuntime) -> Result<(), Fail> {

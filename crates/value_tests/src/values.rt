@@ -1,13 +1,11 @@
 // Columns of values, read and grown as lists of rows.
-ghost use Rattle.std.specs.Prelude.{◌≡◌, ℕ, length, IsTrue};
-ghost use Rattle.columnar_base.specs.Format.{IsSound, representable};
+ghost use Rattle.std.specs.Prelude.{◌≡◌, IsTrue};
+ghost use Rattle.columnar_base.specs.Format.{representable};
 
 use columnar_core::bytes::{AsBytes, Check, Stored};
-use columnar_core::container::{
-    Borrow, Container, ContainerBytes, ExtendFrom, Reborrow, Storage, Truncate,
-};
+use columnar_core::container::{Borrow, ContainerBytes, ExtendFrom, Reborrow, Storage, Truncate};
 use columnar_core::fault::{GrowError, StoreFault};
-use columnar_core::traits::{Clear, Column, Index, Len, Push, PushRef};
+use columnar_core::traits::{Clear, Len, Push, PushRef};
 use columnar_core::view::View;
 use columnar_primitive::chars::Chars;
 use columnar_primitive::count::Count;
@@ -18,6 +16,7 @@ use columnar_primitive::numbers::{Isizes, Usizes};
 use std::marker::PhantomData;
 use std::test::Fail;
 use std::time::Duration;
+use test_support::columns::{copy_all, count, row_at};
 
 type Sizes = Usizes<Vec<u64>>;
 
@@ -33,27 +32,6 @@ type Times = Durations<Vec<u64>, Vec<u32>>;
 
 type Units = Empties<u64>;
 
-// How many rows has a container, through the bound?
-fn count<'a, C: Container<'a>>(column: &'a C) -> usize
-    requires { IsSound C.format (C.content column.now) }
-    ensures { result ≡ length (C.format.rows (C.content column.now)) }
-{
-    column.len()
-}
-
-// Copies the rows of a view behind those of a container, through the bounds.
-fn copy_all<V: Len + Copy, C: ExtendFrom<V>>(column: &mut C, view: V) -> Result<(), GrowError>
-    requires sound { IsSound C.format (C.content column.old) }
-    requires view_sound { IsSound V.format (V.content view) }
-    ensures { IsSound C.format (C.content column.new) }
-{
-    let n = view.len();
-    match column.extend_from_self(view, 0..n) {
-        Ok(()) => Ok(()),
-        Err(error) => Err(error),
-    }
-}
-
 // Is a view well formed, through the bound?
 fn checked<V: Check>(view: &V) -> Result<(), StoreFault>
     requires { IsTrue (representable V.format) }
@@ -61,17 +39,6 @@ fn checked<V: Check>(view: &V) -> Result<(), StoreFault>
     match view.check() {
         Ok(()) => Ok(()),
         Err(fault) => Err(fault),
-    }
-}
-
-// Row `index`, None past the end, through the bound
-fn row_of<V: Index + Len>(view: &V, index: usize) -> Option<V::Ref>
-    requires { IsSound V.format (V.content view.now) }
-{
-    if index < view.len() {
-        Some(view.get(index))
-    } else {
-        None
     }
 }
 
@@ -84,9 +51,9 @@ fn sizes_are_rows(rt: HostRuntime) -> Result<(), Fail> {
     assert!(rt; Push::extend(&mut column, [4usize, 5].iter().copied()).is_ok());
     assert_eq!(rt; count(&column), 5);
     assert_eq!(rt; column.values.as_slice(), [1, 2, 3, 4, 5].as_slice());
-    assert_eq!(rt; row_of(&column, 3), Some(4));
-    assert_eq!(rt; row_of(&column.borrow(), 4), Some(5));
-    assert_eq!(rt; row_of(&&column, 2), Some(3));
+    assert_eq!(rt; row_at(&column, 3), Some(4));
+    assert_eq!(rt; row_at(&column.borrow(), 4), Some(5));
+    assert_eq!(rt; row_at(&&column, 2), Some(3));
     assert!(rt; column.borrow().check().is_ok());
     let mut copy = Sizes::with_capacity_for(rt.alloc(), [column.borrow()].iter().copied())?;
     assert!(rt; copy_all(&mut copy, column.borrow()).is_ok());
@@ -116,8 +83,8 @@ fn differences_are_rows(rt: HostRuntime) -> Result<(), Fail> {
     assert!(rt; column.push(-1isize).is_ok());
     assert!(rt; column.push(&isize::MIN).is_ok());
     assert_eq!(rt; column.values.as_slice(), [-1, i64::MIN].as_slice());
-    assert_eq!(rt; row_of(&column.borrow(), 0), Some(-1));
-    assert_eq!(rt; row_of(&column.borrow(), 1), Some(isize::MIN));
+    assert_eq!(rt; row_at(&column.borrow(), 0), Some(-1));
+    assert_eq!(rt; row_at(&column.borrow(), 1), Some(isize::MIN));
     Ok(())
 }
 
@@ -128,15 +95,15 @@ fn large_numbers_are_rows(rt: HostRuntime) -> Result<(), Fail> {
     assert!(rt; column.push(&u128::MAX).is_ok());
     let one = [1, 0, 0, 0, 0, 0, 0, 0, 0, 0, 0, 0, 0, 0, 0, 0];
     assert_eq!(rt; column.values.as_slice(), [one, [255; 16]].as_slice());
-    assert_eq!(rt; row_of(&column.borrow(), 0), Some(1));
-    assert_eq!(rt; row_of(&column.borrow(), 1), Some(u128::MAX));
+    assert_eq!(rt; row_at(&column.borrow(), 0), Some(1));
+    assert_eq!(rt; row_at(&column.borrow(), 1), Some(u128::MAX));
     let mut signed = LargeSigned::empty(rt.alloc());
     assert!(rt; signed.push(-1i128).is_ok());
     assert!(rt; signed.push(&i128::MIN).is_ok());
     let least = [0, 0, 0, 0, 0, 0, 0, 0, 0, 0, 0, 0, 0, 0, 0, 128];
     assert_eq!(rt; signed.values.as_slice(), [[255; 16], least].as_slice());
-    assert_eq!(rt; row_of(&signed.borrow(), 0), Some(-1));
-    assert_eq!(rt; row_of(&signed.borrow(), 1), Some(i128::MIN));
+    assert_eq!(rt; row_at(&signed.borrow(), 0), Some(-1));
+    assert_eq!(rt; row_at(&signed.borrow(), 1), Some(i128::MIN));
     Ok(())
 }
 
@@ -146,8 +113,8 @@ fn characters_are_rows(rt: HostRuntime) -> Result<(), Fail> {
     assert!(rt; column.push('a').is_ok());
     assert!(rt; column.push(&'\u{10FFFF}').is_ok());
     assert_eq!(rt; column.values.as_slice(), [97, 0x10FFFF].as_slice());
-    assert_eq!(rt; row_of(&column.borrow(), 0), Some('a'));
-    assert_eq!(rt; row_of(&column.borrow(), 1), Some('\u{10FFFF}'));
+    assert_eq!(rt; row_at(&column.borrow(), 0), Some('a'));
+    assert_eq!(rt; row_at(&column.borrow(), 1), Some('\u{10FFFF}'));
     assert_eq!(rt; checked(&column.borrow()), Ok(()));
     for (codes, wanted) in [
         ([0xD7FF, 0xE000], Ok(())),
@@ -183,23 +150,33 @@ fn durations_are_rows(rt: HostRuntime) -> Result<(), Fail> {
         [42, 999_999_999, 0, 5].as_slice()
     );
     assert_eq!(rt;
-        row_of(&column.borrow(), 1),
+        row_at(&column.borrow(), 1),
         Some(Duration::new(1, 999_999_999))
     );
-    assert_eq!(rt; row_of(&&column, 0), Some(Duration::new(17, 42)));
+    assert_eq!(rt; row_at(&&column, 0), Some(Duration::new(17, 42)));
     assert!(rt; column.borrow().check().is_ok());
+    Ok(())
+}
+
+#[test]
+fn durations_are_copied_and_cut(rt: HostRuntime) -> Result<(), Fail> {
+    let mut column = Times::empty(rt.alloc());
+    column.push(Duration::new(17, 42))?;
+    column.push(Duration::new(1, 999_999_999))?;
     let mut copy = Times::with_capacity_for(rt.alloc(), [column.borrow()].iter().copied())?;
     assert!(rt; copy_all(&mut copy, column.borrow()).is_ok());
     assert!(rt; copy == column);
-    assert!(rt; copy.extend_from_self(column.borrow(), 1..3).is_ok());
-    assert_eq!(rt;
-        copy.seconds.as_slice(),
-        [17, 1, 0, u64::MAX, 1, 0].as_slice()
-    );
+    assert!(rt; copy.extend_from_self(column.borrow(), 1..2).is_ok());
+    assert_eq!(rt; copy.seconds.as_slice(), [17, 1, 1].as_slice());
     copy.truncate(1);
     assert_eq!(rt; copy.nanoseconds.as_slice(), [42].as_slice());
     copy.clear();
     assert!(rt; copy.is_empty());
+    Ok(())
+}
+
+#[test]
+fn parts_of_durations_are_judged(rt: HostRuntime) -> Result<(), Fail> {
     for (seconds, nanoseconds, wanted) in [
         (
             [1, 2],
@@ -233,8 +210,8 @@ fn units_are_counted(rt: HostRuntime) -> Result<(), Fail> {
     assert!(rt; column.push_ref(&()).is_ok());
     assert_eq!(rt; count(&column), 3);
     assert_eq!(rt; column.count.count(), 3);
-    assert_eq!(rt; row_of(&column, 2), Some(()));
-    assert_eq!(rt; row_of(&&column, 2), Some(&()));
+    assert_eq!(rt; row_at(&column, 2), Some(()));
+    assert_eq!(rt; row_at(&&column, 2), Some(&()));
     assert!(rt; column.borrow().check().is_ok());
     assert_eq!(rt; column.borrow().len(), 3);
     let mut copy = Units::empty(rt.alloc());
@@ -245,6 +222,13 @@ fn units_are_counted(rt: HostRuntime) -> Result<(), Fail> {
     assert_eq!(rt; copy.count, 4);
     copy.clear();
     assert!(rt; copy.is_empty());
+    Ok(())
+}
+
+#[test]
+fn units_are_held_up_to_the_greatest_number(rt: HostRuntime) -> Result<(), Fail> {
+    let mut column = Units::empty(rt.alloc());
+    column.push(())?;
     let mut full = Empties {
         count: u64::MAX - 1,
         empty: (),
@@ -257,6 +241,11 @@ fn units_are_counted(rt: HostRuntime) -> Result<(), Fail> {
     );
     assert_eq!(rt; full.extend_from_self(column.borrow(), 1..1), Ok(()));
     assert_eq!(rt; full.count, u64::MAX);
+    Ok(())
+}
+
+#[test]
+fn a_number_of_units_is_one_word(rt: HostRuntime) -> Result<(), Fail> {
     let two: Empties<View<'_, u64>> = Empties {
         count: View::from_slice([1, 2].as_slice()),
         empty: (),

@@ -1,12 +1,14 @@
 // Stashes: a column, opened bytes and aligned bytes, what each call makes of them, and runs of commands.
 ghost use Rattle.columnar_core.specs.Format.{IsSound};
 
-use super::{bytes_of, has, opened, refused, row_at, variant, writes};
 use columnar::bytes::stash::{AlignedBytes, ByteStore, Command, Refusal, Reply, Stash, run};
 use columnar::common::View;
 use columnar::{Borrow, Check, Clear, Len, Options, Push, PushRef, Stored, Vecs};
 use std::rc::RcSlice;
 use std::test::Fail;
+use test_support::columns::row_at;
+use test_support::stashes::{has, opened, variant, writes};
+use test_support::stores::bytes_of;
 
 type Numbers = Stash<Vec<u64>, Vec<u8>>;
 

@@ -1,4 +1,4 @@
 //! Trees.
 
 pub use columnar_nested::tree::Tree;
-pub use columnar_nested::trees::{Trees, TreesRef};
+pub use columnar_nested::trees::{NodeBounds, Trees, TreesRef};

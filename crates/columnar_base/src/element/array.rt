@@ -1,19 +1,20 @@
-//! Arrays of numbers as elements: one number's bytes behind the other's.
+//! Arrays of elements as elements: one element's bytes behind the other's.
 ghost use Rattle.std.specs.Prelude.{ℕ, ◌≡◌};
 ghost use Rattle.columnar_base.specs.Arrays.{array_bytes, array_row, array_row_of, array_size};
 ghost use Rattle.columnar_base.specs.ArrayLaws.{array_element};
 
-use super::{Element, Primitive};
+use super::Element;
 use crate::traits::Item;
 use crate::view::element_in;
 
-impl<T: Primitive, const N: usize> Item for [T; N] {
+/// As a row, it is the list of its elements.
+impl<T: Element, const N: usize> Item for [T; N] {
     ghost meaning = { array_row N T.size T.le_bytes T.row_of };
 
     ghost valid = { λ x. Unit {0} };
 }
 
-impl<T: Primitive, const N: usize> Element for [T; N] {
+impl<T: Element, const N: usize> Element for [T; N] {
     ghost size = { array_size T.size N };
 
     ghost align = { T.align };

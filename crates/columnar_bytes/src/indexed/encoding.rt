@@ -6,7 +6,7 @@ ghost use Rattle.columnar_core.specs.Words.{table_words, slice_words, words};
 ghost use Rattle.columnar_core.specs.Bytes.{le_bytes};
 ghost use Rattle.columnar_core.specs.Slices.{bytes_in};
 
-use super::lengths::{length_in_words, words_in};
+use super::lengths::{length_in_words, words_for};
 use super::slices::{byte_slice, slice_count};
 use columnar_core::byte_slice::ByteSlice;
 use columnar_core::bytes::AsBytes;
@@ -93,7 +93,7 @@ fn append_each(store: &mut Vec<u64>, slice: ByteSlice<'_>)
     ensures items { store.new.items ≡ store.old.items ++ slice_words (bytes_in slice.entry) }
     ensures capacity { vec_capacity store.old ≤ vec_capacity store.new }
 {
-    for index in 0..words_in(slice.len()) {
+    for index in 0..words_for(slice.len()) {
         push_word(store, slice.word(index));
     }
 }

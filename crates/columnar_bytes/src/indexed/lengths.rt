@@ -10,7 +10,7 @@ use columnar_core::bytes::AsBytes;
 const MAX_WORDS: usize = usize::MAX / 8;
 
 /// How many words hold `len` bytes.
-pub fn words_in(len: usize) -> usize
+pub fn words_for(len: usize) -> usize
     ensures { result ≡ (len + 7) / 8 }
 {
     if len % 8 == 0 { len / 8 } else { len / 8 + 1 }
@@ -28,7 +28,7 @@ pub fn length_in_words<'a, S: AsBytes<'a>>(item: &S) -> Option<usize>
     }
     let mut total = count + 1;
     for i in 0..count {
-        let more = words_in(byte_slice(item, i).len());
+        let more = words_for(byte_slice(item, i).len());
         if more > MAX_WORDS - total {
             return None;
         }

@@ -4,7 +4,7 @@ ghost use Rattle.columnar_core.specs.Frame.{IsLegal, IsStore, framed_slices};
 ghost use Rattle.columnar_bytes.specs.Faults.{IsFirstBroken};
 
 use columnar_core::fault::StoreFault;
-use columnar_core::store::{round_up, word_at};
+use columnar_core::store::{round_up, word_in_bytes};
 use columnar_core::tally::Tally;
 
 /// Tests that the bytes are whole words that frame `expected` slices. A fault names the first rule that is broken, and
@@ -39,7 +39,7 @@ pub fn validate_structure_tallied<L>(
     if len == 0 {
         return Err(StoreFault::Empty(0));
     }
-    let first = word_at(bytes, 0) as usize;
+    let first = word_in_bytes(bytes, 0) as usize;
     if first < 8 || first % 8 != 0 {
         return Err(StoreFault::FirstOffset(0));
     }
@@ -52,7 +52,7 @@ pub fn validate_structure_tallied<L>(
     let mut start = first;
     for i in 0..expected {
         tally.tick();
-        let end = word_at(bytes, i + 1) as usize;
+        let end = word_in_bytes(bytes, i + 1) as usize;
         if end > len {
             return Err(StoreFault::PastEnd(i));
         }

@@ -1,39 +1,20 @@
 //! What can be pushed into a column of lists, each as one list.
-ghost use Rattle.std.specs.Prelude.{◌≡◌, ◌≤◌, ◌∷◌, [], List, length, map, All, OnOk, IfErr};
+ghost use Rattle.std.specs.Prelude.{◌∷◌, [], List, map, All, OnOk, IfErr};
 ghost use Rattle.std.specs.Iterator.{IsFinite, HoldsAlong, Drains, Yields};
-ghost use Rattle.columnar_base.specs.Row.{list, number};
+ghost use Rattle.columnar_base.specs.Row.{list};
 ghost use Rattle.columnar_base.specs.Format.{IsSound};
-ghost use Rattle.columnar_base.specs.Change.{Took, Refused, WasCut};
+ghost use Rattle.columnar_base.specs.Change.{Took, Refused};
 ghost use Rattle.columnar_lists.specs.Lists.{lists_format};
 
 use super::Vecs;
+use crate::parts::{end_list, push_list};
+use columnar_base::element::Element;
 use columnar_base::fault::GrowError;
 use columnar_base::slice::Slice;
 use columnar_base::traits::{Column, Index, Item, Push, PushInto, PushRef};
 use columnar_core::container::{ExtendFrom, Truncate};
 use columnar_core::offsets::Offsets;
-
-// Ends a list whose items stand behind the first `before` values; where the bounds refuse its end, these are taken back.
-fn end_list<TC: Truncate, BC: Push<u64>>(
-    bounds: &mut BC,
-    values: &mut TC,
-    before: usize,
-) -> Result<(), GrowError>
-    requires bounds { IsSound BC.format (BC.content bounds.old) }
-    requires values { IsSound TC.format (TC.content values.old) }
-    requires in_range { before ≤ length (TC.format.rows (TC.content values.old)) }
-    ensures ok { OnOk result (Took BC.format (BC.content bounds.old) (BC.content bounds.new) (number (length (TC.format.rows (TC.content values.old))) ∷ []) × (TC.content values.new ≡ TC.content values.old)) }
-    ensures err { IfErr result (λ e. Refused BC.format (BC.content bounds.old) (BC.content bounds.new) (number (length (TC.format.rows (TC.content values.old))) ∷ []) e × WasCut TC.format (TC.content values.old) (TC.content values.new) before) }
-{
-    let end = values.len();
-    match bounds.push(end as u64) {
-        Ok(()) => Ok(()),
-        Err(error) => {
-            values.truncate(before);
-            Err(error)
-        }
-    }
-}
+use smallvec::SmallVec;
 
 // Takes rows alike to all that comes of `items`, or none of them.
 fn take_items<I: Iterator<Item: Item> + Drop, TC: Truncate + Push<I::Item>>(
@@ -58,21 +39,6 @@ fn take_items<I: Iterator<Item: Item> + Drop, TC: Truncate + Push<I::Item>>(
 }
 
 impl<TC: Column, BC: Column> Vecs<TC, BC> {
-    // Adds a list of rows alike to the items, or is refused, as a push.
-    fn push_items<T: Item>(&mut self, items: &[T]) -> Result<(), GrowError>
-    where
-        TC: Truncate + PushRef<T>,
-        BC: Offsets + Push<u64>,
-        requires sound { IsSound (lists_format BC.format TC.format) (⟦<Vecs<TC, BC> as Column>⟧.content self.old) }
-        requires valid { All T.valid items.now }
-        ensures ok { OnOk result (Took (lists_format BC.format TC.format) (⟦<Vecs<TC, BC> as Column>⟧.content self.old) (⟦<Vecs<TC, BC> as Column>⟧.content self.new) (list (map T.meaning items.now) ∷ [])) }
-        ensures err { IfErr result (λ e. Refused (lists_format BC.format TC.format) (⟦<Vecs<TC, BC> as Column>⟧.content self.old) (⟦<Vecs<TC, BC> as Column>⟧.content self.new) (list (map T.meaning items.now) ∷ []) e) }
-    {
-        let before = self.values.len();
-        self.values.push_slice(items)?;
-        end_list(&mut self.bounds, &mut self.values, before)
-    }
-
     /// Adds one list, of rows alike to all that comes of `items`, or is refused and leaves the rows and the lengths of
     /// all parts. Asks that the items come to an end.
     pub fn push_iter<I: Iterator<Item: Item> + Drop>(&mut self, items: I) -> Result<(), GrowError>
@@ -92,7 +58,7 @@ impl<TC: Column, BC: Column> Vecs<TC, BC> {
     }
 }
 
-/// A column of lists takes what can be pushed into it: ranges of a view, slices and vectors.
+/// A column of lists takes what can be pushed into it: ranges of a view, slices, arrays and vectors.
 impl<P: PushInto<Vecs<TC, BC>>, TC: Column, BC: Column> Push<P> for Vecs<TC, BC> {
     fn push(&mut self, item: P) -> Result<(), GrowError> {
         item.push_into(self)
@@ -115,7 +81,7 @@ impl<V: Index + Copy, TC: ExtendFrom<V>, BC: Offsets + Push<u64>> PushInto<Vecs<
 impl<'x, T: Item, TC: Truncate + PushRef<T>, BC: Offsets + Push<u64>> PushInto<Vecs<TC, BC>>
     for &'x [T] {
     fn push_into(self, column: &mut Vecs<TC, BC>) -> Result<(), GrowError> {
-        column.push_items(self)
+        push_list(&mut column.bounds, &mut column.values, self)
     }
 }
 
@@ -123,7 +89,7 @@ impl<'x, T: Item, TC: Truncate + PushRef<T>, BC: Offsets + Push<u64>> PushInto<V
 impl<'x, T: Item, TC: Truncate + PushRef<T>, BC: Offsets + Push<u64>> PushInto<Vecs<TC, BC>>
     for &'x Vec<T> {
     fn push_into(self, column: &mut Vecs<TC, BC>) -> Result<(), GrowError> {
-        column.push_items(self.as_slice())
+        push_list(&mut column.bounds, &mut column.values, self.as_slice())
     }
 }
 
@@ -131,20 +97,71 @@ impl<'x, T: Item, TC: Truncate + PushRef<T>, BC: Offsets + Push<u64>> PushInto<V
 impl<T: Item + Drop, TC: Truncate + PushRef<T>, BC: Offsets + Push<u64>> PushInto<Vecs<TC, BC>>
     for Vec<T> {
     fn push_into(self, column: &mut Vecs<TC, BC>) -> Result<(), GrowError> {
-        column.push_items(self.as_slice())
+        push_list(&mut column.bounds, &mut column.values, self.as_slice())
+    }
+}
+
+/// The elements are pushed by reference.
+impl<'x, T: Element, const N: usize, TC: Truncate + PushRef<T>, BC: Offsets + Push<u64>> PushInto<
+    Vecs<TC, BC>,
+> for &'x [T; N] {
+    fn push_into(self, column: &mut Vecs<TC, BC>) -> Result<(), GrowError> {
+        column.push_ref(self)
+    }
+}
+
+/// The elements are pushed by reference.
+impl<T: Element, const N: usize, TC: Truncate + PushRef<T>, BC: Offsets + Push<u64>> PushInto<
+    Vecs<TC, BC>,
+> for [T; N] {
+    fn push_into(self, column: &mut Vecs<TC, BC>) -> Result<(), GrowError> {
+        column.push_ref(&self)
+    }
+}
+
+/// The items are pushed by reference.
+impl<'x, T: Item, const N: usize, TC: Truncate + PushRef<T>, BC: Offsets + Push<u64>> PushInto<
+    Vecs<TC, BC>,
+> for &'x SmallVec<T, N> {
+    fn push_into(self, column: &mut Vecs<TC, BC>) -> Result<(), GrowError> {
+        self.as_slice().push_into(column)
+    }
+}
+
+/// The items are pushed by reference, and then let go.
+impl<T: Item + Drop, const N: usize, TC: Truncate + PushRef<T>, BC: Offsets + Push<u64>> PushInto<
+    Vecs<TC, BC>,
+> for SmallVec<T, N> {
+    fn push_into(self, column: &mut Vecs<TC, BC>) -> Result<(), GrowError> {
+        (&self).push_into(column)
     }
 }
 
 impl<'x, T: Item, TC: Truncate + PushRef<T>, BC: Offsets + Push<u64>> PushRef<&'x [T]>
     for Vecs<TC, BC> {
     fn push_ref(&mut self, item: &&'x [T]) -> Result<(), GrowError> {
-        self.push_items(*item)
+        push_list(&mut self.bounds, &mut self.values, *item)
     }
 }
 
 impl<T: Item, TC: Truncate + PushRef<T>, BC: Offsets + Push<u64>> PushRef<Vec<T>> for Vecs<TC, BC> {
     fn push_ref(&mut self, item: &Vec<T>) -> Result<(), GrowError> {
-        self.push_items(item.as_slice())
+        push_list(&mut self.bounds, &mut self.values, item.as_slice())
+    }
+}
+
+impl<T: Element, const N: usize, TC: Truncate + PushRef<T>, BC: Offsets + Push<u64>> PushRef<[T; N]>
+    for Vecs<TC, BC> {
+    fn push_ref(&mut self, item: &[T; N]) -> Result<(), GrowError> {
+        push_list(&mut self.bounds, &mut self.values, item.as_slice())
+    }
+}
+
+impl<T: Item, const N: usize, TC: Truncate + PushRef<T>, BC: Offsets + Push<u64>> PushRef<
+    SmallVec<T, N>,
+> for Vecs<TC, BC> {
+    fn push_ref(&mut self, item: &SmallVec<T, N>) -> Result<(), GrowError> {
+        push_list(&mut self.bounds, &mut self.values, item.as_slice())
     }
 }
 

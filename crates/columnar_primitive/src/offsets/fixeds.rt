@@ -19,7 +19,7 @@ use columnar_core::container::{
 };
 use columnar_core::fault::{GrowError, StoreFault};
 use columnar_core::offsets::{Offsets, StoredOffsets};
-use columnar_core::store::{DecodedStore, word_at};
+use columnar_core::store::{DecodedStore, word_in_bytes};
 use columnar_core::tally::Tally;
 use columnar_core::traits::{Clear, Column, Index, Len, Push, PushRef};
 use columnar_core::view::View;
@@ -269,7 +269,7 @@ impl<const K: u64, CC: Words> Stored for Fixeds<K, CC> {
     }
 
     fn rows_in(store: &DecodedStore<'_>, offset: usize) -> usize {
-        word_at(store.get(offset), 0) as usize
+        word_in_bytes(store.get(offset), 0) as usize
     }
 }
 
@@ -304,7 +304,7 @@ impl<const K: u64> ContainerBytes for Fixeds<K, u64> {
         let bytes = store.get(offset);
         ByteSlice::of_bytes(bytes).holds_bytes();
         Ok(Fixeds {
-            count: word_at(bytes, 0),
+            count: word_in_bytes(bytes, 0),
         })
     }
 }
@@ -330,7 +330,7 @@ impl<const K: u64, CC: Words> StoredOffsets for Fixeds<K, CC> {
         end: u64,
         tally: &mut Tally<L>,
     ) -> bool {
-        K * word_at(store.get(offset), 0) == end
+        K * word_in_bytes(store.get(offset), 0) == end
     }
 }
 

@@ -16,7 +16,7 @@ use columnar_core::container::{
 };
 use columnar_core::fault::{GrowError, StoreFault};
 use columnar_core::offsets::{Offsets, StoredOffsets};
-use columnar_core::store::{DecodedStore, word_at};
+use columnar_core::store::{DecodedStore, word_in_bytes};
 use columnar_core::tally::Tally;
 use columnar_core::traits::{Clear, Column, Index, Len, Push, PushRef};
 use columnar_core::view::View;
@@ -430,7 +430,7 @@ impl<BC: Words, HC: Words> Stored for Strides<BC, HC> {
     }
 
     fn rows_in(store: &DecodedStore<'_>, offset: usize) -> usize {
-        word_at(store.get(offset), 1) as usize + store.get(offset + 1).len() / 8
+        word_in_bytes(store.get(offset), 1) as usize + store.get(offset + 1).len() / 8
     }
 }
 
@@ -473,7 +473,7 @@ impl ContainerBytes for Strides<Vec<u64>, [u64; 2]> {
     fn load(alloc: Global, store: &DecodedStore<'_>, offset: usize) -> Result<Self, GrowError> {
         let bytes = store.get(offset);
         ByteSlice::of_bytes(bytes).holds_bytes();
-        let head = [word_at(bytes, 0), word_at(bytes, 1)];
+        let head = [word_in_bytes(bytes, 0), word_in_bytes(bytes, 1)];
         let bounds = Vec::<u64>::load(alloc, store, offset + 1)?;
         Ok(Strides { head, bounds })
     }
@@ -520,8 +520,8 @@ impl<BC: Words, HC: Words> StoredOffsets for Strides<BC, HC> {
         tally: &mut Tally<L>,
     ) -> bool {
         let head = store.get(offset);
-        let stride = word_at(head, 0);
-        let last = stride * word_at(head, 1);
+        let stride = word_in_bytes(head, 0);
+        let last = stride * word_in_bytes(head, 1);
         rise(
             &View::<u64>::from_le_bytes(store.get(offset + 1)),
             last,

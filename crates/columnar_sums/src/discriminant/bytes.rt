@@ -1,6 +1,6 @@
 //! Columns of variants in slices of bytes.
 ghost use Rattle.std.specs.Prelude.{◌≡◌, ◌+◌, ◌-◌, ◌*◌, ◌^◌, ◌<◌, ◌≤◌, ◌&&◌, [], length, refl, slice_index, slice_set};
-ghost use Rattle.columnar_core.specs.Row.{numbers_eq};
+ghost use Rattle.columnar_sums.specs.Agree.{numbers_eq};
 ghost use Rattle.columnar_core.specs.Format.{slice, both, first, moved};
 ghost use Rattle.columnar_core.specs.Faults.{verdict};
 ghost use Rattle.columnar_core.specs.WordViews.{view_bytes, view_words};
@@ -33,15 +33,12 @@ fn count_of(counts: &[u64; 256], variant: u8) -> u64
     counts[variant as usize]
 }
 
-// How many rows of a variant were counted; now one more was.
-fn count_one(counts: &mut [u64; 256], variant: u8) -> u64
-    requires { slice_index counts.old variant < 2 ^ 64 - 1 }
-    ensures before { result ≡ slice_index counts.old variant }
-    ensures more { counts.new ≡ slice_set counts.old variant (slice_index counts.old variant + 1) }
+// Of a variant, `before` rows were counted, and now one more was.
+fn count_one(counts: &mut [u64; 256], variant: u8, before: u64)
+    requires { before < 2 ^ 64 - 1 }
+    ensures { counts.new ≡ slice_set counts.old variant (before + 1) }
 {
-    let before = counts[variant as usize];
     counts[variant as usize] = before + 1;
-    before
 }
 
 // Do one more than a variant and a number of rows stand for all rows?
@@ -62,9 +59,13 @@ fn are_numbered<L>(variants: &[u8], offsets: View<'_, u64>, tally: &mut Tally<L>
     let rows = word_count(offsets);
     for at in 0..rows {
         tally.tick();
-        if word_at(offsets, at) != count_one(&mut counts, variant_at(variants, at)) {
+        let variant = variant_at(variants, at);
+        let offset = word_at(offsets, at);
+        if offset != count_of(&counts, variant) {
             return false;
         }
+        // The count is set by the word that was read, so that no row waits for the count of the one before it.
+        count_one(&mut counts, variant, offset);
     }
     count_of(&counts, variant_at(variants, 0)) < rows as u64
 }

@@ -1,11 +1,12 @@
 //! Columns of variants that grow and are cut.
-ghost use Rattle.std.specs.Prelude.{◌≡◌, ℕ, ◌+◌, ◌-◌, ◌^◌, ◌<◌, ◌≤◌, [], ◌∷◌, ◌++◌, length, take, replicate, Err, Some, IsOk, IsFalse, OnOk, OnErr, IfErr, refl};
+ghost use Rattle.std.specs.Prelude.{◌≡◌, ℕ, ◌+◌, ◌-◌, ◌^◌, ◌<◌, ◌≤◌, [], ◌∷◌, ◌++◌, length, take, replicate, Err, Some, IfSome, IsOk, OnOk, OnErr, IfErr, refl};
 ghost use Rattle.std.specs.Int.{w8};
 ghost use Rattle.std.specs.List.{range_with_len};
 ghost use Rattle.std.specs.Iterator.{IsFinite};
 ghost use Rattle.columnar_core.specs.Row.{tuple};
 ghost use Rattle.columnar_core.specs.Format.{IsSound};
 ghost use Rattle.columnar_core.specs.Elements.{word_row};
+ghost use Rattle.columnar_core.specs.WordViews.{words_in, le_bytes};
 ghost use Rattle.columnar_base.specs.Numbers.{unsigned_row};
 ghost use Rattle.columnar_core.specs.Change.{Refused, Stayed, Took, WasCut};
 ghost use Rattle.columnar_sums.specs.Discriminants.{discriminant_format, owned_forms, variants_of, times, sole};
@@ -92,6 +93,8 @@ impl Discriminant<Vec<u8>, Vec<u64>> {
         ensures ok { OnOk result (Took discriminant_format (owned_forms self.old.variant.items self.old.offset.items) (owned_forms self.new.variant.items self.new.offset.items) (tuple (unsigned_row w8 variant) (word_row offset) ∷ [])) }
         ensures err { IfErr result (λ e. Refused discriminant_format (owned_forms self.old.variant.items self.old.offset.items) (owned_forms self.new.variant.items self.new.offset.items) (tuple (unsigned_row w8 variant) (word_row offset) ∷ []) e) }
         ensures variants { OnOk result (variants_of (owned_forms self.new.variant.items self.new.offset.items) ≡ variants_of (owned_forms self.old.variant.items self.old.offset.items) ++ variant ∷ []) }
+        ensures variants_stay { OnErr result (self.new.variant.items ≡ self.old.variant.items) }
+        ensures offsets_stay { OnErr result (self.new.offset.items ≡ self.old.offset.items) }
         ensures full { length (variants_of (owned_forms self.old.variant.items self.old.offset.items)) ≡ 2 ^ 64 - 1 → result ≡ Err GrowError.Length }
         ensures no_memory { length (variants_of (owned_forms self.old.variant.items self.old.offset.items)) < 2 ^ 64 - 1 → sole (variants_of (owned_forms self.old.variant.items self.old.offset.items)) ≡ Some variant → IsOk result }
     {
@@ -138,11 +141,8 @@ impl Discriminant<Vec<u8>, Vec<u64>> {
         }
     }
 
-    /// The room, and what the slices of the view take besides.
-    pub fn add_room(
-        room: (usize, usize),
-        view: Discriminant<&[u8], View<'_, u64>>,
-    ) -> (usize, usize) {
+    // The room, and what the slices of the view take besides
+    fn add_room(room: (usize, usize), view: Discriminant<&[u8], View<'_, u64>>) -> (usize, usize) {
         (
             room.0.saturating_add(view.variant.len()),
             room.1.saturating_add(view.offset.len()),
@@ -158,6 +158,8 @@ impl Discriminant<Vec<u8>, Vec<u64>> {
         requires callable { I.can_next views }
         requires finite { IsFinite (I.remaining views) }
         ensures stayed { Stayed discriminant_format (owned_forms self.old.variant.items self.old.offset.items) (owned_forms self.new.variant.items self.new.offset.items) }
+        ensures variants_stay { self.new.variant.items ≡ self.old.variant.items }
+        ensures offsets_stay { self.new.offset.items ≡ self.old.offset.items }
         ensures memory { IfErr result (λ e. e ≡ GrowError.Memory) }
     {
         let mut room = (0, 0);
@@ -169,7 +171,14 @@ impl Discriminant<Vec<u8>, Vec<u64>> {
 }
 
 impl Clear for Discriminant<Vec<u8>, Vec<u64>> {
-    fn clear(&mut self) {
+    /// Takes all rows away, and both slices are empty. Needs no memory.
+    fn clear(&mut self)
+        ensures sound { IsSound discriminant_format (owned_forms self.new.variant.items self.new.offset.items) }
+        ensures rows { discriminant_format.rows (owned_forms self.new.variant.items self.new.offset.items) ≡ [] }
+        ensures none { variants_of (owned_forms self.new.variant.items self.new.offset.items) ≡ [] }
+        ensures variants { self.new.variant.items ≡ [] }
+        ensures offsets { self.new.offset.items ≡ [] }
+    {
         self.variant.clear();
         self.offset.clear();
     }
@@ -185,10 +194,11 @@ impl Truncate for Discriminant<Vec<u8>, Vec<u64>> {
         requires in_range { n ≤ length (discriminant_format.rows (owned_forms self.old.variant.items self.old.offset.items)) }
         ensures cut { WasCut discriminant_format (owned_forms self.old.variant.items self.old.offset.items) (owned_forms self.new.variant.items self.new.offset.items) n }
         ensures variants { variants_of (owned_forms self.new.variant.items self.new.offset.items) ≡ take n (variants_of (owned_forms self.old.variant.items self.old.offset.items)) }
+        ensures none { n ≡ 0 → (self.new.variant.items ≡ []) × (self.new.offset.items ≡ []) }
+        ensures one { IfSome (sole (take n (variants_of (owned_forms self.old.variant.items self.old.offset.items)))) (λ v. (self.new.variant.items ≡ []) × (words_in (le_bytes self.new.offset.items) ≡ (v + 1) ∷ n ∷ [])) }
     {
         if n == 0 {
-            self.variant.clear();
-            self.offset.clear();
+            self.clear();
         } else if Vec::len(&self.variant) == 0 {
             self.offset[1] = n as u64;
         } else if self.offset.word(n - 1) == n as u64 - 1 {
@@ -205,7 +215,14 @@ impl Truncate for Discriminant<Vec<u8>, Vec<u64>> {
 }
 
 impl Storage for Discriminant<Vec<u8>, Vec<u64>> {
-    fn empty(alloc: Global) -> Self {
+    /// A column without rows, whose slices are empty.
+    fn empty(alloc: Global) -> Self
+        ensures sound { IsSound discriminant_format (owned_forms result.variant.items result.offset.items) }
+        ensures rows { discriminant_format.rows (owned_forms result.variant.items result.offset.items) ≡ [] }
+        ensures none { variants_of (owned_forms result.variant.items result.offset.items) ≡ [] }
+        ensures variants { result.variant.items ≡ [] }
+        ensures offsets { result.offset.items ≡ [] }
+    {
         Discriminant {
             variant: Vec::new(alloc),
             offset: Vec::new(alloc),
@@ -226,7 +243,14 @@ impl Reserve for Discriminant<Vec<u8>, Vec<u64>> {
         (0, 0)
     }
 
-    fn reserve_room(&mut self, room: (usize, usize)) -> Result<(), GrowError> {
+    /// Makes room; the rows stay.
+    fn reserve_room(&mut self, room: (usize, usize)) -> Result<(), GrowError>
+        requires { IsSound discriminant_format (owned_forms self.old.variant.items self.old.offset.items) }
+        ensures stayed { Stayed discriminant_format (owned_forms self.old.variant.items self.old.offset.items) (owned_forms self.new.variant.items self.new.offset.items) }
+        ensures variants_stay { self.new.variant.items ≡ self.old.variant.items }
+        ensures offsets_stay { self.new.offset.items ≡ self.old.offset.items }
+        ensures memory { IfErr result (λ e. e ≡ GrowError.Memory) }
+    {
         self.variant.reserve(room.0)?;
         self.offset.reserve(room.1)?;
         Ok(())

@@ -87,6 +87,26 @@ impl Held {
         ensures no_memory { length (ranked_bits self.old) % 64 < 63 → IsOk result }
         ensures sound { IsSound ranks_format (owned_ranks self.new) }
     {
+        if word_at(self.values.tail.words(), 1) < 63 {
+            self.values.push_bit(bit)?;
+            return Ok(());
+        }
+        self.push_last(bit)
+    }
+
+    // As `push_bit`, of a bit that may fill a word; apart, so that the push of any other is a few instructions.
+    #[cold]
+    #[inline(never)]
+    fn push_last(&mut self, bit: bool) -> Result<(), GrowError>
+        requires { IsSound ranks_format (owned_ranks self.old) }
+        ensures ok { OnOk result (ranked_bits self.new ≡ ranked_bits self.old ++ bit ∷ []) }
+        ensures err { OnErr result (Stayed ranks_format (owned_ranks self.old) (owned_ranks self.new)) }
+        ensures length { result ≡ Err GrowError.Length → 2 ^ 64 ≤ length (ranked_bits self.old) + 1 }
+        ensures full { 2 ^ 64 ≤ length (ranked_bits self.old) + 1 → result ≡ Err GrowError.Length }
+        ensures kinds { IfErr result IsOfGrowth }
+        ensures no_memory { length (ranked_bits self.old) % 64 < 63 → IsOk result }
+        ensures sound { IsSound ranks_format (owned_ranks self.new) }
+    {
         if self.values.len() % 1024 < 1023 {
             self.values.push_bit(bit)?;
             return Ok(());

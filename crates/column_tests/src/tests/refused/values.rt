@@ -1,8 +1,5 @@
 // The same for the columns of values.
-use super::{
-    NUMBERS, NUMBERS_AND_ONE, Trial, calls_keep, copies_keep, is_lawful, opened, pushes_keep,
-    sizes_keep,
-};
+use super::{NUMBERS, NUMBERS_AND_ONE};
 use columnar::fault::GrowError;
 use columnar::primitive::offsets::{Fixeds, Strides};
 use columnar::primitive::{Bools, Chars, Durations, Empties, I128s, Isizes, U128s, Usizes};
@@ -10,6 +7,9 @@ use columnar::sums::rank_select::RankSelect;
 use columnar::{Borrow, Check, Options, Storage};
 use std::test::Fail;
 use std::time::Duration;
+use test_support::keeps::sizes_keep;
+use test_support::stashes::opened;
+use test_support::trials::{Trial, calls_keep, copies_keep, is_lawful, pushes_keep};
 
 type Sizes = Usizes;
 

@@ -10,7 +10,7 @@ push_word-requires c =
     let all = slice_words (bytes_in c.args.slice) in
     let here = c.loop-index.store.items in
     let rest : drop c.loop-index.index all ≡ (c.word.result ∷ []) ++ drop (c.loop-index.index + 1) all =
-    word_rest (bytes_in c.args.slice) c.loop-index.index c.word.result (omega (arith, c.words_in-index-end.ensures, c.len.ensures)) c.word.ensures in
+    word_rest (bytes_in c.args.slice) c.loop-index.index c.word.result (omega (arith, c.words_for-index-end.ensures, c.len.ensures)) c.word.ensures in
     let sizes = sent_length c.args.store.now.items here (drop c.loop-index.index all) all c.loop-index.invariant.sent in
     omega (arith, sizes, ap length rest, c.loop-index.invariant.capacity, c.requires, c.args.store.now.ok.0, c.loop-index.store.ok.0)
 
@@ -18,7 +18,7 @@ pub loop-index-preserved : goal.loop-index-preserved
 loop-index-preserved c = record {
   sent = sent_more (Some c.args.store.now.items) (Some c.loop-index.store.items) (Some c.push_word.new.store.items) _ (c.word.result ∷ []) _ _
       c.loop-index.invariant.sent
-      (word_rest (bytes_in c.args.slice) c.loop-index.index c.word.result (omega (arith, c.words_in-index-end.ensures, c.len.ensures)) c.word.ensures)
+      (word_rest (bytes_in c.args.slice) c.loop-index.index c.word.result (omega (arith, c.words_for-index-end.ensures, c.len.ensures)) c.word.ensures)
       c.push_word.ensures.items;
   capacity = omega arith;
 }
@@ -26,4 +26,4 @@ loop-index-preserved c = record {
 pub returns-clause-items : goal.returns-clause-items
 returns-clause-items c =
     sent_all (Some c.args.store.now.items) (Some c.loop-index.store.items) _ _ c.loop-index.invariant.sent
-    (words_out (bytes_in c.args.slice) c.loop-index.index (omega (arith, c.words_in-index-end.ensures, c.len.ensures)))
+    (words_out (bytes_in c.args.slice) c.loop-index.index (omega (arith, c.words_for-index-end.ensures, c.len.ensures)))

@@ -1,7 +1,7 @@
 use Rattle.std.proofs.Common.{Some, ◌∷◌, [], arith, ap, ◌∙◌, ◌≡◌, ◌++◌, ◌+◌, ◌<◌, ◌*◌, drop, length, get_or}
 use Rattle.columnar_core.specs.Format.{slices_of}
 use Rattle.columnar_core.specs.Bytes.{rounded}
-use Rattle.columnar_core.specs.Words.{ends, table_words}
+use Rattle.columnar_core.specs.Words.{slice_ends, table_words}
 use Rattle.columnar_core.specs.WordLaws.{length-words}
 use Rattle.columnar_core.specs.SentLaws.{sent_more, sent_none, sent_length}
 use Rattle.columnar_bytes.specs.PlanLaws.{words_rest, ends_step, table_step}
@@ -42,9 +42,9 @@ push_word-requires-in-loop-i g c =
     let slices = slices_of (g.S.Column.content c.args.item.now) in
     let size : c.len.result ≡ length (get_or slices c.loop-i.i []) = c.len.ensures ∙ ap length c.byte_slice.ensures in
     let end = c.loop-i.start + c.len.result in
-    let rest : ends c.loop-i.start (drop c.loop-i.i slices) ≡ (end ∷ []) ++ ends (rounded end) (drop (c.loop-i.i + 1) slices) =
+    let rest : slice_ends c.loop-i.start (drop c.loop-i.i slices) ≡ (end ∷ []) ++ slice_ends (rounded end) (drop (c.loop-i.i + 1) slices) =
     ends_step c.loop-i.start slices c.loop-i.i end (rounded end) (omega (arith, c.slice_count-count.ensures)) (ap (λ n. c.loop-i.start + n) size) (omega arith) in
-    let sizes = sent_length c.args.store.now.items c.loop-i.store.items (ends c.loop-i.start (drop c.loop-i.i slices)) (table_words slices) c.loop-i.invariant.sent in
+    let sizes = sent_length c.args.store.now.items c.loop-i.store.items (slice_ends c.loop-i.start (drop c.loop-i.i slices)) (table_words slices) c.loop-i.invariant.sent in
     omega (arith, sizes, ap length rest, c.loop-i.invariant.capacity, c.requires.room, c.args.store.now.ok.0, c.loop-i.store.ok.0)
 
 pub loop-i-preserved : goal.loop-i-preserved

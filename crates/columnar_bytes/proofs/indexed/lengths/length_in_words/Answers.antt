@@ -18,14 +18,14 @@ pub returns-then-more-total : goal.returns-then-more-total
 returns-then-more-total g c =
     let slices = slices_of (g.S.Column.content c.args.item.now) in
     let rest = words_rest slices c.loop-i.i (omega (arith, c.slice_count-count.ensures)) in
-    word_count_none slices (omega (arith, rest, c.words_in-more.ensures, c.len.ensures, ap length c.byte_slice.ensures, c.loop-i.invariant.counted))
+    word_count_none slices (omega (arith, rest, c.words_for-more.ensures, c.len.ensures, ap length c.byte_slice.ensures, c.loop-i.invariant.counted))
 
 pub loop-i-preserved : goal.loop-i-preserved
 loop-i-preserved g c =
     let slices = slices_of (g.S.Column.content c.args.item.now) in
     let rest = words_rest slices c.loop-i.i (omega (arith, c.slice_count-count.ensures)) in
     record {
-      counted = omega (arith, rest, c.words_in-more.ensures, c.len.ensures, ap length c.byte_slice.ensures, c.loop-i.invariant.counted);
+      counted = omega (arith, rest, c.words_for-more.ensures, c.len.ensures, ap length c.byte_slice.ensures, c.loop-i.invariant.counted);
       fits = omega arith;
     }
 

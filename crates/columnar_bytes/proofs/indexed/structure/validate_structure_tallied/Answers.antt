@@ -6,7 +6,7 @@ use Rattle.columnar_bytes.proofs.indexed.structure.validate_structure_tallied.Go
 
 pub returns : goal.returns
 returns g c =
-    let first : word c.args.bytes.now 0 ≡ 8 * (c.args.expected + 1) = omega (arith, c.word_at-first.ensures) in
+    let first : word c.args.bytes.now 0 ≡ 8 * (c.args.expected + 1) = omega (arith, c.word_in_bytes-first.ensures) in
     let legal : IsLegal c.args.bytes.now c.args.expected = legal_by_table c.args.bytes.now c.args.expected (omega arith)
     (record { first = first; fits = omega arith; placed = λ i l. c.loop-i.invariant.before i (omega arith) }) in
     record {

@@ -5,9 +5,9 @@ use Rattle.columnar_core.proofs.store.DecodedStore.get.Goals as goal
 pub round_up-start-requires : goal.round_up-start-requires
 round_up-start-requires c =
     let r = read_slice c.args.self.now.bytes.now c.args.index c.args.self.now.legal c.requires in
-    omega (arith, c.word_at.ensures)
+    omega (arith, c.word_in_bytes.ensures)
 
 pub returns : goal.returns
 returns c =
     let r = read_slice c.args.self.now.bytes.now c.args.index c.args.self.now.legal c.requires in
-    rw (c.word_at-end.ensures, c.round_up-start.ensures, c.word_at.ensures) (sym r.is)
+    rw (c.word_in_bytes-end.ensures, c.round_up-start.ensures, c.word_in_bytes.ensures) (sym r.is)

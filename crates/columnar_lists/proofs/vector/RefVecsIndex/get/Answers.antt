@@ -18,3 +18,6 @@ returns-clause-row g c =
 
 pub returns-clause-valid : goal.returns-clause-valid
 returns-clause-valid g c = piece_sound g.BC.Column.format g.TC.Column.format c.args.index c.requires.sound c.range_of-lower.ensures.lower c.range_of-lower.ensures.upper
+
+pub invariant_of-result : goal.invariant_of-result
+invariant_of-result g c = record { sound = piece_sound g.BC.Column.format g.TC.Column.format c.args.index c.requires.sound c.range_of-lower.ensures.lower c.range_of-lower.ensures.upper }

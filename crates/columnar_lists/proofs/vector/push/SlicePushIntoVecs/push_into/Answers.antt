@@ -1,5 +1,5 @@
 use Rattle.columnar_base.specs.ChangeLaws.{passed_on}
-use Rattle.columnar_lists.specs.ListLaws.{lists_parts, piece_parts}
+use Rattle.columnar_lists.specs.ListLaws.{lists_parts}
 use Rattle.columnar_lists.specs.ListPushes.{items_not_taken, on_list_ended, on_list_refused}
 use Rattle.columnar_lists.proofs.vector.push.SlicePushIntoVecs.push_into.Goals as goal
 

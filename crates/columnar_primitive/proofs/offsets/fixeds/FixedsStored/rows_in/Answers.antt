@@ -7,4 +7,4 @@ use Rattle.columnar_primitive.proofs.offsets.fixeds.FixedsStored.rows_in.Goals a
 pub returns : goal.returns
 returns g c =
     let e = first_at (slices_in c.args.store.now) c.args.offset c.get.result.now (omega (arith, c.requires.fits.room)) c.get.ensures in
-    rw e (c.word_at.ensures ∙ length-fixed g.row.K c.get.result.now)
+    rw e (c.word_in_bytes.ensures ∙ length-fixed g.row.K c.get.result.now)

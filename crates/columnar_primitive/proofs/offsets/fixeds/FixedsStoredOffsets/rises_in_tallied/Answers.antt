@@ -7,4 +7,4 @@ use Rattle.columnar_primitive.proofs.offsets.fixeds.FixedsStoredOffsets.rises_in
 pub returns-clause-value : goal.returns-clause-value
 returns-clause-value g c =
     let e = first_at (slices_in c.args.store.now) c.args.offset c.get.result.now (omega (arith, c.requires.fits.room)) c.get.ensures in
-    rw e (fixed_end g.row.K c.get.result.now c.args.«end» c.word_at.result c.word_at.ensures)
+    rw e (fixed_end g.row.K c.get.result.now c.args.«end» c.word_in_bytes.result c.word_in_bytes.ensures)

@@ -10,4 +10,4 @@ pub returns-clause-content : goal.returns-clause-content
 returns-clause-content g c =
     let e = first_at (slices_in c.args.store.now) c.args.offset c.get-bytes.result.now (omega (arith, c.requires.fits.room)) c.get-bytes.ensures in
     let s = fixed_parts g.row.K (rw e at c.requires.fits.sound) in
-    rw e (ap slice (count-back c.get-bytes.result.now c.word_at.result s.size (let h = c.holds_bytes.ensures in rw c.of_bytes.ensures.bytes at h) c.word_at.ensures))
+    rw e (ap slice (count-back c.get-bytes.result.now c.word_in_bytes.result s.size (let h = c.holds_bytes.ensures in rw c.of_bytes.ensures.bytes at h) c.word_in_bytes.ensures))

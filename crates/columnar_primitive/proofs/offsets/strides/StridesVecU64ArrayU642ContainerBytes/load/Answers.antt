@@ -6,4 +6,4 @@ use Rattle.columnar_primitive.specs.StrideLaws.{strides_loaded}
 use Rattle.columnar_primitive.proofs.offsets.strides.StridesVecU64ArrayU642ContainerBytes.load.Goals as goal
 
 pub returns-clause-content : goal.returns-clause-content
-returns-clause-content c = strides_loaded (slices_in c.args.store.now) c.args.offset c.get-bytes.result.now c.word_at.result c.word_at-2.result (slice (le_bytes c.in_ok-bounds.bounds.items)) (omega (arith, c.requires.fits.room)) c.get-bytes.ensures c.requires.fits.sound (let h = c.holds_bytes.ensures in rw c.of_bytes.ensures.bytes at h) c.word_at.ensures c.word_at-2.ensures c.in_ok-bounds.ensures.content
+returns-clause-content c = strides_loaded (slices_in c.args.store.now) c.args.offset c.get-bytes.result.now c.word_in_bytes.result c.word_in_bytes-2.result (slice (le_bytes c.in_ok-bounds.bounds.items)) (omega (arith, c.requires.fits.room)) c.get-bytes.ensures c.requires.fits.sound (let h = c.holds_bytes.ensures in rw c.of_bytes.ensures.bytes at h) c.word_in_bytes.ensures c.word_in_bytes-2.ensures c.in_ok-bounds.ensures.content

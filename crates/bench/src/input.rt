@@ -1,0 +1,70 @@
+//! What is pushed and asked for.
+ghost use Rattle.std.specs.Prelude.{◌<◌};
+
+use crate::clock::Random;
+use std::alloc::Global;
+
+pub fn rows(alloc: Global, count: usize, random: &mut Random) -> Option<Vec<(u64, Option<u64>)>> {
+    let mut rows = Vec::new(alloc);
+    for _row in 0..count {
+        let word = random.next();
+        let second = if word & 4 == 0 { Some(word >> 3) } else { None };
+        rows.push((word, second)).ok()?;
+    }
+    Some(rows)
+}
+
+pub fn bits(alloc: Global, count: usize, random: &mut Random) -> Option<Vec<bool>> {
+    let mut bits = Vec::new(alloc);
+    for _bit in 0..count {
+        bits.push(random.next() % 3 == 0).ok()?;
+    }
+    Some(bits)
+}
+
+pub fn places(alloc: Global, count: usize, end: u64, random: &mut Random) -> Option<Vec<usize>>
+    requires { 0 < end }
+{
+    let mut places = Vec::new(alloc);
+    for _place in 0..count {
+        places.push((random.next() % end) as usize).ok()?;
+    }
+    Some(places)
+}
+
+pub fn ranks(alloc: Global, count: usize, end: u64, random: &mut Random) -> Option<Vec<u64>>
+    requires { 0 < end }
+{
+    let mut ranks = Vec::new(alloc);
+    for _rank in 0..count {
+        ranks.push(random.next() % end).ok()?;
+    }
+    Some(ranks)
+}
+
+pub fn words(alloc: Global, count: usize, random: &mut Random) -> Option<Vec<u64>> {
+    let mut words = Vec::new(alloc);
+    for _word in 0..count {
+        words.push(random.next()).ok()?;
+    }
+    Some(words)
+}
+
+pub fn lists(
+    alloc: Global,
+    count: usize,
+    end: u64,
+    random: &mut Random,
+) -> Option<Vec<(usize, usize)>>
+    requires { (0 < end) × (end < 1000000000) }
+{
+    let mut lists = Vec::new(alloc);
+    for _list in 0..count {
+        let word = random.next();
+        let lower = (word >> 8) % end;
+        lists
+            .push((lower as usize, (lower + word % 8) as usize))
+            .ok()?;
+    }
+    Some(lists)
+}

@@ -1,0 +1,313 @@
+//! The work that is measured.
+ghost use Rattle.std.specs.Prelude.{◌≡◌, ℕ, ◌<◌, ◌≤◌, length, IfOk, IfSome};
+ghost use Rattle.columnar_base.specs.Format.{IsSound, both, part, part_format};
+ghost use Rattle.columnar_base.specs.Elements.{words_format};
+ghost use Rattle.columnar_lists.specs.Lists.{lists_format};
+ghost use Rattle.columnar_sums.specs.RankColumns.{IsRanked};
+
+use columnar_base::fault::GrowError;
+use columnar_base::slice::Slice;
+use columnar_base::storage::Storage;
+use columnar_base::traits::{Column, Index, Item, Len, Push, PushRef};
+use columnar_base::view::View;
+use columnar_core::container::ExtendFrom;
+use columnar_core::words::Words;
+use columnar_lists::vector::Vecs;
+use columnar_sums::rank_select::RankSelect;
+use std::alloc::Global;
+
+#[inline(never)]
+pub fn push_values<T: Item + Copy, C: Storage + Push<T>>(
+    alloc: Global,
+    items: &[T],
+) -> Result<C, GrowError>
+    requires { (x : T) → T.valid x }
+    ensures { IfOk result (λ c. IsSound C.format (C.content c)) }
+{
+    let mut column = C::empty(alloc);
+    for item in items {
+        match column.push(*item) {
+            Ok(()) => {}
+            Err(error) => return Err(error),
+        }
+    }
+    Ok(column)
+}
+
+#[inline(never)]
+pub fn push_refs<T: Item, C: Storage + PushRef<T>>(
+    alloc: Global,
+    items: &[T],
+) -> Result<C, GrowError>
+    requires { (x : T) → T.valid x }
+    ensures { IfOk result (λ c. IsSound C.format (C.content c)) }
+{
+    let mut column = C::empty(alloc);
+    for item in items {
+        match column.push_ref(item) {
+            Ok(()) => {}
+            Err(error) => return Err(error),
+        }
+    }
+    Ok(column)
+}
+
+#[inline(never)]
+pub fn push_row_values<C: Storage + Push<(u64, Option<u64>)>>(
+    alloc: Global,
+    items: &[(u64, Option<u64>)],
+) -> Result<C, GrowError>
+    ensures { IfOk result (λ c. IsSound C.format (C.content c)) }
+{
+    let mut column = C::empty(alloc);
+    for item in items {
+        match column.push(*item) {
+            Ok(()) => {}
+            Err(error) => return Err(error),
+        }
+    }
+    Ok(column)
+}
+
+#[inline(never)]
+pub fn push_row_refs<C: Storage + PushRef<(u64, Option<u64>)>>(
+    alloc: Global,
+    items: &[(u64, Option<u64>)],
+) -> Result<C, GrowError>
+    ensures { IfOk result (λ c. IsSound C.format (C.content c)) }
+{
+    let mut column = C::empty(alloc);
+    for item in items {
+        match column.push_ref(item) {
+            Ok(()) => {}
+            Err(error) => return Err(error),
+        }
+    }
+    Ok(column)
+}
+
+#[inline(never)]
+pub fn push_view<V: Index + Len, C: Storage + Push<V::Ref>>(
+    alloc: Global,
+    view: &V,
+) -> Result<C, GrowError>
+    requires { IsSound V.format (V.content view.now) }
+    ensures { IfOk result (λ c. IsSound C.format (C.content c)) }
+{
+    let mut column = C::empty(alloc);
+    for i in 0..view.len() {
+        match column.push(view.get(i)) {
+            Ok(()) => {}
+            Err(error) => return Err(error),
+        }
+    }
+    Ok(column)
+}
+
+#[inline(never)]
+pub fn sum_rows<V: Len + Index<Ref = (u64, Option<u64>)>>(view: &V) -> u64
+    requires { IsSound V.format (V.content view.now) }
+{
+    let mut sum = 0u64;
+    for i in 0..view.len() {
+        let (first, second) = view.get(i);
+        sum = sum.wrapping_add(first);
+        if let Some(value) = second {
+            sum = sum.wrapping_add(value);
+        }
+    }
+    sum
+}
+
+#[inline(never)]
+pub fn sum_words<V: Len + Index<Ref = u64>>(view: &V) -> u64
+    requires { IsSound V.format (V.content view.now) }
+{
+    let mut sum = 0u64;
+    for i in 0..view.len() {
+        sum = sum.wrapping_add(view.get(i));
+    }
+    sum
+}
+
+#[inline(never)]
+pub fn count_true<V: Len + Index<Ref = bool>>(view: &V) -> u64
+    requires { IsSound V.format (V.content view.now) }
+{
+    let mut sum = 0u64;
+    for i in 0..view.len() {
+        sum = sum.wrapping_add(view.get(i) as u64);
+    }
+    sum
+}
+
+#[inline(never)]
+pub fn rank_each<CC: Words, VC: Words, WC: Words>(
+    bits: &RankSelect<CC, VC, WC>,
+    places: &[usize],
+) -> u64
+    requires { IsRanked CC.bytes VC.bytes WC.bytes bits.now }
+{
+    let len = bits.len();
+    let mut sum = 0u64;
+    for place in places {
+        if *place <= len {
+            sum = sum.wrapping_add(bits.rank(*place) as u64);
+        }
+    }
+    sum
+}
+
+#[inline(never)]
+pub fn rank_all<CC: Words, VC: Words, WC: Words>(bits: &RankSelect<CC, VC, WC>) -> u64
+    requires { IsRanked CC.bytes VC.bytes WC.bytes bits.now }
+{
+    let mut sum = 0u64;
+    for place in 0..bits.len() {
+        sum = sum.wrapping_add(bits.rank(place) as u64);
+    }
+    sum
+}
+
+#[inline(never)]
+pub fn select_each<CC: Words, VC: Words, WC: Words>(
+    bits: &RankSelect<CC, VC, WC>,
+    ranks: &[u64],
+) -> u64
+    requires { IsRanked CC.bytes VC.bytes WC.bytes bits.now }
+{
+    let mut sum = 0u64;
+    for rank in ranks {
+        if let Some(place) = bits.select(*rank) {
+            sum = sum.wrapping_add(place as u64);
+        }
+    }
+    sum
+}
+
+#[inline(never)]
+pub fn next_ones<CC: Words, VC: Words, WC: Words>(bits: &RankSelect<CC, VC, WC>, ones: usize) -> u64
+    requires { IsRanked CC.bytes VC.bytes WC.bytes bits.now }
+{
+    let mut cursor = bits.cursor();
+    let mut sum = 0u64;
+    for _turn in 0..ones {
+        if let Some(place) = cursor.next_one() {
+            sum = sum.wrapping_add(place as u64);
+        }
+    }
+    sum
+}
+
+#[inline(never)]
+pub fn steps<CC: Words, VC: Words, WC: Words>(bits: &RankSelect<CC, VC, WC>) -> u64
+    requires { IsRanked CC.bytes VC.bytes WC.bytes bits.now }
+{
+    let mut cursor = bits.cursor();
+    let mut sum = 0u64;
+    for _turn in 0..bits.len() {
+        if let Some(bit) = cursor.step() {
+            sum = sum.wrapping_add(bit as u64);
+        }
+    }
+    sum
+}
+
+#[inline(never)]
+pub fn copy_part<V: Len + Copy, C: ExtendFrom<V>>(
+    column: &mut C,
+    view: V,
+    start: usize,
+    end: usize,
+) -> bool
+    requires sound { IsSound C.format (C.content column.old) }
+    requires view_sound { IsSound V.format (V.content view) }
+    ensures { IsSound C.format (C.content column.new) }
+{
+    if start > end || end > view.len() {
+        return false;
+    }
+    column.extend_from_self(view, start..end).is_ok()
+}
+
+/// A column of the rows start..end of a view.
+pub fn copied<V: Len + Copy, C: ExtendFrom<V>>(
+    alloc: Global,
+    view: V,
+    start: usize,
+    end: usize,
+) -> Option<C>
+    requires { IsSound V.format (V.content view) }
+    ensures { IfSome result (λ c. IsSound C.format (C.content c)) }
+{
+    let mut column = C::empty(alloc);
+    if copy_part(&mut column, view, start, end) {
+        Some(column)
+    } else {
+        None
+    }
+}
+
+/// As `copied`, behind the first `front` rows of the view.
+pub fn copied_behind<V: Len + Copy, C: ExtendFrom<V>>(
+    alloc: Global,
+    view: V,
+    front: usize,
+    start: usize,
+    end: usize,
+) -> Option<C>
+    requires { IsSound V.format (V.content view) }
+    ensures { IfSome result (λ c. IsSound C.format (C.content c)) }
+{
+    let mut column = C::empty(alloc);
+    if copy_part(&mut column, view, 0, front) && copy_part(&mut column, view, start, end) {
+        Some(column)
+    } else {
+        None
+    }
+}
+
+#[inline(never)]
+pub fn push_lists<V: Index + Len + Copy, C: Storage + Push<Slice<V>>>(
+    alloc: Global,
+    view: V,
+    lists: &[(usize, usize)],
+) -> Result<C, GrowError>
+    requires { IsSound V.format (V.content view) }
+    ensures { IfOk result (λ c. IsSound C.format (C.content c)) }
+{
+    let mut column = C::empty(alloc);
+    let len = view.len();
+    for list in lists {
+        let (lower, upper) = *list;
+        if lower <= upper && upper <= len {
+            match column.push(Slice::new(lower, upper, view)) {
+                Ok(()) => {}
+                Err(error) => return Err(error),
+            }
+        }
+    }
+    Ok(column)
+}
+
+#[inline(never)]
+pub fn sum_lists<'a>(lists: &Vecs<View<'a, u64>, View<'a, u64>>) -> u64
+    requires { IsSound (lists_format words_format words_format) (both (⟦<View<'a, u64> as Column>⟧.content lists.now.bounds) (⟦<View<'a, u64> as Column>⟧.content lists.now.values)) }
+{
+    let mut sum = 0u64;
+    for i in 0..lists.len() {
+        let list = lists.get(i);
+        sum = sum.wrapping_add(sum_list(&list));
+    }
+    sum
+}
+
+fn sum_list<'a>(list: &Slice<View<'a, u64>>) -> u64
+    requires { IsSound (part_format words_format) (part list.now.lower list.now.upper (⟦<View<'a, u64> as Column>⟧.content list.now.slice)) }
+{
+    let mut sum = 0u64;
+    for j in 0..list.len() {
+        sum = sum.wrapping_add(list.get(j));
+    }
+    sum
+}

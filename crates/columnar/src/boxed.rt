@@ -1,0 +1,3 @@
+//! Rows in boxes.
+
+pub use columnar_core::boxed::Boxed;

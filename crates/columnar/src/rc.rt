@@ -1,0 +1,3 @@
+//! Views that are shared.
+
+pub use columnar_core::rc::{from_bytes, from_store};

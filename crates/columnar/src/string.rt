@@ -1,0 +1,3 @@
+//! Strings.
+
+pub use columnar_strings::string::{Strings, Text};

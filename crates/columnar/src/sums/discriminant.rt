@@ -1,0 +1,3 @@
+//! Which variant each row is of.
+
+pub use columnar_sums::discriminant::{Discriminant, Variants};

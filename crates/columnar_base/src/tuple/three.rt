@@ -1,0 +1,219 @@
+//! Tuples of three columns of one length.
+ghost use Rattle.std.specs.Prelude.{◌≡◌, List, [], ◌∷◌, OnOk, IfErr};
+ghost use Rattle.columnar_base.specs.Row.{tuple};
+ghost use Rattle.columnar_base.specs.Format.{both, IsSound};
+ghost use Rattle.columnar_base.specs.Change.{Took, Refused};
+ghost use Rattle.columnar_base.specs.TupleLaws.{pair_lawful};
+ghost use Rattle.columnar_base.specs.LongTuples.{nested, tuple_format};
+ghost use Rattle.columnar_base.specs.LongTupleLaws.{tuple_lawful};
+
+use crate::fault::GrowError;
+use crate::storage::{Reserve, Storage, Truncate};
+use crate::traits::{Clear, Column, Index, Item, Len, Push, PushInto, PushRef};
+use crate::tuple::{ByRef, ByValue, Enter, duplicate_after, push_two, reserve_after, taken_back};
+use std::alloc::Global;
+
+/// As a row, it is the tuple of the rows of its parts.
+impl<P: Item, Q: Item, R: Item> Item for (P, Q, R) {
+    ghost meaning = { λ p. tuple (P.meaning p.0) (tuple (Q.meaning p.1) (R.meaning p.2)) };
+
+    ghost valid = { λ p. P.valid p.0 × Q.valid p.1 × R.valid p.2 };
+}
+
+/// The slices of the parts in their order; a row is the tuple of their rows.
+impl<A: Column, B: Column, C: Column> Column for (A, B, C) {
+    ghost format = { tuple_format A.format B.format (C.format ∷ []) };
+
+    ghost content = { λ c. both (A.content c.0) (both (B.content c.1) (C.content c.2)) };
+}
+
+impl<A: Len, B: Column, C: Column> Len for (A, B, C) {
+    fn len(&self) -> usize {
+        self.0.len()
+    }
+}
+
+impl<A: Index, B: Index, C: Index> Index for (A, B, C) {
+    type Ref = (A::Ref, B::Ref, C::Ref);
+
+    fn get(&self, index: usize) -> (A::Ref, B::Ref, C::Ref) {
+        let first = self.0.get(index);
+        let second = self.1.get(index);
+        let third = self.2.get(index);
+        (first, second, third)
+    }
+}
+
+/// Rows are read through a reference as those of the parts are through one.
+impl<'a, A, B, C> Index for &'a (A, B, C)
+where
+    A: Column,
+    B: Column,
+    C: Column,
+    &'a A: Index,
+    &'a B: Index,
+    &'a C: Index,
+{
+    type Ref = (
+        <&'a A as Index>::Ref,
+        <&'a B as Index>::Ref,
+        <&'a C as Index>::Ref,
+    );
+
+    fn get(
+        &self,
+        index: usize,
+    ) -> (
+        <&'a A as Index>::Ref,
+        <&'a B as Index>::Ref,
+        <&'a C as Index>::Ref,
+    ) {
+        let column: &'a (A, B, C) = *self;
+        let first: &'a A = &column.0;
+        let second: &'a B = &column.1;
+        let third: &'a C = &column.2;
+        (first.get(index), second.get(index), third.get(index))
+    }
+}
+
+impl<A: Clear, B: Clear, C: Clear> Clear for (A, B, C) {
+    fn clear(&mut self) {
+        self.0.clear();
+        self.1.clear();
+        self.2.clear();
+    }
+}
+
+impl<A: Truncate, B: Truncate, C: Truncate> Truncate for (A, B, C) {
+    ghost lawful = { tuple_lawful A.format B.format (C.format ∷ []) (pair_lawful A.format (nested B.format (C.format ∷ [])) A.lawful (pair_lawful B.format (nested C.format ([])) B.lawful C.lawful)) };
+
+    fn truncate(&mut self, n: usize) {
+        self.0.truncate(n);
+        self.1.truncate(n);
+        self.2.truncate(n);
+    }
+}
+
+impl<A: Storage, B: Storage, C: Storage> Storage for (A, B, C) {
+    fn empty(alloc: Global) -> Self {
+        let first = A::empty(alloc);
+        let second = B::empty(alloc);
+        let third = C::empty(alloc);
+        (first, second, third)
+    }
+
+    fn duplicate(&self, alloc: Global) -> Result<Self, GrowError> {
+        let parts = self.0.duplicate(alloc);
+        let parts = duplicate_after(parts, &self.1, alloc);
+        let parts = duplicate_after(parts, &self.2, alloc);
+        let ((first, second), third) = parts?;
+        Ok((first, second, third))
+    }
+}
+
+impl<A: Reserve, B: Reserve, C: Reserve> Reserve for (A, B, C) {
+    type Room = (A::Room, B::Room, C::Room);
+
+    fn no_room() -> (A::Room, B::Room, C::Room) {
+        (A::no_room(), B::no_room(), C::no_room())
+    }
+
+    fn reserve_room(&mut self, room: (A::Room, B::Room, C::Room)) -> Result<(), GrowError> {
+        let done = self.0.reserve_room(room.0);
+        let done = reserve_after(done, &mut self.1, room.1);
+        reserve_after(done, &mut self.2, room.2)
+    }
+}
+
+/// It takes what can be pushed into it: tuples of items of its parts, by value and by reference.
+impl<Z: PushInto<(A, B, C)>, A: Column, B: Column, C: Column> Push<Z> for (A, B, C) {
+    #[inline(always)]
+    fn push(&mut self, item: Z) -> Result<(), GrowError> {
+        item.push_into(self)
+    }
+}
+
+/// Each of three parts takes its own item. Where one of them refuses it, none has taken any.
+#[inline(always)]
+pub fn push_three<
+    A: Truncate,
+    B: Truncate,
+    C: Column,
+    P: Enter<A>,
+    Q: Enter<B> + Drop,
+    R: Enter<C> + Drop,
+>(first: &mut A, second: &mut B, third: &mut C, p: P, q: Q, r: R) -> Result<(), GrowError>
+    requires sound { IsSound (nested A.format (B.format ∷ C.format ∷ [])) (both (A.content first.old) (both (B.content second.old) (C.content third.old))) }
+    requires valid_first { P.valid p }
+    requires valid_second { Q.valid q }
+    requires valid_third { R.valid r }
+    ensures ok { OnOk result (Took (nested A.format (B.format ∷ C.format ∷ [])) (both (A.content first.old) (both (B.content second.old) (C.content third.old))) (both (A.content first.new) (both (B.content second.new) (C.content third.new))) (tuple (P.meaning p) (tuple (Q.meaning q) (R.meaning r)) ∷ [])) }
+    ensures err { IfErr result (λ e. Refused (nested A.format (B.format ∷ C.format ∷ [])) (both (A.content first.old) (both (B.content second.old) (C.content third.old))) (both (A.content first.new) (both (B.content second.new) (C.content third.new))) (tuple (P.meaning p) (tuple (Q.meaning q) (R.meaning r)) ∷ []) e) }
+{
+    let before = first.len();
+    p.enter(first)?;
+    match push_two(second, third, q, r) {
+        Ok(()) => Ok(()),
+        Err(error) => Err(taken_back(first, before, error)),
+    }
+}
+
+/// Each part takes its own of the item. Where one of them refuses it, none has taken any.
+impl<
+    P: Item,
+    Q: Item + Drop,
+    R: Item + Drop,
+    A: Truncate + Push<P>,
+    B: Truncate + Push<Q>,
+    C: Push<R>,
+> PushInto<(A, B, C)> for (P, Q, R) {
+    #[inline(always)]
+    fn push_into(self, column: &mut (A, B, C)) -> Result<(), GrowError> {
+        let (p, q, r) = self;
+        push_three(
+            &mut column.0,
+            &mut column.1,
+            &mut column.2,
+            ByValue(p),
+            ByValue(q),
+            ByValue(r),
+        )
+    }
+}
+
+/// The parts of the item are pushed by reference.
+impl<
+    'x,
+    P: Item,
+    Q: Item,
+    R: Item,
+    A: Truncate + PushRef<P>,
+    B: Truncate + PushRef<Q>,
+    C: PushRef<R>,
+> PushInto<(A, B, C)> for &'x (P, Q, R) {
+    #[inline(always)]
+    fn push_into(self, column: &mut (A, B, C)) -> Result<(), GrowError> {
+        column.push_ref(self)
+    }
+}
+
+impl<
+    P: Item,
+    Q: Item,
+    R: Item,
+    A: Truncate + PushRef<P>,
+    B: Truncate + PushRef<Q>,
+    C: PushRef<R>,
+> PushRef<(P, Q, R)> for (A, B, C) {
+    #[inline(always)]
+    fn push_ref(&mut self, item: &(P, Q, R)) -> Result<(), GrowError> {
+        push_three(
+            &mut self.0,
+            &mut self.1,
+            &mut self.2,
+            ByRef(&item.0),
+            ByRef(&item.1),
+            ByRef(&item.2),
+        )
+    }
+}

@@ -1,0 +1,22 @@
+use Rattle.columnar_base.specs.ChangeLaws.{passed_on}
+use Rattle.columnar_lists.specs.ListLaws.{lists_parts}
+use Rattle.columnar_lists.specs.ListPushes.{items_not_taken, on_list_ended, on_list_refused}
+use Rattle.columnar_lists.proofs.parts.push_list.Goals as goal
+
+pub len-before-requires : goal.len-before-requires
+len-before-requires g c = (lists_parts g.BC.Column.format g.TC.Column.format c.requires.sound).values
+
+pub push_slice-requires-clause-sound : goal.push_slice-requires-clause-sound
+push_slice-requires-clause-sound g c = (lists_parts g.BC.Column.format g.TC.Column.format c.requires.sound).values
+
+pub returns-in_err-push_slice-clause-err : goal.returns-in_err-push_slice-clause-err
+returns-in_err-push_slice-clause-err g c = rw (passed_on c.from_residual.result c.from_residual.ensures.1) (items_not_taken g.BC.Column.format g.TC.Column.format c.requires.sound c.in_err-push_slice.ensures.err)
+
+pub end_list-requires-clause-bounds : goal.end_list-requires-clause-bounds
+end_list-requires-clause-bounds g c = (lists_parts g.BC.Column.format g.TC.Column.format c.requires.sound).bounds
+
+pub returns-clause-ok : goal.returns-clause-ok
+returns-clause-ok g c = on_list_ended c.end_list.result g.BC.Column.format g.TC.Column.format (g.BC.Column.content c.end_list.new.bounds) (g.TC.Column.content c.end_list.new.values) g.met.BC.Offsets.bounds c.requires.sound c.in_ok-push_slice.ensures.ok c.end_list.ensures.ok
+
+pub returns-clause-err : goal.returns-clause-err
+returns-clause-err g c = on_list_refused c.end_list.result g.BC.Column.format g.TC.Column.format (g.BC.Column.content c.end_list.new.bounds) (g.TC.Column.content c.end_list.new.values) c.len-before.result c.len-before.ensures g.met.TC.Truncate.lawful c.requires.sound c.in_ok-push_slice.ensures.ok c.end_list.ensures.err

@@ -1,0 +1,15 @@
+use Rattle.columnar_base.specs.ChangeLaws.{unchanged}
+use Rattle.columnar_lists.specs.ListLaws.{lists_parts, lists_stayed}
+use Rattle.columnar_lists.proofs.parts.reserve_lists.Goals as goal
+
+pub reserve_room-requires : goal.reserve_room-requires
+reserve_room-requires g c = (lists_parts g.BC.Column.format g.TC.Column.format c.requires).bounds
+
+pub reserve_room-requires-2 : goal.reserve_room-requires-2
+reserve_room-requires-2 g c = (lists_parts g.BC.Column.format g.TC.Column.format c.requires).values
+
+pub returns-in_err-reserve_room-clause-stayed : goal.returns-in_err-reserve_room-clause-stayed
+returns-in_err-reserve_room-clause-stayed g c = lists_stayed g.BC.Column.format g.TC.Column.format c.requires c.in_err-reserve_room.ensures.stayed (unchanged (lists_parts g.BC.Column.format g.TC.Column.format c.requires).values)
+
+pub returns-clause-stayed : goal.returns-clause-stayed
+returns-clause-stayed g c = lists_stayed g.BC.Column.format g.TC.Column.format c.requires c.in_ok-reserve_room.ensures.stayed c.reserve_room-2.ensures.stayed

@@ -1,0 +1,228 @@
+//! What columns of lists do with their two parts, the bounds and the values. A string is a list of bytes, so that a
+//! column of strings does the same.
+ghost use Rattle.std.specs.Prelude.{◌≡◌, ℕ, ◌+◌, ◌-◌, ◌*◌, ◌^◌, ◌<◌, ◌≤◌, ◌∷◌, [], length, map, All, slice_get, Some, take, drop, IsTrue, OnOk, IfErr};
+ghost use Rattle.columnar_base.specs.Row.{list, number};
+ghost use Rattle.columnar_base.specs.Format.{both, bytes_held, first, moved, representable, IsSound};
+ghost use Rattle.columnar_base.specs.Faults.{verdict};
+ghost use Rattle.columnar_base.specs.Change.{Copied, Refused, Stayed, Took, WasCut};
+ghost use Rattle.columnar_core.specs.Bounds.{numbers};
+ghost use Rattle.columnar_lists.specs.Lists.{lists_format, shifted};
+
+use columnar_base::fault::{GrowError, StoreFault};
+use columnar_base::tally::Tally;
+use columnar_base::traits::{Column, Index, Item, Len, Push, PushRef};
+use columnar_core::bytes::Check;
+use columnar_core::container::{ExtendFrom, Reserve, Truncate};
+use columnar_core::offsets::{Offsets, StoredOffsets};
+use columnar_core::two::check_two;
+use std::ops::Range;
+
+// Where list `index` begins.
+fn start_of<BC: Offsets>(bounds: &BC, index: usize) -> u64
+    requires sound { IsSound BC.format (BC.content bounds.now) }
+    requires in_range { index ≤ length (BC.format.rows (BC.content bounds.now)) }
+    ensures { slice_get (0 ∷ numbers (BC.format.rows (BC.content bounds.now))) index ≡ Some result }
+{
+    if index == 0 {
+        0
+    } else {
+        bounds.offset(index - 1)
+    }
+}
+
+/// Where list `index` begins, and where it ends.
+pub fn range_of<BC: Offsets>(bounds: &BC, index: usize) -> (usize, usize)
+    requires sound { IsSound BC.format (BC.content bounds.now) }
+    requires in_range { index < length (BC.format.rows (BC.content bounds.now)) }
+    ensures lower { slice_get (0 ∷ numbers (BC.format.rows (BC.content bounds.now))) index ≡ Some result.0 }
+    ensures upper { slice_get (BC.format.rows (BC.content bounds.now)) index ≡ Some (number result.1) }
+{
+    let lower = start_of(bounds, index);
+    let upper = bounds.offset(index);
+    (lower as usize, upper as usize)
+}
+
+/// Keeps the first `n` lists. Needs no memory.
+pub fn cut_lists<TC: Truncate, BC: Truncate + Offsets>(bounds: &mut BC, values: &mut TC, n: usize)
+    requires sound { IsSound (lists_format BC.format TC.format) (both (BC.content bounds.old) (TC.content values.old)) }
+    requires in_range { n ≤ length ((lists_format BC.format TC.format).rows (both (BC.content bounds.old) (TC.content values.old))) }
+    ensures { WasCut (lists_format BC.format TC.format) (both (BC.content bounds.old) (TC.content values.old)) (both (BC.content bounds.new) (TC.content values.new)) n }
+{
+    let end = start_of(bounds, n);
+    values.truncate(end as usize);
+    bounds.truncate(n);
+}
+
+/// Makes room in both parts; the lists stay.
+pub fn reserve_lists<TC: Reserve, BC: Reserve>(
+    bounds: &mut BC,
+    values: &mut TC,
+    room: (BC::Room, TC::Room),
+) -> Result<(), GrowError>
+    requires { IsSound (lists_format BC.format TC.format) (both (BC.content bounds.old) (TC.content values.old)) }
+    ensures stayed { Stayed (lists_format BC.format TC.format) (both (BC.content bounds.old) (TC.content values.old)) (both (BC.content bounds.new) (TC.content values.new)) }
+    ensures memory { IfErr result (λ e. e ≡ GrowError.Memory) }
+{
+    bounds.reserve_room(room.0)?;
+    values.reserve_room(room.1)
+}
+
+// Ends a list whose items stand behind the first `before` values; where the bounds refuse its end, these are taken back.
+#[inline(always)]
+pub(crate) fn end_list<TC: Truncate, BC: Push<u64>>(
+    bounds: &mut BC,
+    values: &mut TC,
+    before: usize,
+) -> Result<(), GrowError>
+    requires bounds { IsSound BC.format (BC.content bounds.old) }
+    requires values { IsSound TC.format (TC.content values.old) }
+    requires in_range { before ≤ length (TC.format.rows (TC.content values.old)) }
+    ensures ok { OnOk result (Took BC.format (BC.content bounds.old) (BC.content bounds.new) (number (length (TC.format.rows (TC.content values.old))) ∷ []) × (TC.content values.new ≡ TC.content values.old)) }
+    ensures err { IfErr result (λ e. Refused BC.format (BC.content bounds.old) (BC.content bounds.new) (number (length (TC.format.rows (TC.content values.old))) ∷ []) e × WasCut TC.format (TC.content values.old) (TC.content values.new) before) }
+{
+    let end = values.len();
+    match bounds.push(end as u64) {
+        Ok(()) => Ok(()),
+        Err(error) => {
+            values.truncate(before);
+            Err(error)
+        }
+    }
+}
+
+/// Adds one list, of rows alike to the items, or is refused and leaves the rows and the lengths of both parts.
+#[inline(always)]
+pub fn push_list<T: Item, TC: Truncate + PushRef<T>, BC: Offsets + Push<u64>>(
+    bounds: &mut BC,
+    values: &mut TC,
+    items: &[T],
+) -> Result<(), GrowError>
+    requires sound { IsSound (lists_format BC.format TC.format) (both (BC.content bounds.old) (TC.content values.old)) }
+    requires valid { All T.valid items.now }
+    ensures ok { OnOk result (Took (lists_format BC.format TC.format) (both (BC.content bounds.old) (TC.content values.old)) (both (BC.content bounds.new) (TC.content values.new)) (list (map T.meaning items.now) ∷ [])) }
+    ensures err { IfErr result (λ e. Refused (lists_format BC.format TC.format) (both (BC.content bounds.old) (TC.content values.old)) (both (BC.content bounds.new) (TC.content values.new)) (list (map T.meaning items.now) ∷ []) e) }
+{
+    let before = values.len();
+    values.push_slice(items)?;
+    end_list(bounds, values, before)
+}
+
+// Pushes bounds of a view, those of the range, each moved from `lower` to `start`; or none of them. The turns that it
+// takes are added to the tally.
+fn push_shifted<W: Offsets, BC: Truncate + Push<u64>, L>(
+    bounds: &mut BC,
+    view: &W,
+    range: Range<usize>,
+    lower: u64,
+    start: usize,
+    tally: &mut Tally<L>,
+) -> Result<(), GrowError>
+    requires sound { IsSound BC.format (BC.content bounds.old) }
+    requires view_sound { IsSound W.format (W.content view.now) }
+    requires ordered { range.start ≤ range.«end» }
+    requires in_range { range.«end» ≤ length (W.format.rows (W.content view.now)) }
+    requires held { (i n : ℕ) → range.start ≤ i → i < range.«end» → slice_get (numbers (W.format.rows (W.content view.now))) i ≡ Some n → (lower ≤ n) × (start + (n - lower) < 2 ^ 64) }
+    ensures ok { OnOk result (Took BC.format (BC.content bounds.old) (BC.content bounds.new) (take (range.«end» - range.start) (drop range.start (shifted lower start (numbers (W.format.rows (W.content view.now))))))) }
+    ensures err { IfErr result (λ e. Refused BC.format (BC.content bounds.old) (BC.content bounds.new) (take (range.«end» - range.start) (drop range.start (shifted lower start (numbers (W.format.rows (W.content view.now)))))) e) }
+    ensures turns { tally.new.turns ≤ tally.old.turns + (range.«end» - range.start) }
+{
+    let before = bounds.len();
+    for i in range.start..range.end {
+        tally.tick();
+        let end = view.offset(i) - lower;
+        match bounds.push(start as u64 + end) {
+            Ok(()) => {}
+            Err(error) => {
+                bounds.truncate(before);
+                return Err(error);
+            }
+        }
+    }
+    Ok(())
+}
+
+/// As `copy_lists`. The turns over the bounds are added to the tally: at most one for each list. Those of the values,
+/// which their own column copies at once, are not.
+pub fn copy_lists_tallied<
+    V: Index + Copy,
+    W: Offsets,
+    TC: ExtendFrom<V>,
+    BC: Truncate + Offsets + Push<u64>,
+    L,
+>(
+    bounds: &mut BC,
+    values: &mut TC,
+    view: &W,
+    items: V,
+    range: Range<usize>,
+    tally: &mut Tally<L>,
+) -> Result<(), GrowError>
+    requires sound { IsSound (lists_format BC.format TC.format) (both (BC.content bounds.old) (TC.content values.old)) }
+    requires view_sound { IsSound (lists_format W.format V.format) (both (W.content view.now) (V.content items)) }
+    requires ordered { range.start ≤ range.«end» }
+    requires in_range { range.«end» ≤ length ((lists_format W.format V.format).rows (both (W.content view.now) (V.content items))) }
+    ensures ok { OnOk result (Copied (lists_format BC.format TC.format) (both (BC.content bounds.old) (TC.content values.old)) (both (BC.content bounds.new) (TC.content values.new)) range.start (take (range.«end» - range.start) (drop range.start ((lists_format W.format V.format).rows (both (W.content view.now) (V.content items)))))) }
+    ensures err { IfErr result (λ e. Refused (lists_format BC.format TC.format) (both (BC.content bounds.old) (TC.content values.old)) (both (BC.content bounds.new) (TC.content values.new)) (take (range.«end» - range.start) (drop range.start ((lists_format W.format V.format).rows (both (W.content view.now) (V.content items))))) e) }
+    ensures turns { tally.new.turns ≤ tally.old.turns + (range.«end» - range.start) }
+{
+    let before = values.len();
+    let lower = start_of(view, range.start);
+    let upper = start_of(view, range.end);
+    values.extend_from_self(items, lower as usize..upper as usize)?;
+    // All values have a number of 64 bits, so the moved bounds do.
+    let _end = values.len();
+    match push_shifted(bounds, view, range, lower, before, tally) {
+        Ok(()) => Ok(()),
+        Err(error) => {
+            values.truncate(before);
+            Err(error)
+        }
+    }
+}
+
+/// Adds lists alike to those of a view, from bounds `view` and values `items`, or none of them: the items at once, and
+/// then where each list ends. A front, copied where there are no lists, is there as it was; a refusal leaves the rows
+/// and the lengths of both parts.
+pub fn copy_lists<
+    V: Index + Copy,
+    W: Offsets,
+    TC: ExtendFrom<V>,
+    BC: Truncate + Offsets + Push<u64>,
+>(
+    bounds: &mut BC,
+    values: &mut TC,
+    view: &W,
+    items: V,
+    range: Range<usize>,
+) -> Result<(), GrowError>
+    requires sound { IsSound (lists_format BC.format TC.format) (both (BC.content bounds.old) (TC.content values.old)) }
+    requires view_sound { IsSound (lists_format W.format V.format) (both (W.content view.now) (V.content items)) }
+    requires ordered { range.start ≤ range.«end» }
+    requires in_range { range.«end» ≤ length ((lists_format W.format V.format).rows (both (W.content view.now) (V.content items))) }
+    ensures ok { OnOk result (Copied (lists_format BC.format TC.format) (both (BC.content bounds.old) (TC.content values.old)) (both (BC.content bounds.new) (TC.content values.new)) range.start (take (range.«end» - range.start) (drop range.start ((lists_format W.format V.format).rows (both (W.content view.now) (V.content items)))))) }
+    ensures err { IfErr result (λ e. Refused (lists_format BC.format TC.format) (both (BC.content bounds.old) (TC.content values.old)) (both (BC.content bounds.new) (TC.content values.new)) (take (range.«end» - range.start) (drop range.start ((lists_format W.format V.format).rows (both (W.content view.now) (V.content items))))) e) }
+{
+    copy_lists_tallied(bounds, values, view, items, range, &mut Tally::new())
+}
+
+/// Which rule do bounds and values break first, as lists? Slices are counted from `from` on; the turns that it takes
+/// are added to the tally.
+pub fn check_lists<TC: Check + Len, BC: Check + StoredOffsets + Offsets, L>(
+    bounds: &BC,
+    values: &TC,
+    from: usize,
+    tally: &mut Tally<L>,
+) -> Result<(), StoreFault>
+    requires representable { IsTrue (representable (lists_format BC.format TC.format)) }
+    requires counted { from + (BC.format.count + TC.format.count) < 2 ^ 64 }
+    ensures exact { verdict result ≡ first (moved from ((lists_format BC.format TC.format).broken (both (BC.content bounds.now) (TC.content values.now)))) }
+    ensures turns { tally.new.turns ≤ tally.old.turns + 16 * bytes_held (both (BC.content bounds.now) (TC.content values.now)) }
+{
+    check_two(bounds, values, from, tally)?;
+    let count = values.len();
+    if bounds.rises_to_tallied(count as u64, tally) {
+        Ok(())
+    } else {
+        Err(StoreFault::Bounds(from))
+    }
+}

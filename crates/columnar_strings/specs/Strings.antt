@@ -1,0 +1,43 @@
+-- Columns of strings: a string is the list of its bytes.
+use Rattle.std.specs.Prelude.{ℕ, List, [], ◌∷◌, ◌≡◌, Option, IfSome}
+use Rattle.std.specs.Int.{w8}
+use Rattle.columnar_base.specs.Change.{Took, Refused, Stayed}
+use Rattle.columnar_base.specs.Elements.{elements_format}
+use Rattle.columnar_base.specs.Format.{Format, Content}
+use Rattle.columnar_base.specs.Numbers.{unsigned_row_of}
+use Rattle.columnar_base.specs.Texts.{text_row}
+use Rattle.columnar_base.specs.declared.fault.GrowError.{GrowError}
+use Rattle.columnar_base.specs.declared.fault.GrowError.TheVariants.{Memory, Length, Offset, Format as FormatError}
+use Rattle.columnar_lists.specs.Lists.{lists_format}
+
+-- one slice of bytes
+abbrev pub bytes_format : Format
+bytes_format = elements_format 1 1 (unsigned_row_of w8)
+
+-- strings over bounds of the format b: lists of bytes
+abbrev pub strings_format : Format → Format
+strings_format b = lists_format b bytes_format
+
+-- bs may be what a value shows: its type names this text, or names none
+abbrev pub Shows : Option (List ℕ) → List ℕ → Type 0
+Shows o bs = IfSome o (λ text. bs ≡ text)
+
+-- why a value may not be shown: want of memory, or that it failed
+abbrev pub IsUnshown : GrowError → Type 0
+IsUnshown Memory = Unit {0}
+IsUnshown FormatError = Unit {0}
+IsUnshown Length = ⊥
+IsUnshown Offset = ⊥
+
+-- one string was added, of a text that the value shows
+pub record AddsShown (f : Format) (old new : Content) (o : Option (List ℕ)) : Type 0 where
+  pub text : List ℕ
+  pub shows : Shows o text
+  pub took : Took f old new (text_row text ∷ [])
+
+-- nothing was added: the value failed, memory was refused, or a text that it shows may not be held
+abbrev pub RefusesShown : Format → Content → Content → Option (List ℕ) → GrowError → Type 0
+RefusesShown f old new o FormatError = Stayed f old new
+RefusesShown f old new o Memory = Stayed f old new
+RefusesShown f old new o Length = (text : List ℕ) × (Shows o text × Refused f old new (text_row text ∷ []) Length)
+RefusesShown f old new o Offset = (text : List ℕ) × (Shows o text × Refused f old new (text_row text ∷ []) Offset)

@@ -1,0 +1,66 @@
+//! The text that a value shows, as a string.
+ghost use Rattle.std.specs.Prelude.{◌≡◌, ◌++◌, IfOk, IfErr, OnOk, IfSome};
+ghost use Rattle.columnar_base.specs.Format.{both, IsSound};
+ghost use Rattle.columnar_strings.specs.Strings.{AddsShown, IsUnshown, RefusesShown, Shows, strings_format};
+
+use super::Strings;
+use columnar_base::fault::GrowError;
+use columnar_base::traits::{Column, Push};
+use columnar_core::offsets::Offsets;
+use columnar_lists::parts::push_list;
+use std::alloc::Global;
+use std::fmt::{self, Display, Write};
+
+// What a value has shown, and whether memory was refused for it.
+#[derive(Drop)]
+struct Shown {
+    text: Vec<u8>,
+    refused: bool,
+}
+
+impl Write for Shown {
+    ghost write_str_gives = { λ s bs t. t.text.items ≡ s.text.items ++ bs };
+
+    fn write_str(&mut self, s: &str) -> fmt::Result {
+        match self.text.extend_from_slice(s.as_bytes()) {
+            Ok(()) => Ok(()),
+            Err(_) => {
+                self.refused = true;
+                Err(fmt::Error)
+            }
+        }
+    }
+}
+
+// The text that a value shows; Memory where memory was refused for it, and else Format where the value failed.
+fn text_of<D: Display>(alloc: Global, value: &D) -> Result<Vec<u8>, GrowError>
+    ensures ok { IfOk result (λ v. Shows (D.output value.now) v.items) }
+    ensures err { IfErr result IsUnshown }
+{
+    let mut shown = Shown {
+        text: Vec::new(alloc),
+        refused: false,
+    };
+    let written = shown.write(value);
+    if shown.refused {
+        return Err(GrowError::Memory);
+    }
+    match written {
+        Ok(()) => Ok(shown.text),
+        Err(_) => Err(GrowError::Format),
+    }
+}
+
+impl<BC: Offsets + Push<u64>> Strings<BC, Vec<u8>> {
+    /// Adds the text that the value shows, as one string. It is refused as a push of this text, and by Format where the
+    /// value itself failed; nothing is then left of it, and the rows and the lengths of both parts are as before. Takes
+    /// memory for the text besides.
+    pub fn push_display<D: Display>(&mut self, value: &D) -> Result<(), GrowError>
+        requires sound { IsSound (strings_format BC.format) (⟦<Strings<BC, Vec<u8>> as Column>⟧.content self.old) }
+        ensures ok { OnOk result (AddsShown (strings_format BC.format) (⟦<Strings<BC, Vec<u8>> as Column>⟧.content self.old) (⟦<Strings<BC, Vec<u8>> as Column>⟧.content self.new) (D.output value.now)) }
+        ensures err { IfErr result (RefusesShown (strings_format BC.format) (⟦<Strings<BC, Vec<u8>> as Column>⟧.content self.old) (⟦<Strings<BC, Vec<u8>> as Column>⟧.content self.new) (D.output value.now)) }
+    {
+        let text = text_of(*self.values.allocator(), value)?;
+        push_list(&mut self.bounds, &mut self.values, text.as_slice())
+    }
+}

@@ -1,0 +1,8 @@
+-- Lists of numbers that agree.
+use Rattle.std.specs.Prelude.{ℕ, Bool, true, false, List, [], ◌∷◌, nat_eq, ◌&&◌}
+
+-- do two lists of numbers agree
+abbrev pub numbers_eq : List ℕ → List ℕ → Bool
+numbers_eq [] [] = true
+numbers_eq (n ∷ ns) (m ∷ ms) = nat_eq n m && numbers_eq ns ms
+numbers_eq _ _ = false

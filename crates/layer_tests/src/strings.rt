@@ -1,0 +1,4 @@
+// Columns of strings.
+mod refused;
+mod runs;
+mod texts;

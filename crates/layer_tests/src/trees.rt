@@ -1,0 +1,8 @@
+// Columns of trees.
+mod forests;
+mod grove;
+mod layouts;
+mod lines;
+mod refused;
+mod texts;
+mod worked;

@@ -1,0 +1,98 @@
+// Every layout of up to five nodes is refused that is no forest's; what has lost or got a word is, too.
+use super::forests::FORESTS;
+use columnar_core::bytes::Check;
+use columnar_core::fault::StoreFault;
+use columnar_core::view::View;
+use columnar_nested::trees::Trees;
+use std::alloc::{AllocError, Global};
+use std::test::Fail;
+
+// The lowest digits of a number
+fn digits(out: &mut Vec<u64>, number: u64, base: u64, count: u32) -> Result<(), AllocError> {
+    out.clear();
+    let mut left = number;
+    for _ in 0..count {
+        out.push(left % base.max(1))?;
+        left /= base.max(1);
+    }
+    Ok(())
+}
+
+// All rising lists of numbers below `count`
+fn rising(alloc: Global, count: u32) -> Result<Vec<Vec<u64>>, AllocError> {
+    let mut lists = Vec::new(alloc);
+    for number in 0..2u64.saturating_pow(count) {
+        let mut list = Vec::new(alloc);
+        let mut left = number;
+        for place in 0..count {
+            if left % 2 == 1 {
+                list.push(u64::from(place))?;
+            }
+            left /= 2;
+        }
+        lists.push(list)?;
+    }
+    Ok(lists)
+}
+
+// What a test says of these groups and bounds, of so many values
+fn judged(groups: &[u64], bounds: &[u64], values: &[u64]) -> Result<(), StoreFault> {
+    let layout = Trees {
+        groups: View::from_slice(groups),
+        bounds: View::from_slice(bounds),
+        values: View::from_slice(values),
+    };
+    layout.check()
+}
+
+// How many layouts of so many nodes are accepted, among all bounds and all rising groups of numbers up to that one; None
+// where another rule than that of trees is named
+fn accepted(alloc: Global, nodes: u32) -> Result<Option<usize>, Fail> {
+    let count = nodes.saturating_add(1);
+    let groups = rising(alloc, count)?;
+    let mut bounds = Vec::new(alloc);
+    let mut values = Vec::new(alloc);
+    digits(&mut values, 0, 2, nodes)?;
+    let mut found = 0usize;
+    for number in 0..u64::from(count).saturating_pow(count) {
+        digits(&mut bounds, number, u64::from(count), count)?;
+        for list in groups.iter() {
+            match judged(list.as_slice(), bounds.as_slice(), values.as_slice()) {
+                Ok(()) => found = found.saturating_add(1),
+                Err(StoreFault::Tree(0)) => {}
+                Err(_) => return Ok(None),
+            }
+        }
+    }
+    Ok(Some(found))
+}
+
+#[test]
+fn all_small_layouts(rt: HostRuntime) -> Result<(), Fail> {
+    for nodes in 0..6 {
+        assert_eq!(rt; accepted(rt.alloc(), nodes)?, Some(FORESTS[nodes as usize]));
+    }
+    Ok(())
+}
+
+#[test]
+fn other_lengths(rt: HostRuntime) -> Result<(), Fail> {
+    let groups = [0u64, 3, 4, 6, 6];
+    let bounds = [0u64, 3, 3, 3, 4, 6, 6, 7];
+    let values = [1u64, 2, 3, 100, 200, 300, 400];
+    for g in 0..=groups.len() {
+        for b in 0..=bounds.len() {
+            for v in 0..=values.len() {
+                let wanted = match (g, b, v) {
+                    // no trees; the first two; all three
+                    (1, 1, 0) | (3, 5, 4) | (4, 7, 6) => Ok(()),
+                    // the first alone
+                    (2, 4, 3) => Ok(()),
+                    _ => Err(StoreFault::Tree(0)),
+                };
+                assert_eq!(rt; judged(&groups[..g], &bounds[..b], &values[..v]), wanted);
+            }
+        }
+    }
+    Ok(())
+}

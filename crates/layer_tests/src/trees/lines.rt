@@ -1,0 +1,88 @@
+// Trees of a million nodes, in one line and side by side: without a deep stack.
+use super::grove::{Grove, kid_of, node_of};
+use columnar_core::traits::{Column, Item};
+use columnar_nested::tree::Tree;
+use columnar_nested::trees::{NodeBounds, TreesRef};
+use std::alloc::{AllocError, Global};
+use std::test::Fail;
+
+const MILLION: usize = 1_000_000;
+
+// So many nodes of one value, each the one kid of the next
+pub(super) fn line<T: Copy>(alloc: Global, value: T, nodes: usize) -> Result<Tree<T>, AllocError> {
+    let mut tree = Tree {
+        value,
+        kids: Vec::new(alloc),
+    };
+    for _ in 1..nodes {
+        let mut kids = Vec::new(alloc);
+        kids.push(tree)?;
+        tree = Tree { value, kids };
+    }
+    Ok(tree)
+}
+
+// A node of one value with so many kids of it
+pub(super) fn broad<T: Copy>(alloc: Global, value: T, kids: usize) -> Result<Tree<T>, AllocError> {
+    let mut all = Vec::new(alloc);
+    for _ in 0..kids {
+        let kids = Vec::new(alloc);
+        all.push(Tree { value, kids })?;
+    }
+    Ok(Tree { value, kids: all })
+}
+
+// How many nodes a walk meets that goes down by the last kid of each, up to so many
+fn walked<V: Column + Copy, B: NodeBounds + Copy>(root: TreesRef<V, B>, most: usize) -> usize
+    requires { ⟦<TreesRef<V, B> as Item>⟧.valid root }
+{
+    let mut node = root;
+    for met in 1..most {
+        let kids = node.kids();
+        if kids == 0 {
+            return met;
+        }
+        node = node.child(kids - 1);
+    }
+    most
+}
+
+#[test]
+fn a_line_of_a_million_nodes(rt: HostRuntime) -> Result<(), Fail> {
+    let alloc = rt.alloc();
+    let numbers = line(alloc, 3usize, MILLION)?;
+    assert_eq!(rt; numbers.sum(), Ok(3 * MILLION));
+    let copy = numbers.clone()?;
+    drop(numbers);
+    assert_eq!(rt; copy.sum(), Ok(3 * MILLION));
+    let mut grove = Grove::<Vec<u64>>::new(alloc)?;
+    grove.push(line(alloc, 7u64, MILLION)?)?;
+    assert_eq!(rt; grove.trees.groups.as_slice(), [0, 1_000_000].as_slice());
+    assert_eq!(rt; grove.trees.bounds.len(), MILLION + 1);
+    assert_eq!(rt; grove.trees.values.len(), MILLION);
+    match grove.root(0) {
+        Some(root) => assert_eq!(rt; walked(root, 2 * MILLION), MILLION),
+        None => assert!(rt; false),
+    }
+    Ok(())
+}
+
+#[test]
+fn a_million_kids(rt: HostRuntime) -> Result<(), Fail> {
+    let alloc = rt.alloc();
+    let numbers = broad(alloc, 3usize, MILLION - 1)?;
+    assert_eq!(rt; numbers.sum(), Ok(3 * MILLION));
+    let copy = numbers.clone()?;
+    drop(numbers);
+    assert_eq!(rt; copy.sum(), Ok(3 * MILLION));
+    let mut grove = Grove::<Vec<u64>>::new(alloc)?;
+    grove.push(broad(alloc, 7u64, MILLION - 1)?)?;
+    let root = grove.root(0);
+    assert_eq!(rt; node_of(root), Some((7, MILLION - 1)));
+    assert_eq!(rt; node_of(kid_of(root, MILLION - 2)), Some((7, 0)));
+    let copy = grove.trees.clone()?;
+    assert_eq!(rt; copy.groups.as_slice(), grove.trees.groups.as_slice());
+    assert_eq!(rt; copy.bounds.as_slice(), grove.trees.bounds.as_slice());
+    assert_eq!(rt; copy.values.as_slice(), grove.trees.values.as_slice());
+    Ok(())
+}

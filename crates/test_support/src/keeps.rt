@@ -1,0 +1,264 @@
+//! Calls that take memory, with whatever request for it refused: each is done, or nothing has changed.
+ghost use Rattle.std.specs.Prelude.{IsTrue};
+ghost use Rattle.columnar_base.specs.Format.{IsSound, representable};
+ghost use Rattle.columnar_bytes.specs.Stashes.{stash_content};
+
+use crate::stashes::{variant, writes};
+use crate::stores::front;
+use columnar_bytes::indexed::encode;
+use columnar_bytes::stash::Stash;
+use columnar_core::bytes::{AsBytes, Stored};
+use columnar_core::container::{ContainerBytes, ExtendFrom, Storage};
+use columnar_core::fault::{EncodeError, GrowError};
+use columnar_core::traits::{Item, Len, Push, PushRef};
+use std::alloc::Global;
+use std::iter::once;
+
+/// A push is done, or refused and then done.
+pub fn push_keeps<T: Item + Copy, C: ContainerBytes + Storage + Push<T>>(
+    stash: &mut Stash<C, Vec<u8>>,
+    item: T,
+    before: &[u64],
+    after: &[u64],
+) -> bool
+    requires representable { IsTrue (representable C.format) }
+    requires sound { IsSound C.format (stash_content stash.old) }
+    requires valid { T.valid item }
+    ensures { IsSound C.format (stash_content stash.new) }
+{
+    let held = variant(stash);
+    match stash.push(item) {
+        Ok(()) => {}
+        Err(error) => {
+            let kept = variant(stash) == held && writes(stash, before);
+            if error != GrowError::Memory || !kept || stash.push(item).is_err() {
+                return false;
+            }
+        }
+    }
+    variant(stash) == 0 && writes(stash, after)
+}
+
+/// The same of a push by reference.
+pub fn push_ref_keeps<T: Item, C: ContainerBytes + Storage + PushRef<T>>(
+    stash: &mut Stash<C, Vec<u8>>,
+    item: &T,
+    before: &[u64],
+    after: &[u64],
+) -> bool
+    requires representable { IsTrue (representable C.format) }
+    requires sound { IsSound C.format (stash_content stash.old) }
+    requires valid { T.valid item.now }
+    ensures { IsSound C.format (stash_content stash.new) }
+{
+    let held = variant(stash);
+    match stash.push_ref(item) {
+        Ok(()) => {}
+        Err(error) => {
+            let kept = variant(stash) == held && writes(stash, before);
+            if error != GrowError::Memory || !kept || stash.push_ref(item).is_err() {
+                return false;
+            }
+        }
+    }
+    variant(stash) == 0 && writes(stash, after)
+}
+
+/// The same of a copy of the first rows of a view.
+pub fn copy_keeps<V: Len + Copy, C: ContainerBytes + Storage + ExtendFrom<V>>(
+    stash: &mut Stash<C, Vec<u8>>,
+    view: V,
+    count: usize,
+    before: &[u64],
+    after: &[u64],
+) -> bool
+    requires representable { IsTrue (representable C.format) }
+    requires sound { IsSound C.format (stash_content stash.old) }
+    requires view_sound { IsSound V.format (V.content view) }
+    ensures { IsSound C.format (stash_content stash.new) }
+{
+    let held = variant(stash);
+    if count > view.len() {
+        return false;
+    }
+    match stash.extend_from_self(view, 0..count) {
+        Ok(()) => {}
+        Err(error) => {
+            let kept = variant(stash) == held && writes(stash, before);
+            if error != GrowError::Memory
+                || !kept
+                || stash.extend_from_self(view, 0..count).is_err()
+            {
+                return false;
+            }
+        }
+    }
+    variant(stash) == 0 && writes(stash, after)
+}
+
+/// Room for a view is made, or not; the rows stay.
+pub fn room_keeps<V: Len + Copy, C: ContainerBytes + Storage + ExtendFrom<V>>(
+    stash: &mut Stash<C, Vec<u8>>,
+    view: V,
+    before: &[u64],
+) -> bool
+    requires representable { IsTrue (representable C.format) }
+    requires sound { IsSound C.format (stash_content stash.old) }
+    ensures { IsSound C.format (stash_content stash.new) }
+{
+    let held = variant(stash);
+    let kept = match stash.reserve_for(once(view)) {
+        Ok(()) => variant(stash) == 0,
+        Err(error) => error == GrowError::Memory && variant(stash) == held,
+    };
+    kept && writes(stash, before)
+}
+
+/// An empty column with room for a view is made, or not.
+pub fn room_is_made_or_refused<V: Len + Copy, C: ContainerBytes + Storage + ExtendFrom<V>>(
+    alloc: Global,
+    view: V,
+) -> bool {
+    match Stash::<C, Vec<u8>>::with_capacity_for(alloc, once(view)) {
+        Ok(stash) => stash.is_empty() && variant(&stash) == 0,
+        Err(error) => error == GrowError::Memory,
+    }
+}
+
+/// A cut is done, or refused and then done.
+pub fn cut_keeps<C: ContainerBytes + Storage>(
+    stash: &mut Stash<C, Vec<u8>>,
+    count: usize,
+    before: &[u64],
+    after: &[u64],
+) -> bool
+    requires representable { IsTrue (representable C.format) }
+    requires sound { IsSound C.format (stash_content stash.old) }
+    ensures { IsSound C.format (stash_content stash.new) }
+{
+    let held = variant(stash);
+    if count > stash.len() {
+        return false;
+    }
+    match stash.truncate(count) {
+        Ok(()) => {}
+        Err(error) => {
+            let kept = variant(stash) == held && writes(stash, before);
+            if error != GrowError::Memory || !kept || stash.truncate(count).is_err() {
+                return false;
+            }
+        }
+    }
+    variant(stash) == 0 && writes(stash, after)
+}
+
+/// What a stash is turned into has the same words, and the stash is as it was; so it is after a refusal.
+pub fn turns_keep<C: ContainerBytes + Storage>(
+    alloc: Global,
+    stash: &Stash<C, Vec<u8>>,
+    words: &[u64],
+) -> bool
+    requires representable { IsTrue (representable C.format) }
+    requires sound { IsSound C.format (stash_content stash.now) }
+{
+    let held = variant(stash);
+    let typed = match stash.to_typed(alloc) {
+        Ok(typed) => variant(&typed) == 0 && writes(&typed, words),
+        Err(error) => error == GrowError::Memory,
+    };
+    let aligned = match stash.to_aligned(alloc) {
+        Ok(aligned) => variant(&aligned) == 2 && writes(&aligned, words),
+        Err(error) => error == EncodeError::Memory,
+    };
+    typed && aligned && variant(stash) == held && writes(stash, words)
+}
+
+/// A clone and a duplicate are of the same variant and have the same words, and the stash is as it was; so it is after a
+/// refusal.
+pub fn clones_keep<C: ContainerBytes + Storage + Clone>(
+    alloc: Global,
+    stash: &Stash<C, Vec<u8>>,
+    words: &[u64],
+) -> bool
+    requires { IsTrue (representable C.format) }
+{
+    let held = variant(stash);
+    let cloned = match stash.clone() {
+        Ok(copy) => variant(&copy) == held && writes(&copy, words),
+        Err(_) => true,
+    };
+    let same = match stash.duplicate(alloc) {
+        Ok(copy) => variant(&copy) == held && writes(&copy, words),
+        Err(error) => error == GrowError::Memory,
+    };
+    cloned && same && variant(stash) == held && writes(stash, words)
+}
+
+/// The bytes are aligned in place, or the stash is as it was.
+pub fn aligning_keeps<C: ContainerBytes + Storage>(
+    alloc: Global,
+    stash: &mut Stash<C, Vec<u8>>,
+    words: &[u64],
+) -> bool
+    requires representable { IsTrue (representable C.format) }
+    requires sound { IsSound C.format (stash_content stash.old) }
+    ensures { IsSound C.format (stash_content stash.new) }
+{
+    let held = variant(stash);
+    let made = match stash.make_aligned(alloc) {
+        Ok(_) => Ok(()),
+        Err(error) => Err(error),
+    };
+    let kept = match made {
+        Ok(()) => variant(stash) == 2,
+        Err(error) => error == EncodeError::Memory && variant(stash) == held,
+    };
+    kept && writes(stash, words)
+}
+
+/// The bytes are loaded in place, or the stash is as it was.
+pub fn loading_keeps<C: ContainerBytes + Drop>(stash: &mut Stash<C, Vec<u8>>, words: &[u64]) -> bool
+    requires { IsTrue (representable C.format) }
+{
+    let held = variant(stash);
+    let made = match stash.make_typed() {
+        Ok(_) => Ok(()),
+        Err(error) => Err(error),
+    };
+    let kept = match made {
+        Ok(()) => variant(stash) == 0,
+        Err(error) => error == GrowError::Memory && variant(stash) == held,
+    };
+    kept && writes(stash, words)
+}
+
+/// The words of a column are appended, or the store is as it was.
+pub fn encoding_keeps<'a, S: AsBytes<'a>>(alloc: Global, item: &S, words: &[u64]) -> bool
+    requires { IsTrue (representable S.format) }
+{
+    let Ok(mut store) = [1, 2].to_vec(alloc) else {
+        return true;
+    };
+    match encode(&mut store, item) {
+        Ok(()) => {
+            front(store.as_slice(), 2) == [1, 2].as_slice() && behind_two(store.as_slice()) == words
+        }
+        Err(error) => error == EncodeError::Memory && store.as_slice() == [1, 2].as_slice(),
+    }
+}
+
+/// The words behind the first two.
+pub fn behind_two(words: &[u64]) -> &[u64] {
+    if words.len() >= 2 { &words[2..] } else { words }
+}
+
+/// The sizes of a type's elements, 8 each, are appended, or the vector is as it was.
+pub fn sizes_keep<C: Stored>(sizes: &mut Vec<usize>) -> bool
+    requires { IsTrue (representable C.format) }
+{
+    let before = sizes.len();
+    match C::element_sizes(sizes) {
+        Ok(()) => sizes.len().saturating_sub(before) == C::slice_count(),
+        Err(error) => error == GrowError::Memory && sizes.len() == before,
+    }
+}

@@ -1,0 +1,11 @@
+//! What the crates of tests share: calls that are proved once for all containers, stores that are written as words, and
+//! writers. Each asks what the calls that it makes ask, and keeps a column well formed; what they answer is for the tests
+//! to compare.
+#![tactic(auto)]
+
+pub mod columns;
+pub mod keeps;
+pub mod stashes;
+pub mod stores;
+pub mod trials;
+pub mod writers;

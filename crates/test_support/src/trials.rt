@@ -1,0 +1,200 @@
+//! All of them over one column, given the words that it has and those that it comes to have.
+ghost use Rattle.std.specs.Prelude.{All, IsTrue};
+ghost use Rattle.columnar_base.specs.Format.{IsSound, representable};
+ghost use Rattle.columnar_bytes.specs.Stashes.{stash_content};
+ghost use Rattle.columnar_bytes.specs.Machine.{IsValid};
+
+use crate::keeps::{
+    aligning_keeps, clones_keep, copy_keeps, cut_keeps, encoding_keeps, loading_keeps, push_keeps,
+    push_ref_keeps, room_is_made_or_refused, room_keeps, turns_keep,
+};
+use crate::stashes::{opened, variant, writes};
+use crate::stores::bytes_of;
+use columnar_bytes::indexed::validate;
+use columnar_bytes::stash::{Command, Refusal, Reply, Stash, run};
+use columnar_core::bytes::AsBytes;
+use columnar_core::container::{ContainerBytes, ExtendFrom, Storage};
+use columnar_core::fault::{EncodeError, GrowError};
+use columnar_core::traits::{Item, Len, Push, PushRef};
+use std::alloc::Global;
+
+/// The words of a column and of what it becomes in the calls of a test.
+#[derive(Drop)]
+pub struct Trial<'a> {
+    /// The words of the column, and how many rows it has.
+    pub before: &'a [u64],
+    pub rows: usize,
+    /// The words with one item more.
+    pub after: &'a [u64],
+    /// The words of the source, how many of its rows are copied, into which words, and what these become.
+    pub source: &'a [u64],
+    pub taken: usize,
+    pub into: &'a [u64],
+    pub with_taken: &'a [u64],
+}
+
+/// Pushes to bytes and to a column.
+pub fn both_pushes_keep<T: Item + Copy, C: ContainerBytes + Storage + Push<T>>(
+    alloc: Global,
+    item: T,
+    trial: &Trial<'_>,
+) -> bool
+    requires representable { IsTrue (representable C.format) }
+    requires valid { T.valid item }
+{
+    let Some(mut stash) = opened::<C>(alloc, trial.before) else {
+        return true;
+    };
+    let Ok(mut typed) = stash.to_typed(alloc) else {
+        return true;
+    };
+    push_keeps(&mut stash, item, trial.before, trial.after)
+        && push_keeps(&mut typed, item, trial.before, trial.after)
+}
+
+/// Pushes of an item by value and by reference, to bytes and to a column.
+pub fn pushes_keep<
+    'a,
+    T: Item + Copy,
+    C: ContainerBytes + Storage + Push<T> + Push<&'a T> + PushRef<T>,
+>(alloc: Global, item: &'a T, trial: &Trial<'_>) -> bool
+    requires representable { IsTrue (representable C.format) }
+    requires valid { T.valid item.now }
+{
+    let Some(mut stash) = opened::<C>(alloc, trial.before) else {
+        return true;
+    };
+    let Ok(mut typed) = stash.to_typed(alloc) else {
+        return true;
+    };
+    both_pushes_keep::<T, C>(alloc, *item, trial)
+        && both_pushes_keep::<&'a T, C>(alloc, item, trial)
+        && push_ref_keeps(&mut stash, item, trial.before, trial.after)
+        && push_ref_keeps(&mut typed, item, trial.before, trial.after)
+}
+
+/// Copies of rows, and room for them: in bytes, in a column and in an empty one.
+pub fn copies_keep<V: Len + Copy, C: ContainerBytes + Storage + ExtendFrom<V>>(
+    alloc: Global,
+    source: V,
+    trial: &Trial<'_>,
+) -> bool
+    requires representable { IsTrue (representable C.format) }
+    requires source_sound { IsSound V.format (V.content source) }
+{
+    let Some(mut stash) = opened::<C>(alloc, trial.into) else {
+        return true;
+    };
+    let Ok(mut typed) = stash.to_typed(alloc) else {
+        return true;
+    };
+    let Some(mut roomy) = opened::<C>(alloc, trial.into) else {
+        return true;
+    };
+    room_is_made_or_refused::<V, C>(alloc, source)
+        && room_keeps(&mut roomy, source, trial.into)
+        && room_keeps(&mut typed, source, trial.into)
+        && copy_keeps(
+            &mut stash,
+            source,
+            trial.taken,
+            trial.into,
+            trial.with_taken,
+        )
+        && copy_keeps(
+            &mut typed,
+            source,
+            trial.taken,
+            trial.into,
+            trial.with_taken,
+        )
+}
+
+/// Bytes and a column are loaded, copied, aligned, cloned and cut.
+pub fn turns_and_clones_keep<C: ContainerBytes + Storage + Clone>(
+    alloc: Global,
+    trial: &Trial<'_>,
+) -> bool
+    requires { IsTrue (representable C.format) }
+{
+    let words = trial.after;
+    let Some(mut stash) = opened::<C>(alloc, words) else {
+        return true;
+    };
+    let Ok(mut typed) = stash.to_typed(alloc) else {
+        return true;
+    };
+    turns_keep(alloc, &stash, words)
+        && turns_keep(alloc, &typed, words)
+        && clones_keep(alloc, &stash, words)
+        && clones_keep(alloc, &typed, words)
+        && aligning_keeps(alloc, &mut stash, words)
+        && turns_keep(alloc, &stash, words)
+        && clones_keep(alloc, &stash, words)
+        && aligning_keeps(alloc, &mut typed, words)
+        && loading_keeps(&mut typed, words)
+        && cut_keeps(&mut stash, trial.rows, words, trial.before)
+}
+
+/// Do the words break a rule, where there is memory to test it?
+pub fn is_refused<C: ContainerBytes + Storage>(alloc: Global, words: &[u64]) -> bool
+    requires { IsTrue (representable C.format) }
+{
+    match bytes_of(alloc, words) {
+        Ok(bytes) => validate::<C>(bytes.as_slice()).is_err(),
+        Err(_) => false,
+    }
+}
+
+/// Is no store of the test refused? Else it would end before the calls that it tests.
+pub fn is_lawful<C: ContainerBytes + Storage>(alloc: Global, trial: &Trial<'_>) -> bool
+    requires { IsTrue (representable C.format) }
+{
+    !is_refused::<C>(alloc, trial.before)
+        && !is_refused::<C>(alloc, trial.after)
+        && !is_refused::<C>(alloc, trial.source)
+        && !is_refused::<C>(alloc, trial.into)
+}
+
+/// Each call that takes memory, but the pushes.
+pub fn calls_keep<
+    'v,
+    V: AsBytes<'v> + Len + Copy,
+    C: ContainerBytes + Storage + ExtendFrom<V> + Clone,
+>(alloc: Global, source: V, trial: &Trial<'_>) -> bool
+    requires representable { IsTrue (representable C.format) }
+    requires source_representable { IsTrue (representable V.format) }
+    requires source_sound { IsSound V.format (V.content source) }
+{
+    copies_keep::<V, C>(alloc, source, trial)
+        && turns_and_clones_keep::<C>(alloc, trial)
+        && encoding_keeps(alloc, &source, trial.source)
+}
+
+/// A run of one command does it, or tells that memory was refused; the stash is as it was then.
+pub fn run_keeps<T: Item, V: Len + Copy, C: ContainerBytes + Storage + PushRef<T> + ExtendFrom<V>>(
+    alloc: Global,
+    stash: Stash<C, Vec<u8>>,
+    source: V,
+    commands: &[Command<T>],
+    before: &[u64],
+    after: &[u64],
+) -> bool
+    requires representable { IsTrue (representable C.format) }
+    requires sound { IsSound C.format (stash_content stash) }
+    requires source_sound { IsSound V.format (V.content source) }
+    requires valid { All (IsValid T.valid) commands.now }
+{
+    let held = variant(&stash);
+    let (stash, replies) = run(alloc, stash, source, commands);
+    let kept = variant(&stash) == held && writes(&stash, before);
+    match replies {
+        Err(error) => error == GrowError::Memory && kept,
+        Ok(replies) => match replies.as_slice().first() {
+            Some(Reply::Done) => writes(&stash, after),
+            Some(Reply::Refused(Refusal::Grow(GrowError::Memory))) => kept,
+            Some(Reply::Refused(Refusal::Encode(EncodeError::Memory))) => kept,
+            _ => false,
+        },
+    }
+}

@@ -1,0 +1,74 @@
+//! Writers that compare what they are given, or take little of it.
+use std::io::{Error, ErrorKind, Result, Write};
+
+/// Compares what it is given with the bytes of words; takes no memory.
+#[derive(Drop)]
+pub struct Comparing<'a> {
+    words: &'a [u64],
+    taken: usize,
+    same: bool,
+}
+
+impl<'a> Comparing<'a> {
+    /// One that was given nothing yet.
+    pub fn new(words: &'a [u64]) -> Self {
+        Comparing {
+            words,
+            taken: 0,
+            same: true,
+        }
+    }
+
+    /// Was it given all of the words, and nothing else?
+    pub fn is_same(&self) -> bool {
+        self.same && self.taken % 8 == 0 && self.taken / 8 == self.words.len()
+    }
+}
+
+impl<'a> Write for Comparing<'a> {
+    fn write(&mut self, buf: &[u8]) -> Result<usize> {
+        for byte in buf {
+            let index = self.taken / 8;
+            if index >= self.words.len() {
+                self.same = false;
+            } else if self.words[index].to_le_bytes()[self.taken % 8] != *byte {
+                self.same = false;
+            }
+            self.taken = self.taken.saturating_add(1);
+        }
+        Ok(buf.len())
+    }
+
+    fn flush(&mut self) -> Result<()> {
+        Ok(())
+    }
+}
+
+/// Takes at most one byte a call. Once `limit` bytes are taken it fails, or takes nothing more where it has no fault.
+#[derive(Drop)]
+pub struct Slow {
+    /// What it has taken.
+    pub taken: Vec<u8>,
+    /// How many bytes it takes.
+    pub limit: usize,
+    /// How it fails then.
+    pub kind: Option<ErrorKind>,
+}
+
+impl Write for Slow {
+    fn write(&mut self, buf: &[u8]) -> Result<usize> {
+        if self.taken.len() >= self.limit {
+            return match self.kind {
+                Some(kind) => Err(Error::from(kind)),
+                None => Ok(0),
+            };
+        }
+        let count = buf.len().min(1);
+        self.taken.extend_from_slice(&buf[..count])?;
+        Ok(count)
+    }
+
+    fn flush(&mut self) -> Result<()> {
+        Ok(())
+    }
+}

@@ -1,12 +1,14 @@
 // Whole stores that were worked by hand: lists of units over bounds that follow a stride, rows of arrays, and the rules that
 // no other test breaks.
 use columnar::bytes::indexed::validate;
+use columnar::bytes::stash::Stash;
 use columnar::primitive::offsets::{Fixeds, Strides};
 use columnar::primitive::{Bools, Empties};
-use columnar::{Len, Options, Vecs};
+use columnar::{Borrow, Check, Len, Options, Vecs};
 use std::alloc::Global;
 use std::io::Error;
 use std::test::Fail;
+use test_support::columns::row_at;
 use test_support::stashes::{opened, row_of};
 use test_support::stores::{bytes_of, front, refusal};
 
@@ -60,6 +62,30 @@ fn lists_of_three_units(rt: HostRuntime) -> Result<(), Fail> {
         refusal::<Threes>(rt.alloc(), seven_units.as_slice())?,
         (11, 0)
     );
+    Ok(())
+}
+
+#[test]
+fn a_hundred_lists_of_three_follow_a_stride(rt: HostRuntime) -> Result<(), Fail> {
+    let words = [32u64, 48, 48, 56, 3, 100, 300];
+    let spans = opened::<Spans>(rt.alloc(), words.as_slice()).expect(&rt, "lists");
+    let Stash::Typed(lists) = spans.to_typed(rt.alloc())? else {
+        return Err(Fail::from("not a column"));
+    };
+    let Ok(bounds) = Fixeds::<3>::try_from(lists.bounds) else {
+        return Err(Fail::from("not multiples"));
+    };
+    assert_eq!(rt; bounds.count, 100);
+    let threes = Threes {
+        bounds,
+        values: lists.values,
+    };
+    let view = threes.borrow();
+    assert!(rt; view.check().is_ok());
+    for i in 0..100 {
+        let list = row_at(&view, i).expect(&rt, "a list");
+        assert_eq!(rt; list.len(), 3);
+    }
     Ok(())
 }
 

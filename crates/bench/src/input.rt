@@ -68,3 +68,36 @@ pub fn lists(
     }
     Some(lists)
 }
+
+fn word_of_letters(alloc: Global, seed: u64) -> Option<String> {
+    let mut text = String::new(alloc);
+    for letter in 0..(seed % 17) as u32 {
+        text.push(char::from(97 + ((seed >> (letter * 3)) % 26) as u8))
+            .ok()?;
+    }
+    Some(text)
+}
+
+pub fn records(
+    alloc: Global,
+    count: usize,
+    random: &mut Random,
+) -> Option<Vec<(u64, String, Option<u64>)>> {
+    let mut records = Vec::new(alloc);
+    for _record in 0..count {
+        let word = random.next();
+        let third = if word & 4 == 0 { Some(word >> 3) } else { None };
+        records
+            .push((word, word_of_letters(alloc, word)?, third))
+            .ok()?;
+    }
+    Some(records)
+}
+
+pub fn texts<'a>(alloc: Global, records: &'a [(u64, String, Option<u64>)]) -> Option<Vec<&'a str>> {
+    let mut texts = Vec::new(alloc);
+    for record in records {
+        texts.push(record.1.as_str()).ok()?;
+    }
+    Some(texts)
+}

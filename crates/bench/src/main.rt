@@ -28,6 +28,7 @@ mod input;
 mod lists;
 mod numbers;
 mod rows;
+mod strings;
 mod work;
 
 use std::alloc::Global;
@@ -42,6 +43,7 @@ fn all<R: Clock, O: Write>(rt: &R, alloc: Global, out: &mut O) -> Option<()> {
         bits::measure(rt, alloc, out)?;
         numbers::measure(rt, alloc, out)?;
         lists::measure(rt, alloc, out)?;
+        strings::measure(rt, alloc, out)?;
     }
     Some(())
 }

@@ -311,3 +311,57 @@ fn sum_list<'a>(list: &Slice<View<'a, u64>>) -> u64
     }
     sum
 }
+
+#[inline(never)]
+pub fn push_texts<'x, C: Storage + Push<&'x str>>(
+    alloc: Global,
+    texts: &[&'x str],
+) -> Result<C, GrowError>
+    ensures { IfOk result (λ c. IsSound C.format (C.content c)) }
+{
+    let mut column = C::empty(alloc);
+    for text in texts {
+        column.push(*text)?;
+    }
+    Ok(column)
+}
+
+#[inline(never)]
+pub fn push_records<C: Storage + PushRef<(u64, String, Option<u64>)>>(
+    alloc: Global,
+    records: &[(u64, String, Option<u64>)],
+) -> Result<C, GrowError>
+    ensures { IfOk result (λ c. IsSound C.format (C.content c)) }
+{
+    let mut column = C::empty(alloc);
+    for record in records {
+        column.push_ref(record)?;
+    }
+    Ok(column)
+}
+
+#[inline(never)]
+pub fn sum_texts<'a, V: Len + Index<Ref = &'a [u8]>>(view: &V) -> u64
+    requires { IsSound V.format (V.content view.now) }
+{
+    let mut sum = 0u64;
+    for i in 0..view.len() {
+        sum = sum.wrapping_add(view.get(i).len() as u64);
+    }
+    sum
+}
+
+#[inline(never)]
+pub fn sum_records<'a, V: Len + Index<Ref = (u64, &'a [u8], Option<u64>)>>(view: &V) -> u64
+    requires { IsSound V.format (V.content view.now) }
+{
+    let mut sum = 0u64;
+    for i in 0..view.len() {
+        let (number, text, other) = view.get(i);
+        sum = sum.wrapping_add(number).wrapping_add(text.len() as u64);
+        if let Some(value) = other {
+            sum = sum.wrapping_add(value);
+        }
+    }
+    sum
+}

@@ -12,6 +12,10 @@ pub use Rattle.columnar_core.specs.RowsLeft
 pub use Rattle.columnar_core.specs.RowsLeftLaws
 pub use Rattle.columnar_core.specs.Words
 pub use Rattle.columnar_core.specs.Bounds
+pub use Rattle.columnar_core.specs.TwoParts
+pub use Rattle.columnar_core.specs.Tuples
+pub use Rattle.columnar_core.specs.TupleLaws
+pub use Rattle.columnar_core.specs.LongTuples
 pub use Rattle.columnar_core.specs.Sent
 pub use Rattle.columnar_sums.specs.Counting
 pub use Rattle.columnar_sums.specs.RankColumns

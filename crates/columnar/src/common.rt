@@ -7,6 +7,7 @@ pub use columnar_core::container::{BorrowIndexAs, Named, PushIndexAs};
 pub use columnar_core::element::{Element, Primitive, Wide};
 pub use columnar_core::iter::IterOwn;
 pub use columnar_core::metered::{MeteredCounts, MeteredWords};
+pub use columnar_core::ordered::OrderedRow;
 pub use columnar_core::slice::Slice;
 pub use columnar_core::tally::{Plain, Tally};
 pub use columnar_core::traits::{Clear, Len, Push, PushInto, PushRef};

@@ -1,5 +1,5 @@
 //! A range of the rows of a column.
-ghost use Rattle.std.specs.Prelude.{ℕ, ◌≡◌, ◌≤◌, ◌-◌, ⊤, Some, refl, max, min, map, take, drop};
+ghost use Rattle.std.specs.Prelude.{ℕ, ◌≡◌, ◌≤◌, ◌-◌, ⊤, Some, refl, max, min, length, map, take, drop};
 ghost use Rattle.std.specs.Cmp.{on_total, on_po};
 ghost use Rattle.std.specs.Hash as fed;
 ghost use Rattle.std.specs.Range.Bound.{start_index, end_index};
@@ -15,6 +15,7 @@ use crate::ordered::{OrderedRow, compare_rows_of, hash_rows_of, same_rows_as, sa
 use crate::traits::{Column, Index, Item, Len};
 use std::alloc::AllocError;
 use std::cmp::Ordering;
+use std::fmt::{self, Debug, Formatter, Write};
 use std::hash::{Hash, Hasher};
 use std::ops::{Bound, RangeBounds};
 
@@ -56,6 +57,18 @@ impl<S: Column> Slice<S> {
             upper,
             slice,
         }
+    }
+
+    /// All rows of `slice`, from the first to the last. Asks that this is well formed.
+    pub fn whole(slice: S) -> Self
+    where
+        S: Len,
+        requires { IsSound S.format (S.content slice) }
+        ensures lower { result.lower ≡ 0 }
+        ensures upper { result.upper ≡ length (S.format.rows (S.content slice)) }
+        ensures slice { result.slice ≡ slice }
+    {
+        Slice::new(0, slice.len(), slice)
     }
 
     /// Those of its rows whose numbers, as rows of the column, lie in the range. Asks that the first of these numbers
@@ -195,6 +208,17 @@ impl<S: Index<Ref: OrderedRow>> Hash for Slice<S> {
 
     fn hash<H: Hasher>(&self, state: &mut H) {
         hash_rows_of(self, state);
+    }
+}
+
+/// Prints the rows, in brackets.
+impl<S: Index<Ref: Debug>> Debug for Slice<S> {
+    fn fmt<W: Write>(&self, f: &mut Formatter<W>) -> fmt::Result {
+        let mut rows = f.debug_list();
+        for i in 0..self.len() {
+            rows.entry(&self.get(i));
+        }
+        rows.finish()
     }
 }
 

@@ -24,6 +24,7 @@ pub use Rattle.columnar_base.specs.FaultLaws
 pub use Rattle.columnar_base.specs.AlikeLaws
 pub use Rattle.columnar_base.specs.TwoParts
 pub use Rattle.columnar_base.specs.Tuples
+pub use Rattle.columnar_base.specs.TupleLaws
 pub use Rattle.columnar_base.specs.LongTuples
 pub use Rattle.columnar_base.specs.Solos
 pub use Rattle.columnar_base.specs.Change

@@ -3,9 +3,9 @@
 //! stands here. It takes spans, gives spans, and has the bytes of a pair.
 ghost use Rattle.columnar.specs.Row.{tuple};
 ghost use Rattle.columnar.specs.Format.{both, slices_of};
-ghost use Rattle.columnar_base.specs.Tuples.{pair_format};
-ghost use Rattle.columnar_base.specs.TupleLaws.{pair_lawful, pair_storable, same_pair};
-ghost use Rattle.columnar_base.specs.TwoParts.{two_counted};
+ghost use Rattle.columnar.specs.Tuples.{pair_format};
+ghost use Rattle.columnar.specs.TupleLaws.{pair_lawful, pair_storable, same_pair};
+ghost use Rattle.columnar.specs.TwoParts.{two_counted};
 
 use columnar::bytes::ByteSlice;
 use columnar::bytes::indexed::DecodedStore;

@@ -1,15 +1,18 @@
 // Lists of rows.
 ghost use Rattle.std.specs.Prelude.{◌≡◌};
+ghost use Rattle.columnar_base.specs.Format.{IsSound};
 
 use columnar_core::bytes::{AsBytes, Check, Stored};
 use columnar_core::container::{Borrow, ContainerBytes, ExtendFrom, Reborrow, Storage, Truncate};
 use columnar_core::fault::StoreFault;
 use columnar_core::slice::Slice;
-use columnar_core::traits::{Clear, Len};
+use columnar_core::traits::{Clear, Index, Len};
 use columnar_core::view::View;
 use columnar_lists::laws;
 use columnar_lists::vector::Vecs;
 use smallvec::SmallVec;
+use std::alloc::{AllocError, Global};
+use std::fmt::Debug;
 use std::test::Fail;
 use test_support::columns::{copied, count, row_at, takes, takes_ref, takes_rows};
 
@@ -180,5 +183,22 @@ fn lists_of_lists(rt: HostRuntime) -> Result<(), Fail> {
     let inner_list = row_at(&list, 0).expect(&rt, "row 0 of row 1");
     assert_eq!(rt; row_at(&inner_list, 1), Some(2));
     assert_eq!(rt; copy.byte_slice(2).len(), 96);
+    Ok(())
+}
+
+// The rows of a view, as they are printed.
+fn printed<V: Len + Index<Ref: Debug> + Copy>(alloc: Global, view: V) -> Result<String, AllocError>
+    requires { IsSound V.format (V.content view) }
+{
+    format!(in alloc; "{:?}", Slice::whole(view))
+}
+
+#[test]
+fn lists_print_their_rows(rt: HostRuntime) -> Result<(), Fail> {
+    let mut lists = Lists::empty(rt.alloc());
+    assert!(rt; takes(&mut lists, [1u64, 2].as_slice()));
+    assert!(rt; takes(&mut lists, [3u64].as_slice()));
+    let text = printed(rt.alloc(), lists.borrow())?;
+    assert_eq!(rt; text.as_str(), "[[1, 2], [3]]");
     Ok(())
 }

@@ -124,3 +124,15 @@ fn rows_of_parts_are_ordered(rt: HostRuntime) -> Result<(), Fail> {
     assert!(rt; rises_as_row(&Boxed(1u8), &Boxed(2)));
     Ok(())
 }
+
+#[test]
+fn ranges_print_their_rows(rt: HostRuntime) -> Result<(), Fail> {
+    let items = [5u64, 6, 7];
+    let rows = Slice::whole(View::from_slice(items.as_slice()));
+    assert_eq!(rt; ends(rows), (0, 3));
+    let text = format!(in rt.alloc(); "{rows:?}")?;
+    assert_eq!(rt; text.as_str(), "[5, 6, 7]");
+    let text = format!(in rt.alloc(); "{:?}", Slice::new(1, 1, items.as_slice()))?;
+    assert_eq!(rt; text.as_str(), "[]");
+    Ok(())
+}

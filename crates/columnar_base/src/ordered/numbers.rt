@@ -17,12 +17,12 @@ impl OrderedRow for u8 {
     }
 
     fn compare_row(&self, other: &Self) -> Ordering {
-        let (mine, theirs) = (*self, *other);
+        let (mine, theirs): (u8, u8) = (*self, *other);
         mine.cmp(&theirs)
     }
 
     fn hash_row<H: Hasher>(&self, state: &mut H) {
-        let mine = *self;
+        let mine: u8 = *self;
         mine.hash(state);
     }
 }
@@ -35,12 +35,12 @@ impl OrderedRow for u16 {
     }
 
     fn compare_row(&self, other: &Self) -> Ordering {
-        let (mine, theirs) = (*self, *other);
+        let (mine, theirs): (u16, u16) = (*self, *other);
         mine.cmp(&theirs)
     }
 
     fn hash_row<H: Hasher>(&self, state: &mut H) {
-        let mine = *self;
+        let mine: u16 = *self;
         mine.hash(state);
     }
 }
@@ -53,12 +53,12 @@ impl OrderedRow for u32 {
     }
 
     fn compare_row(&self, other: &Self) -> Ordering {
-        let (mine, theirs) = (*self, *other);
+        let (mine, theirs): (u32, u32) = (*self, *other);
         mine.cmp(&theirs)
     }
 
     fn hash_row<H: Hasher>(&self, state: &mut H) {
-        let mine = *self;
+        let mine: u32 = *self;
         mine.hash(state);
     }
 }
@@ -71,12 +71,12 @@ impl OrderedRow for u64 {
     }
 
     fn compare_row(&self, other: &Self) -> Ordering {
-        let (mine, theirs) = (*self, *other);
+        let (mine, theirs): (u64, u64) = (*self, *other);
         mine.cmp(&theirs)
     }
 
     fn hash_row<H: Hasher>(&self, state: &mut H) {
-        let mine = *self;
+        let mine: u64 = *self;
         mine.hash(state);
     }
 }
@@ -89,12 +89,12 @@ impl OrderedRow for u128 {
     }
 
     fn compare_row(&self, other: &Self) -> Ordering {
-        let (mine, theirs) = (*self, *other);
+        let (mine, theirs): (u128, u128) = (*self, *other);
         mine.cmp(&theirs)
     }
 
     fn hash_row<H: Hasher>(&self, state: &mut H) {
-        let mine = *self;
+        let mine: u128 = *self;
         mine.hash(state);
     }
 }
@@ -107,12 +107,12 @@ impl OrderedRow for usize {
     }
 
     fn compare_row(&self, other: &Self) -> Ordering {
-        let (mine, theirs) = (*self, *other);
+        let (mine, theirs): (usize, usize) = (*self, *other);
         mine.cmp(&theirs)
     }
 
     fn hash_row<H: Hasher>(&self, state: &mut H) {
-        let mine = *self;
+        let mine: usize = *self;
         mine.hash(state);
     }
 }
@@ -125,12 +125,12 @@ impl OrderedRow for i8 {
     }
 
     fn compare_row(&self, other: &Self) -> Ordering {
-        let (mine, theirs) = (*self, *other);
+        let (mine, theirs): (i8, i8) = (*self, *other);
         mine.cmp(&theirs)
     }
 
     fn hash_row<H: Hasher>(&self, state: &mut H) {
-        let mine = *self;
+        let mine: i8 = *self;
         mine.hash(state);
     }
 }
@@ -143,12 +143,12 @@ impl OrderedRow for i16 {
     }
 
     fn compare_row(&self, other: &Self) -> Ordering {
-        let (mine, theirs) = (*self, *other);
+        let (mine, theirs): (i16, i16) = (*self, *other);
         mine.cmp(&theirs)
     }
 
     fn hash_row<H: Hasher>(&self, state: &mut H) {
-        let mine = *self;
+        let mine: i16 = *self;
         mine.hash(state);
     }
 }
@@ -161,12 +161,12 @@ impl OrderedRow for i32 {
     }
 
     fn compare_row(&self, other: &Self) -> Ordering {
-        let (mine, theirs) = (*self, *other);
+        let (mine, theirs): (i32, i32) = (*self, *other);
         mine.cmp(&theirs)
     }
 
     fn hash_row<H: Hasher>(&self, state: &mut H) {
-        let mine = *self;
+        let mine: i32 = *self;
         mine.hash(state);
     }
 }
@@ -179,12 +179,12 @@ impl OrderedRow for i64 {
     }
 
     fn compare_row(&self, other: &Self) -> Ordering {
-        let (mine, theirs) = (*self, *other);
+        let (mine, theirs): (i64, i64) = (*self, *other);
         mine.cmp(&theirs)
     }
 
     fn hash_row<H: Hasher>(&self, state: &mut H) {
-        let mine = *self;
+        let mine: i64 = *self;
         mine.hash(state);
     }
 }
@@ -197,12 +197,12 @@ impl OrderedRow for i128 {
     }
 
     fn compare_row(&self, other: &Self) -> Ordering {
-        let (mine, theirs) = (*self, *other);
+        let (mine, theirs): (i128, i128) = (*self, *other);
         mine.cmp(&theirs)
     }
 
     fn hash_row<H: Hasher>(&self, state: &mut H) {
-        let mine = *self;
+        let mine: i128 = *self;
         mine.hash(state);
     }
 }
@@ -215,12 +215,12 @@ impl OrderedRow for isize {
     }
 
     fn compare_row(&self, other: &Self) -> Ordering {
-        let (mine, theirs) = (*self, *other);
+        let (mine, theirs): (isize, isize) = (*self, *other);
         mine.cmp(&theirs)
     }
 
     fn hash_row<H: Hasher>(&self, state: &mut H) {
-        let mine = *self;
+        let mine: isize = *self;
         mine.hash(state);
     }
 }

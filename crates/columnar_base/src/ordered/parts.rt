@@ -18,12 +18,12 @@ impl OrderedRow for bool {
     }
 
     fn compare_row(&self, other: &Self) -> Ordering {
-        let (mine, theirs) = (*self, *other);
+        let (mine, theirs): (bool, bool) = (*self, *other);
         mine.cmp(&theirs)
     }
 
     fn hash_row<H: Hasher>(&self, state: &mut H) {
-        let mine = *self;
+        let mine: bool = *self;
         mine.hash(state);
     }
 }
@@ -36,12 +36,12 @@ impl OrderedRow for char {
     }
 
     fn compare_row(&self, other: &Self) -> Ordering {
-        let (mine, theirs) = (*self, *other);
+        let (mine, theirs): (char, char) = (*self, *other);
         mine.cmp(&theirs)
     }
 
     fn hash_row<H: Hasher>(&self, state: &mut H) {
-        let mine = *self;
+        let mine: char = *self;
         mine.hash(state);
     }
 }

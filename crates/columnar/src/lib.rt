@@ -8,6 +8,7 @@ pub mod boxed;
 pub mod bytes;
 pub mod common;
 pub mod fault;
+pub mod lookback;
 pub mod primitive;
 pub mod rc;
 pub mod string;
@@ -26,6 +27,9 @@ pub use columnar_core::traits::{
     Clear, Column, CopyAs, Index, IndexAs, Item, Len, Push, PushInto, PushRef,
 };
 pub use columnar_lists::vector::Vecs;
+pub use columnar_lookback::lookbacks::Lookbacks;
+pub use columnar_lookback::repeats::Repeats;
+pub use columnar_lookback::same::SameAs;
 pub use columnar_strings::string::Strings;
 pub use columnar_sums::discriminant::Discriminant;
 pub use columnar_sums::option::Options;

@@ -31,6 +31,8 @@ pub mod Tuples
 pub mod TupleLaws
 pub mod LongTuples
 pub mod LongTupleLaws
+pub mod Entries
+pub mod EntryLaws
 pub mod Solos
 pub mod SoloLaws
 pub mod WordViews

@@ -1,5 +1,5 @@
 use Rattle.std.proofs.Common.{◌≡◌, ℕ, ◌<◌, ◌≤◌, Bool, true, false, ◌&&◌, List, [], ◌∷◌, ◌++◌, length, refl, sym, ◌∙◌, ap, arith}
-use Rattle.std.specs.Prelude.{nat_eq, Result, Ok, Err, OnOk, IfErr}
+use Rattle.std.specs.Prelude.{nat_eq, Result, Ok, Err, IfErr}
 use Rattle.std.proofs.lemmas.Bool.{and_parts, and_from, eqb-true, eq-eqb}
 use Rattle.columnar_base.specs.Row.{Row}
 use Rattle.columnar_base.specs.Format.{Format, Content, slice, both, part, plain, Fault, two_broken, IsSound, IsLawful, IsStorable, Fits}
@@ -212,15 +212,7 @@ nested_cut a (b ∷ fs) _ _ n s p = absurd p
 pub tuple_cut : (a b : Format) (fs : List Format) {x y v w : Content} (n : ℕ) → IsSound (tuple_format a b fs) (both x y) → PartsCut a (b ∷ fs) (both x y) (both v w) n → WasCut (tuple_format a b fs) (both x y) (both v w) n
 tuple_cut a b fs {x} {y} {v} {w} n s p = under_cut (tuple_same a b fs) (nested_cut a (b ∷ fs) (both x y) (both v w) n (tuple_back a b fs (both x y) s) p)
 
--- what a call over the parts answers, said of the tuple
-pub took_on_ok : {T : Type 0} (a b : Format) (fs : List Format) (x y : Content) (rs : List Row) (r : Result T GrowError) → OnOk r (Took (nested a (b ∷ fs)) x y rs) → OnOk r (Took (tuple_format a b fs) x y rs)
-took_on_ok a b fs x y rs (Ok u) h = under_took (tuple_same a b fs) h
-took_on_ok a b fs x y rs (Err e) h = tt
-
-pub copied_on_ok : {T : Type 0} (a b : Format) (fs : List Format) (x y : Content) (start : ℕ) (rs : List Row) (r : Result T GrowError) → OnOk r (Copied (nested a (b ∷ fs)) x y start rs) → OnOk r (Copied (tuple_format a b fs) x y start rs)
-copied_on_ok a b fs x y start rs (Ok u) h = under_copied (tuple_same a b fs) h
-copied_on_ok a b fs x y start rs (Err e) h = tt
-
+-- what a call over the parts was refused, said of the tuple
 pub refused_if_err : {T : Type 0} (a b : Format) (fs : List Format) (x y : Content) (rs : List Row) (r : Result T GrowError) → IfErr r (λ e. Refused (nested a (b ∷ fs)) x y rs e) → IfErr r (λ e. Refused (tuple_format a b fs) x y rs e)
 refused_if_err a b fs x y rs (Ok u) h = tt
 refused_if_err a b fs x y rs (Err e) h = under_refused (tuple_same a b fs) h

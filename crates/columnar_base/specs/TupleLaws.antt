@@ -67,7 +67,7 @@ tuples_none (x ∷ xs) [] e h = absurd (omega arith)
 tuples_none (x ∷ xs) (y ∷ ys) e h = cc
 
 -- a range of each of two lists of one length
-length-piece : (xs ys : List Row) (start n : ℕ) → length xs ≡ length ys → length (take n (drop start xs)) ≡ length (take n (drop start ys))
+pub length-piece : (xs ys : List Row) (start n : ℕ) → length xs ≡ length ys → length (take n (drop start xs)) ≡ length (take n (drop start ys))
 length-piece xs ys start n e = rw (length-take, length-drop) (rw (length-take n (drop start ys), length-drop start ys, e) refl)
 
 -- part by part

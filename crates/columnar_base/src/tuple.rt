@@ -2,16 +2,24 @@
 ghost use Rattle.std.specs.Prelude.{◌≡◌, ◌≤◌, length, List, [], ◌∷◌, Ok, OnOk, IfOk, IfErr};
 ghost use Rattle.columnar_base.specs.Row.{tuple};
 ghost use Rattle.columnar_base.specs.Format.{both, IsSound};
-ghost use Rattle.columnar_base.specs.Change.{Took, Refused, Stayed, WasCut};
+ghost use Rattle.columnar_base.specs.Change.{Refused, Stayed, WasCut};
 ghost use Rattle.columnar_base.specs.Tuples.{pair_format};
 ghost use Rattle.columnar_base.specs.TupleLaws.{pair_lawful};
+ghost use Rattle.columnar_base.specs.Entries.{Entry, Entered, Level, joined, pushed};
 
 use crate::fault::GrowError;
 use crate::storage::{Reserve, Storage, Truncate};
 use crate::traits::{Clear, Column, Index, Item, Len, Push, PushInto, PushRef};
 use std::alloc::Global;
 
+pub mod eight;
+pub mod five;
+pub mod four;
+pub mod nine;
 pub mod one;
+pub mod seven;
+pub mod six;
+pub mod ten;
 pub mod three;
 
 /// As a row, it is the tuple of the rows of its parts.
@@ -124,26 +132,30 @@ impl<P: PushInto<(A, B)>, A: Column, B: Column> Push<P> for (A, B) {
 }
 
 /// What is handed to one column, and how the column takes it.
-pub trait Enter<C: Column>: Item {
-    /// Adds a row to the column that is alike to this item, or is refused, as `push`.
+pub trait Enter<C: Column> {
+    // the rows that it adds
+    ghost entry: { Self → Entry };
+
+    // what it asks
+    ghost valid: { Self → Type 0 };
+
+    /// Adds rows that are alike to those of the entry, one for one, or is refused and adds none, as `push`.
     fn enter(self, column: &mut C) -> Result<(), GrowError>
         requires sound { IsSound C.format (C.content column.old) }
         requires valid { Self.valid self }
-        ensures ok { OnOk result (Took C.format (C.content column.old) (C.content column.new) (Self.meaning self ∷ [])) }
-        ensures err { IfErr result (λ e. Refused C.format (C.content column.old) (C.content column.new) (Self.meaning self ∷ []) e) };
+        ensures ok { OnOk result (Entered C.format (C.content column.old) (C.content column.new) (Self.entry self)) }
+        ensures err { IfErr result (λ e. Refused C.format (C.content column.old) (C.content column.new) (Self.entry self).rows e) };
 }
 
 /// An item that is pushed.
 #[derive(Drop)]
 pub struct ByValue<T>(pub T);
 
-impl<T: Item> Item for ByValue<T> {
-    ghost meaning = { λ v. T.meaning v.0 };
+impl<T: Item, C: Push<T>> Enter<C> for ByValue<T> {
+    ghost entry = { λ v. pushed (T.meaning v.0) };
 
     ghost valid = { λ v. T.valid v.0 };
-}
 
-impl<T: Item, C: Push<T>> Enter<C> for ByValue<T> {
     #[inline(always)]
     fn enter(self, column: &mut C) -> Result<(), GrowError> {
         column.push(self.0)
@@ -154,13 +166,11 @@ impl<T: Item, C: Push<T>> Enter<C> for ByValue<T> {
 #[derive(Clone, Copy)]
 pub struct ByRef<'x, T>(pub &'x T);
 
-impl<'x, T: Item> Item for ByRef<'x, T> {
-    ghost meaning = { λ v. T.meaning v.0.now };
+impl<'x, T: Item, C: PushRef<T>> Enter<C> for ByRef<'x, T> {
+    ghost entry = { λ v. pushed (T.meaning v.0.now) };
 
     ghost valid = { λ v. T.valid v.0.now };
-}
 
-impl<'x, T: Item, C: PushRef<T>> Enter<C> for ByRef<'x, T> {
     #[inline(always)]
     fn enter(self, column: &mut C) -> Result<(), GrowError> {
         column.push_ref(self.0)
@@ -211,9 +221,9 @@ pub fn taken_back<A: Truncate>(part: &mut A, rows: usize, error: GrowError) -> G
     error
 }
 
-/// Each of two parts takes its own item. Where one of them refuses it, neither has taken any.
+/// Each of two parts takes what is handed to it. Where one of them refuses it, neither has taken any.
 #[inline(always)]
-pub fn push_two<A: Truncate, B: Column, P: Enter<A>, Q: Enter<B> + Drop>(
+pub fn enter_two<A: Truncate, B: Column, P: Enter<A>, Q: Enter<B> + Drop>(
     first: &mut A,
     second: &mut B,
     p: P,
@@ -222,8 +232,9 @@ pub fn push_two<A: Truncate, B: Column, P: Enter<A>, Q: Enter<B> + Drop>(
     requires sound { IsSound (pair_format A.format B.format) (both (A.content first.old) (B.content second.old)) }
     requires valid_first { P.valid p }
     requires valid_second { Q.valid q }
-    ensures ok { OnOk result (Took (pair_format A.format B.format) (both (A.content first.old) (B.content second.old)) (both (A.content first.new) (B.content second.new)) (tuple (P.meaning p) (Q.meaning q) ∷ [])) }
-    ensures err { IfErr result (λ e. Refused (pair_format A.format B.format) (both (A.content first.old) (B.content second.old)) (both (A.content first.new) (B.content second.new)) (tuple (P.meaning p) (Q.meaning q) ∷ []) e) }
+    requires level { Level (P.entry p) (Q.entry q ∷ []) }
+    ensures ok { OnOk result (Entered (pair_format A.format B.format) (both (A.content first.old) (B.content second.old)) (both (A.content first.new) (B.content second.new)) (joined (P.entry p) (Q.entry q ∷ []))) }
+    ensures err { IfErr result (λ e. Refused (pair_format A.format B.format) (both (A.content first.old) (B.content second.old)) (both (A.content first.new) (B.content second.new)) (joined (P.entry p) (Q.entry q ∷ [])).rows e) }
 {
     let before = first.len();
     p.enter(first)?;
@@ -238,7 +249,7 @@ impl<S: Item, T: Item + Drop, A: Truncate + Push<S>, B: Push<T>> PushInto<(A, B)
     #[inline(always)]
     fn push_into(self, column: &mut (A, B)) -> Result<(), GrowError> {
         let (first, second) = self;
-        push_two(
+        enter_two(
             &mut column.0,
             &mut column.1,
             ByValue(first),
@@ -259,6 +270,6 @@ impl<'x, S: Item, T: Item, A: Truncate + PushRef<S>, B: PushRef<T>> PushInto<(A,
 impl<S: Item, T: Item, A: Truncate + PushRef<S>, B: PushRef<T>> PushRef<(S, T)> for (A, B) {
     #[inline(always)]
     fn push_ref(&mut self, item: &(S, T)) -> Result<(), GrowError> {
-        push_two(&mut self.0, &mut self.1, ByRef(&item.0), ByRef(&item.1))
+        enter_two(&mut self.0, &mut self.1, ByRef(&item.0), ByRef(&item.1))
     }
 }

@@ -41,3 +41,4 @@ pub use Rattle.columnar_base.specs.ResultRows
 pub use Rattle.columnar_base.specs.WordViews
 pub use Rattle.columnar_base.specs.WordViewLaws
 pub use Rattle.columnar_base.specs.Texts
+pub mod LentLaws

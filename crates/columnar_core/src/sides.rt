@@ -170,3 +170,31 @@ pub fn check_tuple<'x, A: Check + Len, R: LentSides, L>(
         Err(StoreFault::Parts(from))
     }
 }
+
+/// The same of a tuple of six parts or more: the first five, and the nest of the others.
+pub fn check_long<
+    'x,
+    A: Check + Len,
+    B: Check + Len,
+    C: Check + Len,
+    D: Check + Len,
+    E: Check + Len,
+    R: LentSides + Copy,
+    L,
+>(
+    a: &'x A,
+    b: &'x B,
+    c: &'x C,
+    d: &'x D,
+    e: &'x E,
+    others: R,
+    from: usize,
+    tally: &mut Tally<L>,
+) -> Result<(), StoreFault>
+    requires representable { IsTrue (representable (tuple_format A.format B.format (C.format ∷ D.format ∷ E.format ∷ R.head ∷ R.others))) }
+    requires counted { from + (tuple_format A.format B.format (C.format ∷ D.format ∷ E.format ∷ R.head ∷ R.others)).count < 2 ^ 64 }
+    ensures exact { verdict result ≡ first (moved from ((tuple_format A.format B.format (C.format ∷ D.format ∷ E.format ∷ R.head ∷ R.others)).broken (both (A.content a.now) (both (B.content b.now) (both (C.content c.now) (both (D.content d.now) (both (E.content e.now) (R.content others)))))))) }
+    ensures turns { tally.new.turns ≤ tally.old.turns + 16 * bytes_held (both (A.content a.now) (both (B.content b.now) (both (C.content c.now) (both (D.content d.now) (both (E.content e.now) (R.content others)))))) }
+{
+    check_tuple(&(a, (b, (c, (d, (e, others))))), from, tally)
+}

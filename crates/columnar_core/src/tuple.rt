@@ -1,10 +1,9 @@
 //! Tuples of containers, side by side: a container of tuples.
-ghost use Rattle.std.specs.Prelude.{◌≡◌, ◌≤◌, ◌-◌, length, take, drop, OnOk, IfErr};
-ghost use Rattle.columnar_base.specs.Format.{both, IsSound, slices_of};
-ghost use Rattle.columnar_base.specs.Change.{Copied, Refused};
-ghost use Rattle.columnar_base.specs.Tuples.{pair_format};
+ghost use Rattle.std.specs.Prelude.{◌≡◌};
+ghost use Rattle.columnar_base.specs.Format.{slices_of};
 ghost use Rattle.columnar_base.specs.TwoParts.{two_counted};
 ghost use Rattle.columnar_base.specs.TupleLaws.{pair_storable, same_pair};
+ghost use Rattle.columnar_base.specs.Entries.{HasPiece, piece};
 
 use crate::byte_slice::ByteSlice;
 use crate::bytes::{AsBytes, Check, FromBytes, Stored};
@@ -15,34 +14,32 @@ use columnar_base::fault::{GrowError, StoreFault};
 use columnar_base::tally::Tally;
 use columnar_base::traits::{Column, Len};
 pub use columnar_base::tuple::parts;
-use columnar_base::tuple::taken_back;
+use columnar_base::tuple::{Enter, enter_two};
 use std::alloc::Global;
 use std::ops::Range;
 
+pub mod eight;
+pub mod five;
+pub mod four;
+pub mod nine;
 pub mod one;
+pub mod seven;
+pub mod six;
+pub mod ten;
 pub mod three;
 
-/// Each of two parts copies the range out of its own view. Where one of them is refused, neither has taken any row.
-pub fn extend_two<P: Column + Copy, Q: Column + Copy, A: ExtendFrom<P>, B: ExtendFrom<Q>>(
-    first: &mut A,
-    second: &mut B,
-    p: P,
-    q: Q,
-    start: usize,
-    end: usize,
-) -> Result<(), GrowError>
-    requires sound { IsSound (pair_format A.format B.format) (both (A.content first.old) (B.content second.old)) }
-    requires view_sound { IsSound (pair_format P.format Q.format) (both (P.content p) (Q.content q)) }
-    requires ordered { start ≤ «end» }
-    requires in_range { «end» ≤ length ((pair_format P.format Q.format).rows (both (P.content p) (Q.content q))) }
-    ensures ok { OnOk result (Copied (pair_format A.format B.format) (both (A.content first.old) (B.content second.old)) (both (A.content first.new) (B.content second.new)) start (take («end» - start) (drop start ((pair_format P.format Q.format).rows (both (P.content p) (Q.content q)))))) }
-    ensures err { IfErr result (λ e. Refused (pair_format A.format B.format) (both (A.content first.old) (B.content second.old)) (both (A.content first.new) (B.content second.new)) (take («end» - start) (drop start ((pair_format P.format Q.format).rows (both (P.content p) (Q.content q))))) e) }
-{
-    let before = first.len();
-    first.extend_from_self(p, start..end)?;
-    match second.extend_from_self(q, start..end) {
-        Ok(()) => Ok(()),
-        Err(error) => Err(taken_back(first, before, error)),
+/// Rows of a view that are copied: from row `.1` on, up to row `.2`.
+#[derive(Clone, Copy)]
+pub struct FromView<V>(pub V, pub usize, pub usize);
+
+impl<V: Column + Copy, C: ExtendFrom<V>> Enter<C> for FromView<V> {
+    ghost entry = { λ v. piece V.format (V.content v.0) v.1 v.2 };
+
+    ghost valid = { λ v. HasPiece V.format (V.content v.0) v.1 v.2 };
+
+    #[inline(always)]
+    fn enter(self, column: &mut C) -> Result<(), GrowError> {
+        column.extend_from_self(self.0, self.1..self.2)
     }
 }
 
@@ -54,13 +51,11 @@ impl<V: Column + Copy, W: Column + Copy, A: ExtendFrom<V>, B: ExtendFrom<W>> Ext
     }
 
     fn extend_from_self(&mut self, view: (V, W), range: Range<usize>) -> Result<(), GrowError> {
-        extend_two(
+        enter_two(
             &mut self.0,
             &mut self.1,
-            view.0,
-            view.1,
-            range.start,
-            range.end,
+            FromView(view.0, range.start, range.end),
+            FromView(view.1, range.start, range.end),
         )
     }
 }

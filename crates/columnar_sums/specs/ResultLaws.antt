@@ -433,8 +433,12 @@ oks_fit a b o ss h = two_fits_left (sides_two a b) (o + 3) ss (two_fits_right (r
 pub errs_fit : (a b : Format) (o : ℕ) (ss : List (List ℕ)) → Fits (results_format a b) o ss → Fits b (o + 3 + a.count) ss
 errs_fit a b o ss h = two_fits_right (sides_two a b) (o + 3) ss (two_fits_right (results_two a b) o ss h)
 
-pub results_turns : (ra rb old mid later new m n o : ℕ) → mid ≤ old + 4 * m → later ≤ mid + (ra * n + rb * o) → new ≤ later + 16 → ra ≤ 16 → rb ≤ 16 → 16 ≤ m → new ≤ old + 16 * (m + (n + o))
-results_turns ra rb old mid later new m n o p q r k l h =
+pub results_turns : (ra rb old mid later new m n o : ℕ) → mid ≤ old + 4 * m → later ≤ mid + (ra * n + rb * o) → new ≤ later + 16 → 16 ≤ m → new ≤ old + (5 * m + (ra * n + rb * o))
+results_turns ra rb old mid later new m n o p q r h = omega arith
+
+-- of the whole, 16 for a byte
+pub results_spread : (ra rb old new m n o : ℕ) → new ≤ old + (5 * m + (ra * n + rb * o)) → ra ≤ 16 → rb ≤ 16 → new ≤ old + 16 * (m + (n + o))
+results_spread ra rb old new m n o p k l =
     let t = two_turns 16 ra rb n o k l in
     omega arith
 

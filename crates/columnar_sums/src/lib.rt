@@ -2,7 +2,7 @@
 #![tactic(auto)]
 
 pub mod discriminant;
-mod marked;
+pub mod marked;
 pub mod option;
 pub mod rank_select;
 pub mod result;

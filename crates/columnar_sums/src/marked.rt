@@ -13,8 +13,8 @@ use columnar_core::traits::{Item, Len, Push, PushRef};
 
 type Held = RankSelect<Vec<u64>, Vec<u64>, [u64; 2]>;
 
-// Pushes a value, and then its bit; both or neither. Where the bit is refused, the value is taken back.
-pub(crate) fn push_marked<T: Item, TC: Truncate + Push<T>>(
+/// Pushes a value, and then its bit; both or neither. Where the bit is refused, the value is taken back.
+pub fn push_marked<T: Item, TC: Truncate + Push<T>>(
     values: &mut TC,
     item: T,
     indexes: &mut Held,
@@ -38,8 +38,8 @@ pub(crate) fn push_marked<T: Item, TC: Truncate + Push<T>>(
     }
 }
 
-// The same of a value by reference.
-pub(crate) fn push_ref_marked<T: Item, TC: Truncate + PushRef<T>>(
+/// The same of a value by reference.
+pub fn push_ref_marked<T: Item, TC: Truncate + PushRef<T>>(
     values: &mut TC,
     item: &T,
     indexes: &mut Held,

@@ -4,7 +4,7 @@ ghost use Rattle.columnar_core.specs.Row.{ok, err};
 ghost use Rattle.columnar_core.specs.Format.{IsSound};
 ghost use Rattle.columnar_sums.specs.Results.{results_format, results_content, AreOks, AreErrs};
 
-mod bytes;
+pub mod bytes;
 mod grow;
 
 use crate::rank_select::RankSelect;

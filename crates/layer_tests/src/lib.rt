@@ -1,5 +1,5 @@
-//! Tests of lists, strings, rows that may be absent, tuples, trees and framing, by their public calls alone. They stand
-//! here and not in the layers' own crates, since a crate with tests is proved twice: once without them, and once with them.
+//! Tests of lists, strings, rows that may be absent, trees and framing, by their public calls alone. They stand here and
+//! not in the layers' own crates, since a crate with tests is proved twice: once without them, and once with them.
 #![tactic(auto)]
 
 #[cfg(test)]
@@ -20,5 +20,3 @@ mod refused;
 mod strings;
 #[cfg(test)]
 mod trees;
-#[cfg(test)]
-mod tuples;

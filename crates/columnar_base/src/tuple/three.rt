@@ -2,15 +2,16 @@
 ghost use Rattle.std.specs.Prelude.{◌≡◌, List, [], ◌∷◌, OnOk, IfErr};
 ghost use Rattle.columnar_base.specs.Row.{tuple};
 ghost use Rattle.columnar_base.specs.Format.{both, IsSound};
-ghost use Rattle.columnar_base.specs.Change.{Took, Refused};
+ghost use Rattle.columnar_base.specs.Change.{Refused};
 ghost use Rattle.columnar_base.specs.TupleLaws.{pair_lawful};
 ghost use Rattle.columnar_base.specs.LongTuples.{nested, tuple_format};
 ghost use Rattle.columnar_base.specs.LongTupleLaws.{tuple_lawful};
+ghost use Rattle.columnar_base.specs.Entries.{Entered, Level, joined};
 
 use crate::fault::GrowError;
 use crate::storage::{Reserve, Storage, Truncate};
 use crate::traits::{Clear, Column, Index, Item, Len, Push, PushInto, PushRef};
-use crate::tuple::{ByRef, ByValue, Enter, duplicate_after, push_two, reserve_after, taken_back};
+use crate::tuple::{ByRef, ByValue, Enter, duplicate_after, enter_two, reserve_after, taken_back};
 use std::alloc::Global;
 
 /// As a row, it is the tuple of the rows of its parts.
@@ -133,9 +134,9 @@ impl<Z: PushInto<(A, B, C)>, A: Column, B: Column, C: Column> Push<Z> for (A, B,
     }
 }
 
-/// Each of three parts takes its own item. Where one of them refuses it, none has taken any.
+/// Each of three parts takes what is handed to it. Where one of them refuses it, none has taken any.
 #[inline(always)]
-pub fn push_three<
+pub fn enter_three<
     A: Truncate,
     B: Truncate,
     C: Column,
@@ -147,12 +148,13 @@ pub fn push_three<
     requires valid_first { P.valid p }
     requires valid_second { Q.valid q }
     requires valid_third { R.valid r }
-    ensures ok { OnOk result (Took (nested A.format (B.format ∷ C.format ∷ [])) (both (A.content first.old) (both (B.content second.old) (C.content third.old))) (both (A.content first.new) (both (B.content second.new) (C.content third.new))) (tuple (P.meaning p) (tuple (Q.meaning q) (R.meaning r)) ∷ [])) }
-    ensures err { IfErr result (λ e. Refused (nested A.format (B.format ∷ C.format ∷ [])) (both (A.content first.old) (both (B.content second.old) (C.content third.old))) (both (A.content first.new) (both (B.content second.new) (C.content third.new))) (tuple (P.meaning p) (tuple (Q.meaning q) (R.meaning r)) ∷ []) e) }
+    requires level { Level (P.entry p) (Q.entry q ∷ R.entry r ∷ []) }
+    ensures ok { OnOk result (Entered (nested A.format (B.format ∷ C.format ∷ [])) (both (A.content first.old) (both (B.content second.old) (C.content third.old))) (both (A.content first.new) (both (B.content second.new) (C.content third.new))) (joined (P.entry p) (Q.entry q ∷ R.entry r ∷ []))) }
+    ensures err { IfErr result (λ e. Refused (nested A.format (B.format ∷ C.format ∷ [])) (both (A.content first.old) (both (B.content second.old) (C.content third.old))) (both (A.content first.new) (both (B.content second.new) (C.content third.new))) (joined (P.entry p) (Q.entry q ∷ R.entry r ∷ [])).rows e) }
 {
     let before = first.len();
     p.enter(first)?;
-    match push_two(second, third, q, r) {
+    match enter_two(second, third, q, r) {
         Ok(()) => Ok(()),
         Err(error) => Err(taken_back(first, before, error)),
     }
@@ -170,7 +172,7 @@ impl<
     #[inline(always)]
     fn push_into(self, column: &mut (A, B, C)) -> Result<(), GrowError> {
         let (p, q, r) = self;
-        push_three(
+        enter_three(
             &mut column.0,
             &mut column.1,
             &mut column.2,
@@ -207,7 +209,7 @@ impl<
 > PushRef<(P, Q, R)> for (A, B, C) {
     #[inline(always)]
     fn push_ref(&mut self, item: &(P, Q, R)) -> Result<(), GrowError> {
-        push_three(
+        enter_three(
             &mut self.0,
             &mut self.1,
             &mut self.2,

@@ -1,8 +1,7 @@
 //! Tuples of three containers.
-ghost use Rattle.std.specs.Prelude.{◌≡◌, ◌≤◌, ◌-◌, List, [], ◌∷◌, length, take, drop, OnOk, IfErr};
+ghost use Rattle.std.specs.Prelude.{◌≡◌, List, [], ◌∷◌};
 ghost use Rattle.std.proofs.Common.{ap};
-ghost use Rattle.columnar_base.specs.Format.{both, IsSound, slices_of};
-ghost use Rattle.columnar_base.specs.Change.{Copied, Refused};
+ghost use Rattle.columnar_base.specs.Format.{both, slices_of};
 ghost use Rattle.columnar_base.specs.TwoParts.{two_counted};
 ghost use Rattle.columnar_base.specs.TupleLaws.{pair_storable};
 ghost use Rattle.columnar_base.specs.LongTuples.{nested};
@@ -14,46 +13,13 @@ use crate::container::{Borrow, Container, ContainerBytes, ExtendFrom, Reborrow, 
 use crate::owned::Owned;
 use crate::sides::{check_tuple, judge_tuple};
 use crate::store::DecodedStore;
-use crate::tuple::extend_two;
+use crate::tuple::FromView;
 use columnar_base::fault::{GrowError, StoreFault};
 use columnar_base::tally::Tally;
 use columnar_base::traits::{Column, Len};
-use columnar_base::tuple::taken_back;
+use columnar_base::tuple::three::enter_three;
 use std::alloc::Global;
 use std::ops::Range;
-
-/// Each of three parts copies the range out of its own view. Where one of them is refused, none has taken any row.
-pub fn extend_three<
-    P: Column + Copy,
-    Q: Column + Copy,
-    R: Column + Copy,
-    A: ExtendFrom<P>,
-    B: ExtendFrom<Q>,
-    C: ExtendFrom<R>,
->(
-    first: &mut A,
-    second: &mut B,
-    third: &mut C,
-    p: P,
-    q: Q,
-    r: R,
-    start: usize,
-    end: usize,
-) -> Result<(), GrowError>
-    requires sound { IsSound (nested A.format (B.format ∷ C.format ∷ [])) (both (A.content first.old) (both (B.content second.old) (C.content third.old))) }
-    requires view_sound { IsSound (nested P.format (Q.format ∷ R.format ∷ [])) (both (P.content p) (both (Q.content q) (R.content r))) }
-    requires ordered { start ≤ «end» }
-    requires in_range { «end» ≤ length ((nested P.format (Q.format ∷ R.format ∷ [])).rows (both (P.content p) (both (Q.content q) (R.content r)))) }
-    ensures ok { OnOk result (Copied (nested A.format (B.format ∷ C.format ∷ [])) (both (A.content first.old) (both (B.content second.old) (C.content third.old))) (both (A.content first.new) (both (B.content second.new) (C.content third.new))) start (take («end» - start) (drop start ((nested P.format (Q.format ∷ R.format ∷ [])).rows (both (P.content p) (both (Q.content q) (R.content r))))))) }
-    ensures err { IfErr result (λ e. Refused (nested A.format (B.format ∷ C.format ∷ [])) (both (A.content first.old) (both (B.content second.old) (C.content third.old))) (both (A.content first.new) (both (B.content second.new) (C.content third.new))) (take («end» - start) (drop start ((nested P.format (Q.format ∷ R.format ∷ [])).rows (both (P.content p) (both (Q.content q) (R.content r)))))) e) }
-{
-    let before = first.len();
-    first.extend_from_self(p, start..end)?;
-    match extend_two(second, third, q, r, start, end) {
-        Ok(()) => Ok(()),
-        Err(error) => Err(taken_back(first, before, error)),
-    }
-}
 
 /// Each part copies the range out of its own view. Where one of them is refused, none has taken any row.
 impl<
@@ -73,15 +39,13 @@ impl<
     }
 
     fn extend_from_self(&mut self, view: (P, Q, R), range: Range<usize>) -> Result<(), GrowError> {
-        extend_three(
+        enter_three(
             &mut self.0,
             &mut self.1,
             &mut self.2,
-            view.0,
-            view.1,
-            view.2,
-            range.start,
-            range.end,
+            FromView(view.0, range.start, range.end),
+            FromView(view.1, range.start, range.end),
+            FromView(view.2, range.start, range.end),
         )
     }
 }

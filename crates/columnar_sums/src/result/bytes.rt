@@ -1,8 +1,11 @@
 //! Columns of rows of one of two kinds, in slices of bytes.
-ghost use Rattle.std.specs.Prelude.{refl, ◌++◌};
-ghost use Rattle.columnar_core.specs.Format.{slices_of};
+ghost use Rattle.std.specs.Prelude.{◌≡◌, ◌+◌, ◌*◌, ◌^◌, ◌<◌, ◌≤◌, ◌++◌, refl, length, drop, IsTrue};
+ghost use Rattle.columnar_core.specs.Faults.{verdict};
+ghost use Rattle.columnar_core.specs.Format.{both, bytes_held, first, moved, representable, slices_of};
+ghost use Rattle.columnar_core.specs.Store.{slices_in};
 ghost use Rattle.columnar_core.specs.TwoParts.{two_counted};
-ghost use Rattle.columnar_sums.specs.RankColumns.{ranks_content};
+ghost use Rattle.columnar_sums.specs.RankColumns.{ranks_content, ranks_format};
+ghost use Rattle.columnar_sums.specs.Results.{results_format};
 ghost use Rattle.columnar_sums.specs.ResultLaws.{results_storable};
 
 use super::Results;
@@ -22,6 +25,55 @@ use columnar_core::words::Words;
 use std::alloc::Global;
 
 type Held = RankSelect<Vec<u64>, Vec<u64>, [u64; 2]>;
+
+/// As `judge_tallied` of `Results`; it says besides how the turns are spread over the parts: at most 5 for a byte of the
+/// bits and their counts, and those that the parts take for theirs.
+pub fn judge_results<SC: Stored, TC: Stored, L>(
+    store: &DecodedStore<'_>,
+    offset: usize,
+    tally: &mut Tally<L>,
+) -> Result<(), StoreFault>
+    requires representable { IsTrue (representable (results_format SC.format TC.format)) }
+    requires room { offset + (results_format SC.format TC.format).count ≤ length (slices_in store.now) }
+    ensures exact { verdict result ≡ first (moved offset ((results_format SC.format TC.format).broken ((results_format SC.format TC.format).build (drop offset (slices_in store.now))))) }
+    ensures turns { tally.new.turns ≤ tally.old.turns + (5 * bytes_held (ranks_format.build (drop offset (slices_in store.now))) + (SC.format.turns * bytes_held (SC.format.build (drop (offset + 3) (slices_in store.now))) + TC.format.turns * bytes_held (TC.format.build (drop (offset + 3 + SC.format.count) (slices_in store.now))))) }
+{
+    Held::judge_tallied(store, offset, tally)?;
+    judge_two::<SC, TC, L>(store, offset + 3, tally)?;
+    let rows = Held::rows_in(store, offset);
+    let oks = SC::rows_in(store, offset + 3);
+    let errs = TC::rows_in(store, offset + 3 + SC::slice_count());
+    let trues = trues_in(store, offset, tally);
+    if trues == oks && rows - trues == errs {
+        Ok(())
+    } else {
+        Err(StoreFault::Parts(offset))
+    }
+}
+
+/// As `check_from_tallied` of `Results`, of its parts; the turns are spread as those of `judge_results`.
+pub fn check_results<SC: Check + Len, TC: Check + Len, CC: Words, VC: Words, WC: Words, L>(
+    indexes: &RankSelect<CC, VC, WC>,
+    oks: &SC,
+    errs: &TC,
+    from: usize,
+    tally: &mut Tally<L>,
+) -> Result<(), StoreFault>
+    requires representable { IsTrue (representable (results_format SC.format TC.format)) }
+    requires counted { from + (results_format SC.format TC.format).count < 2 ^ 64 }
+    ensures exact { verdict result ≡ first (moved from ((results_format SC.format TC.format).broken (both (ranks_content CC.bytes VC.bytes WC.bytes indexes.now) (both (SC.content oks.now) (TC.content errs.now))))) }
+    ensures turns { tally.new.turns ≤ tally.old.turns + (5 * bytes_held (ranks_content CC.bytes VC.bytes WC.bytes indexes.now) + (SC.format.turns * bytes_held (SC.content oks.now) + TC.format.turns * bytes_held (TC.content errs.now))) }
+{
+    indexes.check_from_tallied(from, tally)?;
+    check_two(oks, errs, from + 3, tally)?;
+    let rows = indexes.len();
+    let trues = indexes.trues_tallied(tally);
+    if trues == oks.len() && rows - trues == errs.len() {
+        Ok(())
+    } else {
+        Err(StoreFault::Parts(from))
+    }
+}
 
 /// The rules of the bits and their counts, then those of the values, then those of the errors, then that there are as
 /// many values as set bits and as many errors as clear ones: `Parts`, at the first slice.
@@ -52,17 +104,7 @@ impl<SC: Stored, TC: Stored, CC: Words, VC: Words, WC: Words> Stored
         offset: usize,
         tally: &mut Tally<L>,
     ) -> Result<(), StoreFault> {
-        RankSelect::<CC, VC, WC>::judge_tallied(store, offset, tally)?;
-        judge_two::<SC, TC, L>(store, offset + 3, tally)?;
-        let rows = RankSelect::<CC, VC, WC>::rows_in(store, offset);
-        let oks = SC::rows_in(store, offset + 3);
-        let errs = TC::rows_in(store, offset + 3 + SC::slice_count());
-        let trues = trues_in(store, offset, tally);
-        if trues == oks && rows - trues == errs {
-            Ok(())
-        } else {
-            Err(StoreFault::Parts(offset))
-        }
+        judge_results::<SC, TC, L>(store, offset, tally)
     }
 
     fn rows_in(store: &DecodedStore<'_>, offset: usize) -> usize {
@@ -73,15 +115,7 @@ impl<SC: Stored, TC: Stored, CC: Words, VC: Words, WC: Words> Stored
 impl<SC: Check + Len, TC: Check + Len, CC: Words, VC: Words, WC: Words> Check
     for Results<SC, TC, CC, VC, WC> {
     fn check_from_tallied<L>(&self, from: usize, tally: &mut Tally<L>) -> Result<(), StoreFault> {
-        self.indexes.check_from_tallied(from, tally)?;
-        check_two(&self.oks, &self.errs, from + 3, tally)?;
-        let rows = self.indexes.len();
-        let trues = self.indexes.trues_tallied(tally);
-        if trues == self.oks.len() && rows - trues == self.errs.len() {
-            Ok(())
-        } else {
-            Err(StoreFault::Parts(from))
-        }
+        check_results(&self.indexes, &self.oks, &self.errs, from, tally)
     }
 }
 

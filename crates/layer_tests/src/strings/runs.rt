@@ -88,6 +88,35 @@ fn a_run_over_options_of_strings(rt: HostRuntime) -> Result<(), Fail> {
     Ok(())
 }
 
+// A number, a text, and a number that may be absent
+type Records = (Vec<u64>, Texts, Options<Vec<u32>>);
+
+#[test]
+fn a_run_over_records(rt: HostRuntime) -> Result<(), Fail> {
+    let commands = [
+        Command::Push((5, "ab", Some(7))),
+        Command::Reopen,
+        Command::Push((6, "c", None)),
+        Command::Push((9, "def", Some(8))),
+        Command::Truncate(2),
+        Command::MakeAligned,
+        Command::Copy(0, 0),
+    ];
+    let source = Records::empty(rt.alloc());
+    let words = [
+        64, 80, 96, 99, 104, 104, 120, 124, 5, 6, 2, 3, 6513249, 1, 2, 7,
+    ];
+    assert!(rt;
+        runs::<_, _, Records>(
+            rt.alloc(),
+            source.borrow(),
+            commands.as_slice(),
+            words.as_slice()
+        )?
+    );
+    Ok(())
+}
+
 // Makes each call that takes memory once, and gives what a stash of the first row then writes; none where it is not done.
 fn each_call<T: Item, V: Len + Copy, C: ContainerBytes + Storage + PushRef<T> + ExtendFrom<V>>(
     alloc: Global,

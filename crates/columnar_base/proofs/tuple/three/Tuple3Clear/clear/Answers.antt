@@ -1,4 +1,4 @@
-use Rattle.std.proofs.Common.{[], ◌∷◌, refl}
+use Rattle.std.proofs.Common.{[], ◌∷◌}
 use Rattle.columnar_base.specs.LongTupleLaws.{tuple_sound, no_rows}
 use Rattle.columnar_base.proofs.tuple.three.Tuple3Clear.clear.Goals as goal
 

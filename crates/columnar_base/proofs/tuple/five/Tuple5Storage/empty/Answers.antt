@@ -1,0 +1,6 @@
+use Rattle.std.proofs.Common.{[], ◌∷◌}
+use Rattle.columnar_base.specs.LongTupleLaws.{tuple_sound, no_rows}
+use Rattle.columnar_base.proofs.tuple.five.Tuple5Storage.empty.Goals as goal
+
+pub returns-clause-sound : goal.returns-clause-sound
+returns-clause-sound g c = tuple_sound g.A.Column.format g.B.Column.format (g.C.Column.format ∷ g.D.Column.format ∷ g.E.Column.format ∷ []) 0 (no_rows c.empty-first.ensures.sound c.empty-first.ensures.rows, (no_rows c.empty-second.ensures.sound c.empty-second.ensures.rows, (no_rows c.empty-third.ensures.sound c.empty-third.ensures.rows, (no_rows c.empty-fourth.ensures.sound c.empty-fourth.ensures.rows, no_rows c.empty-fifth.ensures.sound c.empty-fifth.ensures.rows))))

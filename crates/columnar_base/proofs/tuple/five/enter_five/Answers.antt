@@ -1,0 +1,26 @@
+use Rattle.std.proofs.Common.{[], ◌∷◌}
+use Rattle.columnar_base.specs.ChangeLaws.{passed_on}
+use Rattle.columnar_base.specs.EntryLaws.{first_sound, others_sound, next_entered, first_refused, others_refused}
+use Rattle.columnar_base.proofs.tuple.five.enter_five.Goals.{in-Ok, in-Err}
+use Rattle.columnar_base.proofs.tuple.five.enter_five.Goals as goal
+
+pub len-before-requires : goal.len-before-requires
+len-before-requires g c = first_sound g.A.Column.format g.B.Column.format (g.C.Column.format ∷ g.D.Column.format ∷ g.E.Column.format ∷ []) c.requires.sound
+
+pub enter-requires-clause-sound : goal.enter-requires-clause-sound
+enter-requires-clause-sound g c = first_sound g.A.Column.format g.B.Column.format (g.C.Column.format ∷ g.D.Column.format ∷ g.E.Column.format ∷ []) c.requires.sound
+
+pub enter_four-requires-clause-sound : goal.enter_four-requires-clause-sound
+enter_four-requires-clause-sound g c = others_sound g.A.Column.format g.B.Column.format (g.C.Column.format ∷ g.D.Column.format ∷ g.E.Column.format ∷ []) c.requires.sound
+
+pub enter_four-requires-clause-level : goal.enter_four-requires-clause-level
+enter_four-requires-clause-level g c = c.requires.level.2
+
+pub returns-in_err-enter-clause-err : goal.returns-in_err-enter-clause-err
+returns-in_err-enter-clause-err g c = rw (passed_on c.from_residual.result c.from_residual.ensures.1) (first_refused g.A.Column.format g.B.Column.format (g.C.Column.format ∷ g.D.Column.format ∷ g.E.Column.format ∷ []) (g.P.Enter.entry c.args.p) (g.Q.Enter.entry c.args.q) (g.R.Enter.entry c.args.r ∷ g.S.Enter.entry c.args.s ∷ g.T.Enter.entry c.args.t ∷ []) c.requires.sound c.requires.level c.in_err-enter.ensures.err)
+
+pub returns-clause-ok : goal.returns-clause-ok
+returns-clause-ok g c = elim c.match-enter_four.branch [ in-Ok w ↦ rw (w.result-is, w.first-is) (next_entered g.A.Column.format g.B.Column.format (g.C.Column.format ∷ g.D.Column.format ∷ g.E.Column.format ∷ []) (g.P.Enter.entry c.args.p) (g.Q.Enter.entry c.args.q) (g.R.Enter.entry c.args.r ∷ g.S.Enter.entry c.args.s ∷ g.T.Enter.entry c.args.t ∷ []) c.requires.sound c.requires.level c.in_ok-enter.ensures.ok w.in-Ok.ensures.ok) | in-Err w ↦ rw w.result-is tt ]
+
+pub returns-clause-err : goal.returns-clause-err
+returns-clause-err g c = elim c.match-enter_four.branch [ in-Ok w ↦ rw w.result-is tt | in-Err w ↦ rw (w.result-is, w.first-is, w.taken_back.ensures.error) (others_refused g.A.Column.format g.B.Column.format (g.C.Column.format ∷ g.D.Column.format ∷ g.E.Column.format ∷ []) (g.P.Enter.entry c.args.p) (g.Q.Enter.entry c.args.q) (g.R.Enter.entry c.args.r ∷ g.S.Enter.entry c.args.s ∷ g.T.Enter.entry c.args.t ∷ []) g.met.A.Truncate.lawful c.requires.sound c.requires.level c.in_ok-enter.ensures.ok (rw c.len-before.ensures at w.taken_back.ensures.cut) w.in-Err.ensures.err) ]

@@ -1,0 +1,27 @@
+use Rattle.std.proofs.Common.{[], ◌∷◌}
+use Rattle.columnar_base.specs.LongTupleLaws.{tuple_parts, up_to, tuple_cut}
+use Rattle.columnar_base.proofs.tuple.seven.Tuple7Truncate.truncate.Goals as goal
+
+pub truncate-requires : goal.truncate-requires
+truncate-requires g c = let p = (tuple_parts g.A.Column.format g.B.Column.format (g.C.Column.format ∷ g.D.Column.format ∷ g.E.Column.format ∷ g.F.Column.format ∷ g.G.Column.format ∷ []) c.requires.sound).0 in record { sound = p.sound; in_range = up_to p c.requires.in_range }
+
+pub truncate-requires-2 : goal.truncate-requires-2
+truncate-requires-2 g c = let p = (tuple_parts g.A.Column.format g.B.Column.format (g.C.Column.format ∷ g.D.Column.format ∷ g.E.Column.format ∷ g.F.Column.format ∷ g.G.Column.format ∷ []) c.requires.sound).1.0 in record { sound = p.sound; in_range = up_to p c.requires.in_range }
+
+pub truncate-requires-3 : goal.truncate-requires-3
+truncate-requires-3 g c = let p = (tuple_parts g.A.Column.format g.B.Column.format (g.C.Column.format ∷ g.D.Column.format ∷ g.E.Column.format ∷ g.F.Column.format ∷ g.G.Column.format ∷ []) c.requires.sound).1.1.0 in record { sound = p.sound; in_range = up_to p c.requires.in_range }
+
+pub truncate-requires-4 : goal.truncate-requires-4
+truncate-requires-4 g c = let p = (tuple_parts g.A.Column.format g.B.Column.format (g.C.Column.format ∷ g.D.Column.format ∷ g.E.Column.format ∷ g.F.Column.format ∷ g.G.Column.format ∷ []) c.requires.sound).1.1.1.0 in record { sound = p.sound; in_range = up_to p c.requires.in_range }
+
+pub truncate-requires-5 : goal.truncate-requires-5
+truncate-requires-5 g c = let p = (tuple_parts g.A.Column.format g.B.Column.format (g.C.Column.format ∷ g.D.Column.format ∷ g.E.Column.format ∷ g.F.Column.format ∷ g.G.Column.format ∷ []) c.requires.sound).1.1.1.1.0 in record { sound = p.sound; in_range = up_to p c.requires.in_range }
+
+pub truncate-requires-6 : goal.truncate-requires-6
+truncate-requires-6 g c = let p = (tuple_parts g.A.Column.format g.B.Column.format (g.C.Column.format ∷ g.D.Column.format ∷ g.E.Column.format ∷ g.F.Column.format ∷ g.G.Column.format ∷ []) c.requires.sound).1.1.1.1.1.0 in record { sound = p.sound; in_range = up_to p c.requires.in_range }
+
+pub truncate-requires-7 : goal.truncate-requires-7
+truncate-requires-7 g c = let p = (tuple_parts g.A.Column.format g.B.Column.format (g.C.Column.format ∷ g.D.Column.format ∷ g.E.Column.format ∷ g.F.Column.format ∷ g.G.Column.format ∷ []) c.requires.sound).1.1.1.1.1.1 in record { sound = p.sound; in_range = up_to p c.requires.in_range }
+
+pub returns : goal.returns
+returns g c = tuple_cut g.A.Column.format g.B.Column.format (g.C.Column.format ∷ g.D.Column.format ∷ g.E.Column.format ∷ g.F.Column.format ∷ g.G.Column.format ∷ []) c.args.n c.requires.sound (c.truncate.ensures, (c.truncate-2.ensures, (c.truncate-3.ensures, (c.truncate-4.ensures, (c.truncate-5.ensures, (c.truncate-6.ensures, c.truncate-7.ensures))))))

@@ -1,0 +1,6 @@
+use Rattle.std.proofs.Common.{[], ◌∷◌}
+use Rattle.columnar_base.specs.LongTupleLaws.{tuple_sound, no_rows}
+use Rattle.columnar_base.proofs.tuple.six.Tuple6Clear.clear.Goals as goal
+
+pub returns-clause-sound : goal.returns-clause-sound
+returns-clause-sound g c = tuple_sound g.A.Column.format g.B.Column.format (g.C.Column.format ∷ g.D.Column.format ∷ g.E.Column.format ∷ g.F.Column.format ∷ []) 0 (no_rows c.clear.ensures.sound c.clear.ensures.rows, (no_rows c.clear-2.ensures.sound c.clear-2.ensures.rows, (no_rows c.clear-3.ensures.sound c.clear-3.ensures.rows, (no_rows c.clear-4.ensures.sound c.clear-4.ensures.rows, (no_rows c.clear-5.ensures.sound c.clear-5.ensures.rows, no_rows c.clear-6.ensures.sound c.clear-6.ensures.rows)))))

@@ -1,0 +1,19 @@
+use Rattle.std.proofs.Common.{[]}
+use Rattle.columnar_base.specs.LongTupleLaws.{tuple_parts}
+use Rattle.columnar_base.specs.EntryLaws.{has_piece, views_level, copied_on_ok, copy_refused}
+use Rattle.columnar_core.proofs.tuple.Tuple2ExtendFrom.extend_from_self.Goals as goal
+
+pub enter_two-requires-clause-valid_first : goal.enter_two-requires-clause-valid_first
+enter_two-requires-clause-valid_first g c = has_piece (tuple_parts g.V.Column.format g.W.Column.format [] c.requires.view_sound).0 c.requires.ordered c.requires.in_range
+
+pub enter_two-requires-clause-valid_second : goal.enter_two-requires-clause-valid_second
+enter_two-requires-clause-valid_second g c = has_piece (tuple_parts g.V.Column.format g.W.Column.format [] c.requires.view_sound).1 c.requires.ordered c.requires.in_range
+
+pub enter_two-requires-clause-level : goal.enter_two-requires-clause-level
+enter_two-requires-clause-level g c = views_level g.V.Column.format g.W.Column.format [] c.args.range.start c.args.range.«end» c.requires.view_sound
+
+pub returns-clause-ok : goal.returns-clause-ok
+returns-clause-ok g c = copied_on_ok g.A.Column.format g.B.Column.format [] _ _ g.V.Column.format g.W.Column.format [] c.args.range.start c.args.range.«end» c.requires.view_sound c.enter_two.result c.enter_two.ensures.ok
+
+pub returns-clause-err : goal.returns-clause-err
+returns-clause-err g c = copy_refused g.A.Column.format g.B.Column.format [] _ _ g.V.Column.format g.W.Column.format [] c.args.range.start c.args.range.«end» c.requires.view_sound c.enter_two.result c.enter_two.ensures.err

@@ -1,0 +1,7 @@
+use Rattle.std.proofs.Common.{[], ◌∷◌}
+use Rattle.columnar_base.specs.LongTupleLaws.{tuple_fits}
+use Rattle.columnar_core.specs.Store.{slices_in}
+use Rattle.columnar_core.proofs.tuple.four.Tuple4Stored.rows_in.Goals as goal
+
+pub rows_in-requires-clause-fits : goal.rows_in-requires-clause-fits
+rows_in-requires-clause-fits g c = tuple_fits g.A.Column.format g.B.Column.format (g.C.Column.format ∷ g.D.Column.format ∷ []) c.args.offset (slices_in c.args.store.now) c.requires.fits

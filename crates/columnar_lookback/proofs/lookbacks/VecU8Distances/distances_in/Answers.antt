@@ -1,0 +1,6 @@
+use Rattle.std.proofs.Common.{ap}
+use Rattle.columnar_lookback.specs.Lookbacks.{bytes_format}
+use Rattle.columnar_lookback.proofs.lookbacks.VecU8Distances.distances_in.Goals as goal
+
+pub returns : goal.returns
+returns c = ap bytes_format.rows c.from_store.ensures.content

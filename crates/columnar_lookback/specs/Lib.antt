@@ -1,0 +1,10 @@
+pub mod Recall
+pub mod RecallLaws
+pub mod LatestLaws
+pub mod SameLaws
+pub mod Repeats
+pub mod RepeatLaws
+pub mod RepeatChanges
+pub mod Lookbacks
+pub mod LookbackLaws
+pub mod LookbackBytes

@@ -1,0 +1,32 @@
+-- Columns that keep a run of rows once: an option for each row, with a value where a run begins, and none where the last
+-- value goes on.
+use Rattle.std.specs.Prelude.{ℕ, Bool, true, false, List, [], ◌∷◌, Vec}
+use Rattle.std.specs.Global.{Global}
+use Rattle.columnar_base.specs.Row.{Row, none, some}
+use Rattle.columnar_base.specs.Format.{Format, Content, both}
+use Rattle.columnar_sums.specs.Options.{value_of, options_format}
+use Rattle.columnar_sums.specs.RankColumns.{owned_ranks}
+use Rattle.columnar_sums.specs.declared.option.Options.{Options}
+use Rattle.columnar_lookback.specs.Recall.{Code, recalled}
+
+-- a row is stored as a value, or as none
+abbrev pub repeats_code : Code
+repeats_code = record { value = value_of; back = λ u. 0; forms = λ r. some r ∷ none ∷ [] }
+
+abbrev pub repeats_format : Format → Format
+repeats_format t = recalled repeats_code t.kin (options_format t)
+
+-- what a column that owns its parts holds
+abbrev pub owned_repeats : {T : Type 0} → (T → Content) → Options T (Vec ℕ Global) (Vec ℕ Global) (List ℕ) → Content
+owned_repeats of_somes o = both (owned_ranks o.indexes) (of_somes o.somes)
+
+-- is the first bit set, if there is one
+abbrev pub starts : List Bool → Bool
+starts [] = true
+starts (x ∷ b) = x
+
+-- is the last of the rows the same as r
+abbrev pub last_is : (Row → Row → Bool) → List Row → Row → Bool
+last_is same [] r = false
+last_is same (x ∷ []) r = same x r
+last_is same (x ∷ y ∷ xs) r = last_is same (y ∷ xs) r

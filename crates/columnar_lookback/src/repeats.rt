@@ -1,0 +1,79 @@
+//! Columns that keep a run of rows once.
+ghost use Rattle.std.specs.Prelude.{◌≡◌};
+ghost use Rattle.columnar_base.specs.Format.{both, IsSound};
+ghost use Rattle.columnar_sums.specs.RankColumns.{ranks_content};
+ghost use Rattle.columnar_lookback.specs.Repeats.{repeats_format, last_is};
+
+mod bytes;
+mod grow;
+
+use crate::same::SameAs;
+use columnar_base::traits::{Column, Index, Item, Len};
+use columnar_core::words::Words;
+use columnar_sums::option::Options;
+
+/// Rows of which a run is kept once: a row that is the same as the one before it is kept as None, and reads as the last
+/// value. The first row, if there is one, is a value.
+#[derive(Clone, Copy, PartialEq, Drop)]
+pub struct Repeats<TC, CC = Vec<u64>, VC = Vec<u64>, WC = [u64; 2]> {
+    /// For each row its value, or None where the last value goes on.
+    pub inner: Options<TC, CC, VC, WC>,
+}
+
+impl<TC: Column, CC: Words, VC: Words, WC: Words> Column for Repeats<TC, CC, VC, WC> {
+    ghost format = { repeats_format TC.format };
+
+    ghost content = { λ r. both (ranks_content CC.bytes VC.bytes WC.bytes r.inner.indexes) (TC.content r.inner.somes) };
+}
+
+impl<TC: Len, CC: Words, VC: Words, WC: Words> Len for Repeats<TC, CC, VC, WC> {
+    fn len(&self) -> usize {
+        self.inner.len()
+    }
+}
+
+impl<TC: Index, CC: Words, VC: Words, WC: Words> Index for Repeats<TC, CC, VC, WC> {
+    type Ref = TC::Ref;
+
+    fn get(&self, index: usize) -> TC::Ref {
+        let before = self.inner.indexes.rank(index);
+        if self.inner.indexes.get(index) {
+            self.inner.somes.get(before)
+        } else {
+            self.inner.somes.get(before - 1)
+        }
+    }
+}
+
+/// Rows are read through a reference as the values are through one.
+impl<'a, TC: Len, CC: Words, VC: Words, WC: Words> Index for &'a Repeats<TC, CC, VC, WC>
+where
+    &'a TC: Index,
+{
+    type Ref = <&'a TC as Index>::Ref;
+
+    fn get(&self, index: usize) -> <&'a TC as Index>::Ref {
+        let column: &'a Repeats<TC, CC, VC, WC> = *self;
+        let before = column.inner.indexes.rank(index);
+        let values: &'a TC = &column.inner.somes;
+        if column.inner.indexes.get(index) {
+            values.get(before)
+        } else {
+            values.get(before - 1)
+        }
+    }
+}
+
+impl<TC: Len, CC: Words, VC: Words, WC: Words> Repeats<TC, CC, VC, WC> {
+    /// Is the item the same as the last row? Of no rows, it is not.
+    pub fn is_repeated<T: Item>(&self, item: &T) -> bool
+    where
+        TC: SameAs<T>,
+        requires sound { IsSound (repeats_format TC.format) (both (ranks_content CC.bytes VC.bytes WC.bytes self.now.inner.indexes) (TC.content self.now.inner.somes)) }
+        requires valid { T.valid item.now }
+        ensures { result ≡ last_is TC.format.kin ((repeats_format TC.format).rows (both (ranks_content CC.bytes VC.bytes WC.bytes self.now.inner.indexes) (TC.content self.now.inner.somes))) (T.meaning item.now) }
+    {
+        let values = self.inner.somes.len();
+        values > 0 && self.inner.somes.same(values - 1, item)
+    }
+}

@@ -1,0 +1,19 @@
+//! Tests of columns in which a row may stand for an earlier one, by their public calls alone.
+#![tactic(auto)]
+
+#[cfg(test)]
+mod copies;
+#[cfg(test)]
+mod refused;
+#[cfg(test)]
+mod repeats;
+#[cfg(test)]
+mod rows;
+#[cfg(test)]
+mod same;
+#[cfg(test)]
+mod stashes;
+#[cfg(test)]
+mod stores;
+#[cfg(test)]
+mod tens;

@@ -1,0 +1,152 @@
+// Which rows are the same as an item, for each column that can tell.
+ghost use Rattle.columnar_core.specs.Format.{IsSound};
+
+use columnar_core::boxed::Boxed;
+use columnar_core::container::Storage;
+use columnar_core::traits::{Item, Len, Push};
+use columnar_lookback::same::SameAs;
+use columnar_primitive::bools::Bools;
+use columnar_primitive::chars::Chars;
+use columnar_primitive::durations::Durations;
+use columnar_primitive::empties::Empties;
+use columnar_primitive::offsets::Strides;
+use columnar_sums::option::Options;
+use std::alloc::Global;
+use std::test::Fail;
+use std::time::Duration;
+
+// Is the item the same as each of two rows?
+fn told<T: Item + Copy, C: Storage + Push<T> + SameAs<T> + Drop>(
+    alloc: Global,
+    first: T,
+    second: T,
+    item: &T,
+) -> Result<(bool, bool), Fail>
+    requires first_valid { T.valid first }
+    requires second_valid { T.valid second }
+    requires valid { T.valid item.now }
+{
+    let mut column = C::empty(alloc);
+    column.push(first)?;
+    column.push(second)?;
+    if column.len() != 2 {
+        return Err(Fail::from("not two rows"));
+    }
+    Ok((column.same(0, item), column.same(1, item)))
+}
+
+#[test]
+fn numbers_bits_and_characters(rt: HostRuntime) -> Result<(), Fail> {
+    let alloc = rt.alloc();
+    assert_eq!(rt; told::<u64, Vec<u64>>(alloc, 1, 2, &2)?, (false, true));
+    assert_eq!(rt; told::<&u64, Vec<u64>>(alloc, &1, &2, &&1)?, (true, false));
+    assert_eq!(rt; told::<u8, Vec<u8>>(alloc, 1, 2, &3)?, (false, false));
+    assert_eq!(rt;
+        told::<bool, Bools>(alloc, true, false, &true)?,
+        (true, false)
+    );
+    assert_eq!(rt;
+        told::<&bool, Bools>(alloc, &true, &false, &&false)?,
+        (false, true)
+    );
+    assert_eq!(rt; told::<char, Chars>(alloc, 'a', 'b', &'b')?, (false, true));
+    assert_eq!(rt;
+        told::<&char, Chars>(alloc, &'a', &'b', &&'a')?,
+        (true, false)
+    );
+    Ok(())
+}
+
+#[test]
+fn durations_units_and_strides(rt: HostRuntime) -> Result<(), Fail> {
+    let alloc = rt.alloc();
+    let long = Duration::new(2, 1);
+    let short = Duration::new(2, 0);
+    assert_eq!(rt;
+        told::<Duration, Durations>(alloc, long, short, &short)?,
+        (false, true)
+    );
+    assert_eq!(rt;
+        told::<&Duration, Durations>(alloc, &long, &short, &&long)?,
+        (true, false)
+    );
+    assert_eq!(rt; told::<(), Empties>(alloc, (), (), &())?, (true, true));
+    assert_eq!(rt; told::<&(), Empties>(alloc, &(), &(), &&())?, (true, true));
+    assert_eq!(rt; told::<u64, Strides>(alloc, 3, 6, &6)?, (false, true));
+    assert_eq!(rt; told::<&u64, Strides>(alloc, &3, &5, &&3)?, (true, false));
+    Ok(())
+}
+
+#[test]
+fn tuples_of_columns(rt: HostRuntime) -> Result<(), Fail> {
+    let alloc = rt.alloc();
+    assert_eq!(rt;
+        told::<_, (Vec<u64>,)>(alloc, (1u64,), (2,), &(1,))?,
+        (true, false)
+    );
+    assert_eq!(rt;
+        told::<_, (Vec<u64>, Vec<u64>)>(alloc, (1u64, 2u64), (1, 3), &(1, 3))?,
+        (false, true)
+    );
+    assert_eq!(rt;
+        told::<_, (Vec<u64>, Vec<u64>)>(alloc, (1u64, 3u64), (2, 3), &(1, 3))?,
+        (true, false)
+    );
+    assert_eq!(rt;
+        told::<_, (Vec<u64>, Vec<u64>)>(alloc, &(1u64, 3u64), &(2, 3), &&(2, 3))?,
+        (false, true)
+    );
+    Ok(())
+}
+
+#[test]
+fn tuples_of_three_columns(rt: HostRuntime) -> Result<(), Fail> {
+    let alloc = rt.alloc();
+    assert_eq!(rt;
+        told::<_, (Vec<u64>, Vec<u64>, Bools)>(
+            alloc,
+            (1u64, 2u64, true),
+            (1, 2, false),
+            &(1, 2, false)
+        )?,
+        (false, true)
+    );
+    assert_eq!(rt;
+        told::<_, (Vec<u64>, Vec<u64>, Bools)>(
+            alloc,
+            (1u64, 2u64, true),
+            (2, 2, true),
+            &(1, 2, true)
+        )?,
+        (true, false)
+    );
+    Ok(())
+}
+
+#[test]
+fn rows_that_may_be_absent_and_boxes(rt: HostRuntime) -> Result<(), Fail> {
+    let alloc = rt.alloc();
+    let one = Some(1u64);
+    let two = Some(2u64);
+    assert_eq!(rt;
+        told::<_, Options<Vec<u64>>>(alloc, one, two, &two)?,
+        (false, true)
+    );
+    assert_eq!(rt;
+        told::<_, Options<Vec<u64>>>(alloc, one, None, &None)?,
+        (false, true)
+    );
+    assert_eq!(rt;
+        told::<_, Options<Vec<u64>>>(alloc, one, None, &one)?,
+        (true, false)
+    );
+    assert_eq!(rt;
+        told::<_, Options<Vec<u64>>>(alloc, &None, &two, &&two)?,
+        (false, true)
+    );
+    assert_eq!(rt;
+        told::<_, Boxed<Vec<u64>>>(alloc, Boxed(1u64), Boxed(2), &Boxed(1))?,
+        (true, false)
+    );
+    Ok(())
+}

@@ -1,6 +1,6 @@
 -- What pushes to and copies of repeats leave.
 use Rattle.std.proofs.Common.{◌≡◌, ℕ, zero, suc, ◌+◌, ◌-◌, ◌<◌, ◌≤◌, Bool, true, false, ◌&&◌, List, [], ◌∷◌, ◌++◌, length, take, drop, append-nil, refl, sym, ◌∙◌, ap, arith, ◌⊎◌, inl, inr}
-use Rattle.std.specs.Prelude.{slice_get, Some, nat_lt}
+use Rattle.std.specs.Prelude.{slice_get, Some, nat_lt, cond}
 use Rattle.std.proofs.lemmas.Bool.{and_parts, and_from, lt-ltb, ltb-true}
 use Rattle.std.proofs.lemmas.List.{length-append, nil_from_length}
 use Rattle.columnar_base.specs.Row.{Row, unit, none, some}
@@ -16,7 +16,7 @@ use Rattle.columnar_sums.specs.OptionLaws.{options_somes}
 use Rattle.columnar_sums.specs.WeaveLaws.{somes-append}
 use Rattle.columnar_lookback.specs.Recall.{Code, recent, latest, recall, reaches, recalled}
 use Rattle.columnar_lookback.specs.RecallLaws.{Among, IsStoring, SoundRecall, recall_parts, recall_stayed, recall_took, recall_refused, recall_at, reaches_at, reaches-take, length-recall, recall-take, recall_front, range_recalled, Each, each_taken, each_dropped}
-use Rattle.columnar_lookback.specs.Repeats.{repeats_code, repeats_format, last_is}
+use Rattle.columnar_lookback.specs.Repeats.{repeats_code, repeats_format, last_is, values_between}
 use Rattle.columnar_lookback.specs.RepeatLaws.{option_values, repeats_alike, repeats_lawful, reaches_near, recall_near, latest_grows}
 
 -- one row
@@ -52,22 +52,47 @@ repeats_refused_value t {x} {y} {r} s g = recall_refused repeats_code t.kin (opt
 pub repeats_refused_none : (t : Format) {x y : Content} {r : Row} {error : GrowError} → IsSound (repeats_format t) x → Refused (options_format t) x y (none ∷ []) error → Refused (repeats_format t) x y (r ∷ []) error
 repeats_refused_none t {x} {y} {r} s g = recall_refused repeats_code t.kin (options_format t) (none ∷ []) (r ∷ []) s g (inr (inl refl), tt)
 
--- the values that one inner row brings
-one_value : (t : Format) → IsLawful t → (fs : List Row) (u : Row) → all_alike (option_alike t.alike) fs (u ∷ []) ≡ true → length (somes fs) ≡ length (value_of u)
-one_value t l [] u h = cc
-one_value t l (f ∷ g ∷ fs) u h = let p = and_parts (option_alike t.alike f u) (all_alike (option_alike t.alike) (g ∷ fs) []) h in cc
-one_value t l (f ∷ []) u h =
-    let p = and_parts (option_alike t.alike f u) true h in
-    ap length (append-nil (value_of f)) ∙ alike_length t.kin (value_of f) (value_of u) (option_values t l f u p.0)
+-- the values that inner rows bring
+same_values : (t : Format) → IsLawful t → (fs us : List Row) → all_alike (option_alike t.alike) fs us ≡ true → length (somes fs) ≡ length (somes us)
+same_values t l [] [] h = refl
+same_values t l [] (u ∷ us) h = cc
+same_values t l (f ∷ fs) [] h = cc
+same_values t l (f ∷ fs) (u ∷ us) h =
+    let p = and_parts (option_alike t.alike f u) (all_alike (option_alike t.alike) fs us) h in
+    omega (arith, length-append (value_of f) (somes fs), length-append (value_of u) (somes us), alike_length t.kin (value_of f) (value_of u) (option_values t l f u p.0), same_values t l fs us p.1)
 
--- A push stores as many values as its inner row brings.
-pub values_pushed : (t : Format) {x y v w : Content} (u : Row) → IsLawful t → IsSound (options_format t) (both x y) → Took (options_format t) (both x y) (both v w) (u ∷ []) → length (t.rows w) ≡ length (t.rows y) + length (value_of u)
-values_pushed t {x} {y} {v} {w} u l s g =
+-- As many values are stored as the inner rows bring.
+pub values_stored : (t : Format) {x y v w : Content} (us : List Row) → IsLawful t → IsSound (options_format t) (both x y) → Took (options_format t) (both x y) (both v w) us → length (t.rows w) ≡ length (t.rows y) + length (somes us)
+values_stored t {x} {y} {v} {w} us l s g =
     let a = options_somes t s in
     let b = options_somes t g.grew.sound in
     let c = ap somes g.grew.rows ∙ somes-append (weave (ranks_bits x) (t.rows y)) g.fresh in
     let d : t.rows w ≡ t.rows y ++ somes g.fresh = sym b ∙ (c ∙ ap (λ (rs : List Row). rs ++ somes g.fresh) a) in
-    ap length d ∙ (length-append (t.rows y) (somes g.fresh) ∙ ap (λ (n : ℕ). length (t.rows y) + n) (one_value t l g.fresh u g.alike))
+    ap length d ∙ (length-append (t.rows y) (somes g.fresh) ∙ ap (λ (n : ℕ). length (t.rows y) + n) (same_values t l g.fresh us g.alike))
+
+pub values_pushed : (t : Format) {x y v w : Content} (u : Row) → IsLawful t → IsSound (options_format t) (both x y) → Took (options_format t) (both x y) (both v w) (u ∷ []) → length (t.rows w) ≡ length (t.rows y) + length (value_of u)
+values_pushed t {x} {y} {v} {w} u l s g = values_stored t (u ∷ []) l s g ∙ ap (λ (vs : List Row). length (t.rows y) + length vs) (append-nil (value_of u))
+
+-- a range has at least the values that stand behind its first row
+values_behind : (us : List Row) (n start : ℕ) → length (somes (take n (drop (suc start) us))) ≤ length (somes (take (suc n) (drop start us)))
+values_behind us zero start = omega arith
+values_behind [] (suc n) start = omega arith
+values_behind (u ∷ us) (suc n) zero = omega (arith, length-append (value_of u) (somes (take (suc n) us)))
+values_behind (u ∷ us) (suc n) (suc start) = values_behind us (suc n) start
+
+at_most_one : (b : Bool) → cond b 0 1 ≤ 1
+at_most_one true = omega arith
+at_most_one false = omega arith
+
+-- the first row of a range was pushed, and those behind it were copied
+pub values_copied : (us : List Row) (start end old middle new : ℕ) (b : Bool) → start < end → middle ≡ old + cond b 0 1 → new ≡ middle + values_between us (start + 1) end → new ≤ old + (values_between us start end + 1)
+values_copied us start end old middle new b i p q =
+    let e : end - start ≡ suc (end - (start + 1)) = omega (arith, i) in
+    let z : start + 1 ≡ suc start = omega arith in
+    let n = end - (start + 1) in
+    let d : values_between us (start + 1) end ≡ length (somes (take n (drop (suc start) us))) = ap (λ (m : ℕ). length (somes (take n (drop m us)))) z in
+    let f : values_between us start end ≡ length (somes (take (suc n) (drop start us))) = ap (λ (m : ℕ). length (somes (take m (drop start us)))) e in
+    omega (arith, p, q, d, f, values_behind us n start, at_most_one b)
 
 -- ranges
 

@@ -1,8 +1,9 @@
 //! Columns that keep a run of rows once, as they grow and are cut.
-ghost use Rattle.std.specs.Prelude.{◌≡◌, ◌+◌, [], ◌∷◌, length, cond, OnOk, IfErr};
+ghost use Rattle.std.specs.Prelude.{◌≡◌, ◌≤◌, ◌+◌, ◌-◌, [], ◌∷◌, length, take, drop, cond, OnOk, IfErr};
 ghost use Rattle.columnar_base.specs.Format.{IsSound};
-ghost use Rattle.columnar_base.specs.Change.{Took, Refused};
-ghost use Rattle.columnar_lookback.specs.Repeats.{last_is, owned_repeats, repeats_format};
+ghost use Rattle.columnar_base.specs.Change.{Took, Copied, Refused};
+ghost use Rattle.columnar_sums.specs.Options.{options_format};
+ghost use Rattle.columnar_lookback.specs.Repeats.{last_is, owned_repeats, viewed_repeats, repeats_format, values_between};
 ghost use Rattle.columnar_lookback.specs.RepeatLaws.{repeats_lawful, same_repeats};
 
 use super::Repeats;
@@ -111,11 +112,20 @@ impl<'x, V: Index + Copy, TC: ExtendFrom<V> + Push<V::Ref> + SameAs<V::Ref>> Ext
         <Inner<TC> as ExtendFrom<ViewedInner<'x, V>>>::add_room(room, view.inner)
     }
 
+    /// Stores at most one value more than the range of the view does.
     fn extend_from_self(
         &mut self,
         view: Viewed<'x, V>,
         range: Range<usize>,
-    ) -> Result<(), GrowError> {
+    ) -> Result<(), GrowError>
+        requires sound { IsSound (repeats_format TC.format) (owned_repeats TC.content self.old.inner) }
+        requires view_sound { IsSound (repeats_format V.format) (viewed_repeats V.content view.inner) }
+        requires ordered { range.start ≤ range.«end» }
+        requires in_range { range.«end» ≤ length ((repeats_format V.format).rows (viewed_repeats V.content view.inner)) }
+        ensures ok { OnOk result (Copied (repeats_format TC.format) (owned_repeats TC.content self.old.inner) (owned_repeats TC.content self.new.inner) range.start (take (range.«end» - range.start) (drop range.start ((repeats_format V.format).rows (viewed_repeats V.content view.inner))))) }
+        ensures err { IfErr result (λ e. Refused (repeats_format TC.format) (owned_repeats TC.content self.old.inner) (owned_repeats TC.content self.new.inner) (take (range.«end» - range.start) (drop range.start ((repeats_format V.format).rows (viewed_repeats V.content view.inner)))) e) }
+        ensures stored { OnOk result (length (TC.format.rows (TC.content self.new.inner.somes)) ≤ length (TC.format.rows (TC.content self.old.inner.somes)) + (values_between ((options_format V.format).rows (viewed_repeats V.content view.inner)) range.start range.«end» + 1)) }
+    {
         let start = range.start;
         let end = range.end;
         if start >= end {

@@ -1,4 +1,4 @@
-use Rattle.std.proofs.Common.{◌+◌, ◌-◌, [], sym, ◌∙◌, arith}
+use Rattle.std.proofs.Common.{◌+◌, ◌-◌, [], take, drop, sym, ◌∙◌, arith}
 use Rattle.std.proofs.lemmas.Result.{on_ok_weaker, IfErr-weaker}
 use Rattle.columnar_base.specs.Format.{both}
 use Rattle.columnar_base.specs.ChangeLaws.{passed_on}
@@ -7,9 +7,10 @@ use Rattle.columnar_sums.specs.Options.{weave}
 use Rattle.columnar_sums.specs.RankColumns.{ranks_bits, ranks_content, owned_ranks}
 use Rattle.columnar_lookback.specs.Recall.{recall}
 use Rattle.columnar_lookback.specs.RecallLaws.{length-recall}
-use Rattle.columnar_lookback.specs.Repeats.{repeats_code}
+use Rattle.columnar_sums.specs.Options.{options_format}
+use Rattle.columnar_lookback.specs.Repeats.{repeats_code, viewed_repeats}
 use Rattle.columnar_lookback.specs.RepeatLaws.{repeats_options}
-use Rattle.columnar_lookback.specs.RepeatChanges.{copied_nothing, repeats_copied_front, repeats_copied_rest, repeats_refused_range, repeats_refused_first, repeats_refused_rest, repeats_taken_back, repeats_nothing, repeats_something}
+use Rattle.columnar_lookback.specs.RepeatChanges.{values_stored, values_copied, copied_nothing, repeats_copied_front, repeats_copied_rest, repeats_refused_range, repeats_refused_first, repeats_refused_rest, repeats_taken_back, repeats_nothing, repeats_something}
 use Rattle.columnar_lookback.proofs.repeats.grow.RepeatsVecU64VecU64ArrayU642ExtendFromRepeatsViewU64ViewU64ViewU64.extend_from_self.Goals as goal
 use Rattle.columnar_lookback.proofs.repeats.grow.RepeatsVecU64VecU64ArrayU642ExtendFromRepeatsViewU64ViewU64ViewU64.extend_from_self.Goals.{else-before-eq0-via-then-before-eq0+else-start-eq0, else-before-eq0-via-else-before-eq0}
 
@@ -54,3 +55,15 @@ returns-in-Ok-clause-ok g c = repeats_copied_rest g.TC.Column.format g.V.Column.
 
 pub returns-in-Err-clause-err : goal.returns-in-Err-clause-err
 returns-in-Err-clause-err g c = rw c.taken_back.ensures.error (repeats_refused_rest g.TC.Column.format g.V.Column.format (ranks_content view_bytes view_bytes view_bytes c.args.view.inner.indexes) (g.V.Column.content c.args.view.inner.somes) c.args.range.start c.args.range.«end» _ g.met.TC.Truncate.lawful (omega (arith, c.if-start-end.false)) c.get.ensures.row c.requires.sound c.in_ok-push.ensures.ok c.in-Err.ensures.err (rw (c.len-before.ensures, ← length-recall repeats_code [] _) at c.taken_back.ensures.cut))
+
+pub returns-then-start-end-clause-stored : goal.returns-then-start-end-clause-stored
+returns-then-start-end-clause-stored g c = omega arith
+
+pub returns-then-start-eq0-clause-stored : goal.returns-then-start-eq0-clause-stored
+returns-then-start-eq0-clause-stored g c = on_ok_weaker c.extend_from_self.result (λ h. let e = values_stored g.TC.Column.format (take (c.args.range.«end» - c.args.range.start) (drop c.args.range.start ((options_format g.V.Column.format).rows (viewed_repeats g.V.Column.content c.args.view.inner)))) g.met.TC.Truncate.lawful (repeats_options g.TC.Column.format c.requires.sound) h.took in omega (arith, e)) c.extend_from_self.ensures.ok
+
+pub returns-in-Ok-clause-stored : goal.returns-in-Ok-clause-stored
+returns-in-Ok-clause-stored g c =
+    let us = (options_format g.V.Column.format).rows (viewed_repeats g.V.Column.content c.args.view.inner) in
+    let e = values_stored g.TC.Column.format (take (c.args.range.«end» - (c.args.range.start + 1)) (drop (c.args.range.start + 1) us)) g.met.TC.Truncate.lawful (repeats_options g.TC.Column.format c.in_ok-push.ensures.ok.grew.sound) c.in-Ok.ensures.ok.took in
+    values_copied us c.args.range.start c.args.range.«end» _ _ _ _ (omega (arith, c.if-start-end.false)) c.in_ok-push.ensures.stored e

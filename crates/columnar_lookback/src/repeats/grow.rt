@@ -122,9 +122,9 @@ impl<'x, V: Index + Copy, TC: ExtendFrom<V> + Push<V::Ref> + SameAs<V::Ref>> Ext
         requires view_sound { IsSound (repeats_format V.format) (viewed_repeats V.content view.inner) }
         requires ordered { range.start ≤ range.«end» }
         requires in_range { range.«end» ≤ length ((repeats_format V.format).rows (viewed_repeats V.content view.inner)) }
-        ensures ok { OnOk result (Copied (repeats_format TC.format) (owned_repeats TC.content self.old.inner) (owned_repeats TC.content self.new.inner) range.start (take (range.«end» - range.start) (drop range.start ((repeats_format V.format).rows (viewed_repeats V.content view.inner))))) }
-        ensures err { IfErr result (λ e. Refused (repeats_format TC.format) (owned_repeats TC.content self.old.inner) (owned_repeats TC.content self.new.inner) (take (range.«end» - range.start) (drop range.start ((repeats_format V.format).rows (viewed_repeats V.content view.inner)))) e) }
-        ensures stored { OnOk result (length (TC.format.rows (TC.content self.new.inner.somes)) ≤ length (TC.format.rows (TC.content self.old.inner.somes)) + (values_between ((options_format V.format).rows (viewed_repeats V.content view.inner)) range.start range.«end» + 1)) }
+        ensures ok { OnOk result (Copied (repeats_format TC.format) (owned_repeats TC.content self.old.inner) (owned_repeats TC.content self.new.inner) range.start (take (range.«end» - range.start) (drop range.start ((repeats_format V.format).rows (viewed_repeats V.content view.entry.inner))))) }
+        ensures err { IfErr result (λ e. Refused (repeats_format TC.format) (owned_repeats TC.content self.old.inner) (owned_repeats TC.content self.new.inner) (take (range.«end» - range.start) (drop range.start ((repeats_format V.format).rows (viewed_repeats V.content view.entry.inner)))) e) }
+        ensures stored { OnOk result (length (TC.format.rows (TC.content self.new.inner.somes)) ≤ length (TC.format.rows (TC.content self.old.inner.somes)) + (values_between ((options_format V.format).rows (viewed_repeats V.content view.entry.inner)) range.start range.«end» + 1)) }
     {
         let start = range.start;
         let end = range.end;

@@ -70,7 +70,7 @@ fn queries<R: Clock, O: Write>(
         return None;
     }
     let places = input::places(alloc, Q, 10_000_000, &mut random)?;
-    let ranks = input::ranks(alloc, Q, ones, &mut random)?;
+    let ranks = input::words_below(alloc, Q, ones, &mut random)?;
     summed!(
         rt,
         out,

@@ -32,14 +32,14 @@ pub fn places(alloc: Global, count: usize, end: u64, random: &mut Random) -> Opt
     Some(places)
 }
 
-pub fn ranks(alloc: Global, count: usize, end: u64, random: &mut Random) -> Option<Vec<u64>>
+pub fn words_below(alloc: Global, count: usize, end: u64, random: &mut Random) -> Option<Vec<u64>>
     requires { 0 < end }
 {
-    let mut ranks = Vec::new(alloc);
-    for _rank in 0..count {
-        ranks.push(random.next() % end).ok()?;
+    let mut words = Vec::new(alloc);
+    for _word in 0..count {
+        words.push(random.next() % end).ok()?;
     }
-    Some(ranks)
+    Some(words)
 }
 
 pub fn words(alloc: Global, count: usize, random: &mut Random) -> Option<Vec<u64>> {
@@ -100,4 +100,41 @@ pub fn texts<'a>(alloc: Global, records: &'a [(u64, String, Option<u64>)]) -> Op
         texts.push(record.1.as_str()).ok()?;
     }
     Some(texts)
+}
+
+/// Three in four are Ok.
+pub fn results(alloc: Global, count: usize, random: &mut Random) -> Option<Vec<Result<u64, u32>>> {
+    let mut results = Vec::new(alloc);
+    for _result in 0..count {
+        let word = random.next();
+        let result = if word & 3 == 0 {
+            Err((word & 0xFFFF_FFFF) as u32)
+        } else {
+            Ok(word)
+        };
+        results.push(result).ok()?;
+    }
+    Some(results)
+}
+
+/// The variants 0, 1 and 2.
+pub fn variants(alloc: Global, count: usize, random: &mut Random) -> Option<Vec<u8>> {
+    let mut variants = Vec::new(alloc);
+    for _variant in 0..count {
+        variants.push((random.next() % 3) as u8).ok()?;
+    }
+    Some(variants)
+}
+
+/// Runs of eight words on the average.
+pub fn runs(alloc: Global, count: usize, random: &mut Random) -> Option<Vec<u64>> {
+    let mut runs = Vec::new(alloc);
+    let mut word = 0;
+    for _word in 0..count {
+        if random.next() % 8 == 0 {
+            word = random.next();
+        }
+        runs.push(word).ok()?;
+    }
+    Some(runs)
 }

@@ -2,7 +2,6 @@
 use crate::clock::{Random, line, nanos};
 use crate::{input, work};
 use columnar_base::view::View;
-use columnar_bytes::indexed::validate;
 use columnar_bytes::stash::Stash;
 use columnar_lists::vector::Vecs;
 use std::alloc::Global;
@@ -59,7 +58,13 @@ pub fn measure<R: Clock, O: Write>(rt: &R, alloc: Global, out: &mut O) -> Option
 }
 
 fn opened<R: Clock, O: Write>(rt: &R, alloc: Global, out: &mut O, bytes: Vec<u8>) -> Option<()> {
-    summed!(rt, out, "validate_lists", N, validated(bytes.as_slice()));
+    summed!(
+        rt,
+        out,
+        "validate_lists",
+        N,
+        work::validated::<Lists>(bytes.as_slice())
+    );
     let stash = Stash::<Lists, Vec<u8>>::try_from_bytes(alloc, bytes).ok()?;
     let view = stash.borrow();
     summed!(
@@ -70,9 +75,4 @@ fn opened<R: Clock, O: Write>(rt: &R, alloc: Global, out: &mut O, bytes: Vec<u8>
         work::sum_lists(&view)
     );
     Some(())
-}
-
-#[inline(never)]
-fn validated(bytes: &[u8]) -> u64 {
-    validate::<Lists>(bytes).is_ok() as u64
 }

@@ -25,8 +25,11 @@ macro_rules! summed {
 mod bits;
 mod clock;
 mod input;
+mod kinds;
 mod lists;
 mod numbers;
+mod plain;
+mod repeated;
 mod rows;
 mod strings;
 mod work;
@@ -44,6 +47,8 @@ fn all<R: Clock, O: Write>(rt: &R, alloc: Global, out: &mut O) -> Option<()> {
         numbers::measure(rt, alloc, out)?;
         lists::measure(rt, alloc, out)?;
         strings::measure(rt, alloc, out)?;
+        kinds::measure(rt, alloc, out)?;
+        repeated::measure(rt, alloc, out)?;
     }
     Some(())
 }

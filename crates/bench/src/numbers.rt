@@ -3,7 +3,7 @@ use crate::clock::{Random, line, nanos};
 use crate::{input, work};
 use columnar_base::traits::PushRef;
 use columnar_base::view::View;
-use columnar_bytes::indexed::{encode, validate, write};
+use columnar_bytes::indexed::validate;
 use columnar_bytes::stash::Stash;
 use columnar_core::container::Storage;
 use std::alloc::Global;
@@ -45,14 +45,20 @@ fn typed<R: Clock, O: Write>(rt: &R, alloc: Global, out: &mut O, words: &[u64]) 
         work::copied::<View<'_, u64>, Vec<u64>>(alloc, view, 0, N)?
     );
     summed!(rt, out, "sum_u64_typed", N, work::sum_words(&view));
-    timed!(rt, out, "encode_u64", N, encoded(alloc, view)?);
-    timed!(rt, out, "write_u64", N, written(alloc, view)?);
+    timed!(rt, out, "encode_u64", N, work::encoded(alloc, &view)?);
+    timed!(
+        rt,
+        out,
+        "write_u64",
+        N,
+        work::written(alloc, &view, 8 * N + 64)?
+    );
     Some(())
 }
 
 fn opened<R: Clock, O: Write>(rt: &R, alloc: Global, out: &mut O, words: &[u64]) -> Option<()> {
     let column = Numbers::Typed(work::push_refs::<u64, Vec<u64>>(alloc, words).ok()?);
-    let bytes = written(alloc, column.borrow())?;
+    let bytes = work::written(alloc, &column.borrow(), 8 * N + 64)?;
     summed!(
         rt,
         out,
@@ -81,21 +87,6 @@ fn sliced(alloc: Global, words: &[u64]) -> Option<Vec<u64>> {
         Ok(()) => Some(column),
         Err(_) => None,
     }
-}
-
-#[inline(never)]
-fn encoded(alloc: Global, view: View<'_, u64>) -> Option<Vec<u64>> {
-    let mut words = Vec::new(alloc);
-    encode(&mut words, &view).ok()?;
-    Some(words)
-}
-
-#[inline(never)]
-fn written(alloc: Global, view: View<'_, u64>) -> Option<Vec<u8>> {
-    let mut bytes = Vec::new(alloc);
-    bytes.reserve(8 * N + 64).ok()?;
-    write(&mut bytes, &view).ok()?;
-    Some(bytes)
 }
 
 #[inline(never)]

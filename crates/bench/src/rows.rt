@@ -2,7 +2,6 @@
 use crate::clock::{Random, line, nanos};
 use crate::{input, work};
 use columnar_base::view::View;
-use columnar_bytes::indexed::{encode, validate, write};
 use columnar_bytes::stash::Stash;
 use columnar_sums::option::Options;
 use std::alloc::Global;
@@ -39,20 +38,20 @@ fn push<R: Clock, O: Write>(rt: &R, alloc: Global, out: &mut O, rows: &[Row]) ->
         out,
         "push_rows_ref",
         N,
-        work::push_row_refs::<Rows>(alloc, rows).ok()?
+        work::push_refs::<Row, Rows>(alloc, rows).ok()?
     );
     timed!(
         rt,
         out,
         "push_rows_value",
         N,
-        work::push_row_values::<Rows>(alloc, rows).ok()?
+        work::push_values::<Row, Rows>(alloc, rows).ok()?
     );
     Some(())
 }
 
 fn typed<R: Clock, O: Write>(rt: &R, alloc: Global, out: &mut O, rows: &[Row]) -> Option<()> {
-    let column = Held::Typed(work::push_row_refs::<Rows>(alloc, rows).ok()?);
+    let column = Held::Typed(work::push_refs::<Row, Rows>(alloc, rows).ok()?);
     let view = column.borrow();
     timed!(
         rt,
@@ -62,13 +61,19 @@ fn typed<R: Clock, O: Write>(rt: &R, alloc: Global, out: &mut O, rows: &[Row]) -
         work::push_view::<Viewed<'_>, Rows>(alloc, &view).ok()?
     );
     summed!(rt, out, "get_rows_typed", N, work::sum_rows(&view));
-    timed!(rt, out, "encode_rows", N, encoded(alloc, &view)?);
-    timed!(rt, out, "write_rows", N, written(alloc, &view)?);
+    timed!(rt, out, "encode_rows", N, work::encoded(alloc, &view)?);
+    timed!(
+        rt,
+        out,
+        "write_rows",
+        N,
+        work::written(alloc, &view, 16 * N)?
+    );
     Some(())
 }
 
 fn copies<R: Clock, O: Write>(rt: &R, alloc: Global, out: &mut O, rows: &[Row]) -> Option<()> {
-    let column = Held::Typed(work::push_row_refs::<Rows>(alloc, rows).ok()?);
+    let column = Held::Typed(work::push_refs::<Row, Rows>(alloc, rows).ok()?);
     let view = column.borrow();
     timed!(
         rt,
@@ -88,9 +93,15 @@ fn copies<R: Clock, O: Write>(rt: &R, alloc: Global, out: &mut O, rows: &[Row]) 
 }
 
 fn opened<R: Clock, O: Write>(rt: &R, alloc: Global, out: &mut O, rows: &[Row]) -> Option<()> {
-    let column = Held::Typed(work::push_row_refs::<Rows>(alloc, rows).ok()?);
-    let bytes = written(alloc, &column.borrow())?;
-    summed!(rt, out, "validate_rows", N, validated(bytes.as_slice()));
+    let column = Held::Typed(work::push_refs::<Row, Rows>(alloc, rows).ok()?);
+    let bytes = work::written(alloc, &column.borrow(), 16 * N)?;
+    summed!(
+        rt,
+        out,
+        "validate_rows",
+        N,
+        work::validated::<Rows>(bytes.as_slice())
+    );
     let stash = Held::try_from_bytes(alloc, bytes).ok()?;
     let view = stash.borrow();
     summed!(rt, out, "get_rows_bytes", N, work::sum_rows(&view));
@@ -103,24 +114,4 @@ fn opened<R: Clock, O: Write>(rt: &R, alloc: Global, out: &mut O, rows: &[Row]) 
     );
     timed!(rt, out, "to_typed_rows", N, stash.to_typed(alloc).ok()?);
     Some(())
-}
-
-#[inline(never)]
-fn encoded(alloc: Global, view: &Viewed<'_>) -> Option<Vec<u64>> {
-    let mut words = Vec::new(alloc);
-    encode(&mut words, view).ok()?;
-    Some(words)
-}
-
-#[inline(never)]
-fn written(alloc: Global, view: &Viewed<'_>) -> Option<Vec<u8>> {
-    let mut bytes = Vec::new(alloc);
-    bytes.reserve(16 * N).ok()?;
-    write(&mut bytes, view).ok()?;
-    Some(bytes)
-}
-
-#[inline(never)]
-fn validated(bytes: &[u8]) -> u64 {
-    validate::<Rows>(bytes).is_ok() as u64
 }

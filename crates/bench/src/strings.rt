@@ -2,7 +2,6 @@
 use crate::clock::{Random, line, nanos};
 use crate::{input, work};
 use columnar_base::view::View;
-use columnar_bytes::indexed::{encode, validate, write};
 use columnar_bytes::stash::Stash;
 use columnar_strings::string::Strings;
 use columnar_sums::option::Options;
@@ -34,7 +33,7 @@ pub fn measure<R: Clock, O: Write>(rt: &R, alloc: Global, out: &mut O) -> Option
     texts(rt, alloc, out, records.as_slice())?;
     copies(rt, alloc, out, records.as_slice())?;
     let held = typed(rt, alloc, out, records.as_slice())?;
-    let bytes = written(alloc, &held.borrow())?;
+    let bytes = work::written(alloc, &held.borrow(), 32 * N)?;
     opened(rt, alloc, out, bytes)
 }
 
@@ -45,9 +44,9 @@ fn texts<R: Clock, O: Write>(rt: &R, alloc: Global, out: &mut O, records: &[Reco
         out,
         "push_strings",
         N,
-        work::push_texts::<Strings>(alloc, texts.as_slice()).ok()?
+        work::push_values::<&str, Strings>(alloc, texts.as_slice()).ok()?
     );
-    let stash = Stash::<Strings, Vec<u8>>::Typed(work::push_texts::<Strings>(
+    let stash = Stash::<Strings, Vec<u8>>::Typed(work::push_values::<&str, Strings>(
         alloc,
         texts.as_slice(),
     ).ok()?);
@@ -62,7 +61,13 @@ fn texts<R: Clock, O: Write>(rt: &R, alloc: Global, out: &mut O, records: &[Reco
     );
     let mut bytes = Vec::new(alloc);
     stash.write_bytes(&mut bytes).ok()?;
-    summed!(rt, out, "validate_strings", N, validated(bytes.as_slice()));
+    summed!(
+        rt,
+        out,
+        "validate_strings",
+        N,
+        work::validated::<Strings>(bytes.as_slice())
+    );
     Some(())
 }
 
@@ -77,9 +82,9 @@ fn typed<R: Clock, O: Write>(
         out,
         "push_records_ref",
         N,
-        work::push_records::<Records>(alloc, records).ok()?
+        work::push_refs::<Record, Records>(alloc, records).ok()?
     );
-    let held = Held::Typed(work::push_records::<Records>(alloc, records).ok()?);
+    let held = Held::Typed(work::push_refs::<Record, Records>(alloc, records).ok()?);
     let view = held.borrow();
     timed!(
         rt,
@@ -89,8 +94,14 @@ fn typed<R: Clock, O: Write>(
         work::push_view::<Viewed<'_>, Records>(alloc, &view).ok()?
     );
     summed!(rt, out, "get_records_typed", N, work::sum_records(&view));
-    timed!(rt, out, "encode_records", N, encoded(alloc, &view)?);
-    timed!(rt, out, "write_records", N, written(alloc, &view)?);
+    timed!(rt, out, "encode_records", N, work::encoded(alloc, &view)?);
+    timed!(
+        rt,
+        out,
+        "write_records",
+        N,
+        work::written(alloc, &view, 32 * N)?
+    );
     Some(held)
 }
 
@@ -100,7 +111,7 @@ fn copies<R: Clock, O: Write>(
     out: &mut O,
     records: &[Record],
 ) -> Option<()> {
-    let held = Held::Typed(work::push_records::<Records>(alloc, records).ok()?);
+    let held = Held::Typed(work::push_refs::<Record, Records>(alloc, records).ok()?);
     let view = held.borrow();
     timed!(
         rt,
@@ -118,24 +129,4 @@ fn opened<R: Clock, O: Write>(rt: &R, alloc: Global, out: &mut O, bytes: Vec<u8>
     summed!(rt, out, "get_records_bytes", N, work::sum_records(&view));
     timed!(rt, out, "to_typed_records", N, held.to_typed(alloc).ok()?);
     Some(())
-}
-
-#[inline(never)]
-fn encoded(alloc: Global, view: &Viewed<'_>) -> Option<Vec<u64>> {
-    let mut words = Vec::new(alloc);
-    encode(&mut words, view).ok()?;
-    Some(words)
-}
-
-#[inline(never)]
-fn written(alloc: Global, view: &Viewed<'_>) -> Option<Vec<u8>> {
-    let mut bytes = Vec::new(alloc);
-    bytes.reserve(32 * N).ok()?;
-    write(&mut bytes, view).ok()?;
-    Some(bytes)
-}
-
-#[inline(never)]
-fn validated(bytes: &[u8]) -> u64 {
-    validate::<Strings>(bytes).is_ok() as u64
 }

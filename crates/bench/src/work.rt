@@ -1,61 +1,30 @@
 //! The work that is measured.
-ghost use Rattle.std.specs.Prelude.{◌≡◌, ℕ, ◌<◌, ◌≤◌, length, IfOk, IfSome};
-ghost use Rattle.columnar_base.specs.Format.{IsSound, both, part, part_format};
+ghost use Rattle.std.specs.Prelude.{◌≡◌, ℕ, ◌<◌, ◌≤◌, length, IfOk, IfSome, IsTrue};
+ghost use Rattle.columnar_base.specs.Format.{IsSound, both, part, part_format, representable};
 ghost use Rattle.columnar_base.specs.Elements.{words_format};
 ghost use Rattle.columnar_lists.specs.Lists.{lists_format};
+ghost use Rattle.columnar_sums.specs.Discriminants.{discriminant_format, owned_forms, variants_of};
 ghost use Rattle.columnar_sums.specs.RankColumns.{IsRanked};
 
+use crate::plain::Plain;
 use columnar_base::fault::GrowError;
 use columnar_base::slice::Slice;
 use columnar_base::storage::Storage;
-use columnar_base::traits::{Column, Index, Item, Len, Push, PushRef};
+use columnar_base::traits::{Column, Index, Len, Push, PushRef};
 use columnar_base::view::View;
+use columnar_bytes::indexed::{encode, validate, write};
+use columnar_core::bytes::{AsBytes, Stored};
 use columnar_core::container::ExtendFrom;
 use columnar_core::words::Words;
 use columnar_lists::vector::Vecs;
+use columnar_sums::discriminant::Discriminant;
 use columnar_sums::rank_select::RankSelect;
 use std::alloc::Global;
 
 #[inline(never)]
-pub fn push_values<T: Item + Copy, C: Storage + Push<T>>(
+pub fn push_values<T: Plain + Copy, C: Storage + Push<T>>(
     alloc: Global,
     items: &[T],
-) -> Result<C, GrowError>
-    requires { (x : T) → T.valid x }
-    ensures { IfOk result (λ c. IsSound C.format (C.content c)) }
-{
-    let mut column = C::empty(alloc);
-    for item in items {
-        match column.push(*item) {
-            Ok(()) => {}
-            Err(error) => return Err(error),
-        }
-    }
-    Ok(column)
-}
-
-#[inline(never)]
-pub fn push_refs<T: Item, C: Storage + PushRef<T>>(
-    alloc: Global,
-    items: &[T],
-) -> Result<C, GrowError>
-    requires { (x : T) → T.valid x }
-    ensures { IfOk result (λ c. IsSound C.format (C.content c)) }
-{
-    let mut column = C::empty(alloc);
-    for item in items {
-        match column.push_ref(item) {
-            Ok(()) => {}
-            Err(error) => return Err(error),
-        }
-    }
-    Ok(column)
-}
-
-#[inline(never)]
-pub fn push_row_values<C: Storage + Push<(u64, Option<u64>)>>(
-    alloc: Global,
-    items: &[(u64, Option<u64>)],
 ) -> Result<C, GrowError>
     ensures { IfOk result (λ c. IsSound C.format (C.content c)) }
 {
@@ -70,9 +39,9 @@ pub fn push_row_values<C: Storage + Push<(u64, Option<u64>)>>(
 }
 
 #[inline(never)]
-pub fn push_row_refs<C: Storage + PushRef<(u64, Option<u64>)>>(
+pub fn push_refs<T: Plain, C: Storage + PushRef<T>>(
     alloc: Global,
-    items: &[(u64, Option<u64>)],
+    items: &[T],
 ) -> Result<C, GrowError>
     ensures { IfOk result (λ c. IsSound C.format (C.content c)) }
 {
@@ -313,34 +282,6 @@ fn sum_list<'a>(list: &Slice<View<'a, u64>>) -> u64
 }
 
 #[inline(never)]
-pub fn push_texts<'x, C: Storage + Push<&'x str>>(
-    alloc: Global,
-    texts: &[&'x str],
-) -> Result<C, GrowError>
-    ensures { IfOk result (λ c. IsSound C.format (C.content c)) }
-{
-    let mut column = C::empty(alloc);
-    for text in texts {
-        column.push(*text)?;
-    }
-    Ok(column)
-}
-
-#[inline(never)]
-pub fn push_records<C: Storage + PushRef<(u64, String, Option<u64>)>>(
-    alloc: Global,
-    records: &[(u64, String, Option<u64>)],
-) -> Result<C, GrowError>
-    ensures { IfOk result (λ c. IsSound C.format (C.content c)) }
-{
-    let mut column = C::empty(alloc);
-    for record in records {
-        column.push_ref(record)?;
-    }
-    Ok(column)
-}
-
-#[inline(never)]
 pub fn sum_texts<'a, V: Len + Index<Ref = &'a [u8]>>(view: &V) -> u64
     requires { IsSound V.format (V.content view.now) }
 {
@@ -364,4 +305,63 @@ pub fn sum_records<'a, V: Len + Index<Ref = (u64, &'a [u8], Option<u64>)>>(view:
         }
     }
     sum
+}
+
+#[inline(never)]
+pub fn sum_results<V: Len + Index<Ref = Result<u64, u32>>>(view: &V) -> u64
+    requires { IsSound V.format (V.content view.now) }
+{
+    let mut sum = 0u64;
+    for i in 0..view.len() {
+        sum = sum.wrapping_add(match view.get(i) {
+            Ok(value) => value,
+            Err(error) => error as u64,
+        });
+    }
+    sum
+}
+
+/// Pushes each variant with the number of earlier ones of it.
+#[inline(never)]
+pub fn push_variants(alloc: Global, variants: &[u8]) -> Result<Discriminant, GrowError>
+    ensures sound { IfOk result (λ d. IsSound discriminant_format (owned_forms d.variant.items d.offset.items)) }
+    ensures variants { IfOk result (λ d. variants_of (owned_forms d.variant.items d.offset.items) ≡ variants.now) }
+{
+    let mut column = Discriminant::empty(alloc);
+    let mut counts = [0u64; 256];
+    for variant in variants {
+        let earlier = counts[*variant as usize];
+        column.push(*variant, earlier)?;
+        counts[*variant as usize] = earlier + 1;
+    }
+    Ok(column)
+}
+
+/// The words of a column's encoding.
+#[inline(never)]
+pub fn encoded<'a, S: AsBytes<'a>>(alloc: Global, view: &S) -> Option<Vec<u64>>
+    requires { IsTrue (representable S.format) }
+{
+    let mut words = Vec::new(alloc);
+    encode(&mut words, view).ok()?;
+    Some(words)
+}
+
+/// The bytes of a column's encoding, written where there is room for `room` of them.
+#[inline(never)]
+pub fn written<'a, S: AsBytes<'a>>(alloc: Global, view: &S, room: usize) -> Option<Vec<u8>>
+    requires { IsTrue (representable S.format) }
+{
+    let mut bytes = Vec::new(alloc);
+    bytes.reserve(room).ok()?;
+    write(&mut bytes, view).ok()?;
+    Some(bytes)
+}
+
+/// 1 where the bytes are accepted, else 0.
+#[inline(never)]
+pub fn validated<C: Stored>(bytes: &[u8]) -> u64
+    requires { IsTrue (representable C.format) }
+{
+    validate::<C>(bytes).is_ok() as u64
 }

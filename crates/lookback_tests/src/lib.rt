@@ -4,6 +4,8 @@
 #[cfg(test)]
 mod copies;
 #[cfg(test)]
+mod lookbacks;
+#[cfg(test)]
 mod refused;
 #[cfg(test)]
 mod repeats;

@@ -1,6 +1,8 @@
 // Each call that takes memory, with whatever request for memory refused: it is done, or nothing has changed. A request
 // that is refused anywhere else in a test ends it.
 
+mod lookbacks;
+
 use crate::rows::Held;
 use columnar_core::container::Borrow;
 use columnar_lookback::repeats::Repeats;

@@ -10,6 +10,7 @@ use columnar_primitive::chars::Chars;
 use columnar_primitive::durations::Durations;
 use columnar_primitive::empties::Empties;
 use columnar_primitive::offsets::Strides;
+use columnar_strings::string::Strings;
 use columnar_sums::option::Options;
 use std::alloc::Global;
 use std::test::Fail;
@@ -147,6 +148,48 @@ fn rows_that_may_be_absent_and_boxes(rt: HostRuntime) -> Result<(), Fail> {
     assert_eq!(rt;
         told::<_, Boxed<Vec<u64>>>(alloc, Boxed(1u64), Boxed(2), &Boxed(1))?,
         (true, false)
+    );
+    Ok(())
+}
+
+#[test]
+fn tuples_of_four_columns(rt: HostRuntime) -> Result<(), Fail> {
+    let item = (1u64, 2u64, true, 4u64);
+    for (row, wanted) in [
+        ((1, 2, true, 4), true),
+        ((9, 2, true, 4), false),
+        ((1, 9, true, 4), false),
+        ((1, 2, false, 4), false),
+        ((1, 2, true, 9), false),
+    ] {
+        assert_eq!(rt;
+            told::<_, (Vec<u64>, Vec<u64>, Bools, Vec<u64>)>(rt.alloc(), item, row, &item)?,
+            (true, wanted)
+        );
+    }
+    Ok(())
+}
+
+#[test]
+fn texts(rt: HostRuntime) -> Result<(), Fail> {
+    let alloc = rt.alloc();
+    assert_eq!(rt;
+        told::<&str, Strings>(alloc, "abc", "abd", &"abc")?,
+        (true, false)
+    );
+    assert_eq!(rt;
+        told::<&str, Strings>(alloc, "abc", "ab", &"ab")?,
+        (false, true)
+    );
+    assert_eq!(rt; told::<&str, Strings>(alloc, "", "ab", &"")?, (true, false));
+    assert_eq!(rt;
+        told::<&[u8], Strings>(
+            alloc,
+            b"ab".as_slice(),
+            b"\xff".as_slice(),
+            &b"\xff".as_slice()
+        )?,
+        (false, true)
     );
     Ok(())
 }

@@ -4,6 +4,8 @@ ghost use Rattle.columnar_base.specs.ElementLaws.{elements_lawful};
 ghost use Rattle.lookback_tests.specs.Tens.{kinned, same_digit};
 ghost use Rattle.lookback_tests.specs.TensLaws.{kinned_lawful, kinned_storable, same_kinned, same_digit_same, same_digit_equal};
 
+mod lookbacks;
+mod refused;
 mod runs;
 
 use columnar_base::fault::{GrowError, StoreFault};

@@ -1,0 +1,109 @@
+// A stash over distances: grown, cut, written, opened, copied, and told in a list of commands.
+ghost use Rattle.std.specs.Prelude.{All, IsTrue};
+ghost use Rattle.columnar_core.specs.Format.{IsSound, representable};
+ghost use Rattle.columnar_bytes.specs.Machine.{IsValid};
+
+use super::{Far, RETURNS};
+use crate::rows::numbers;
+use columnar_bytes::stash::{Command, Refusal, Reply, Stash, run};
+use columnar_core::container::{Borrow, ContainerBytes, ExtendFrom, Storage};
+use columnar_core::traits::{Clear, Item, Len, Push, PushRef};
+use std::alloc::Global;
+use std::test::Fail;
+use test_support::stashes::{has, opened, variant, writes};
+
+// The rows 7, 9, 7: the bits 1, 1, 0, the values 7, 9 and the distance 1
+static SEVEN_AGAIN: [u64; 11] = [48, 48, 48, 64, 80, 81, 3, 3, 7, 9, 1];
+
+#[test]
+fn a_stash_grows_and_is_cut(rt: HostRuntime) -> Result<(), Fail> {
+    let source = numbers::<Far>(rt.alloc(), RETURNS.as_slice())?;
+    let mut stash = Stash::<Far, Vec<u8>>::empty(rt.alloc());
+    assert!(rt; stash.push(7u64).is_ok());
+    assert!(rt; stash.push(&9u64).is_ok());
+    assert!(rt; stash.push_ref(&7u64).is_ok());
+    assert!(rt; writes(&stash, SEVEN_AGAIN.as_slice()));
+    let view = source.borrow();
+    if view.len() < 3 {
+        return Err(Fail::from("too few"));
+    }
+    assert!(rt; stash.extend_from_self(view, 1..3).is_ok());
+    assert!(rt; has(&stash, [7, 9, 7, 20, 10].as_slice()));
+    assert_eq!(rt; stash.length_in_bytes(), Some(104));
+    if stash.len() > 2 {
+        assert!(rt; stash.truncate(2).is_ok());
+    }
+    assert!(rt; writes(&stash, [48, 48, 48, 64, 80, 80, 3, 2, 7, 9].as_slice()));
+    stash.clear();
+    assert!(rt; writes(&stash, [48, 48, 48, 64, 64, 64, 0, 0].as_slice()));
+    Ok(())
+}
+
+// The rows 7, 9, 7, 9
+static NINE_AGAIN: [u64; 11] = [48, 48, 48, 64, 80, 82, 3, 4, 7, 9, 1];
+
+#[test]
+fn opened_bytes_grow(rt: HostRuntime) -> Result<(), Fail> {
+    let mut stash = opened::<Far>(rt.alloc(), SEVEN_AGAIN.as_slice()).expect(&rt, "opened");
+    assert_eq!(rt; variant(&stash), 1);
+    assert!(rt; stash.make_aligned(rt.alloc()).is_ok());
+    assert_eq!(rt; variant(&stash), 2);
+    assert!(rt; has(&stash, [7, 9, 7].as_slice()));
+    assert!(rt; stash.push(9u64).is_ok());
+    assert_eq!(rt; variant(&stash), 0);
+    assert!(rt; has(&stash, [7, 9, 7, 9].as_slice()));
+    assert!(rt; writes(&stash, NINE_AGAIN.as_slice()));
+    assert!(rt; writes(&stash.clone()?, NINE_AGAIN.as_slice()));
+    Ok(())
+}
+
+// Has a run from no rows on these replies, and does it end in these words?
+fn tells<T: Item, V: Len + Copy, C: ContainerBytes + Storage + PushRef<T> + ExtendFrom<V>>(
+    alloc: Global,
+    source: V,
+    commands: &[Command<T>],
+    wanted: &[Reply],
+    after: &[u64],
+) -> bool
+    requires representable { IsTrue (representable C.format) }
+    requires source_sound { IsSound V.format (V.content source) }
+    requires valid { All (IsValid T.valid) commands.now }
+{
+    let (stash, replies) = run(alloc, Stash::<C, Vec<u8>>::empty(alloc), source, commands);
+    match replies {
+        Ok(replies) => replies.as_slice() == wanted && writes(&stash, after),
+        Err(_) => false,
+    }
+}
+
+const DONE: Reply = Reply::Done;
+
+const RANGE: Reply = Reply::Refused(Refusal::Range);
+
+// Left are 10, 20, 10 and 20
+#[test]
+fn a_list_of_commands(rt: HostRuntime) -> Result<(), Fail> {
+    let source = numbers::<Far>(rt.alloc(), RETURNS.as_slice())?;
+    let commands = [
+        Command::Push(10u64),
+        Command::Reopen,
+        Command::Copy(1, 3),
+        Command::Copy(4, 6),
+        Command::MakeAligned,
+        Command::Push(20u64),
+        Command::Push(30u64),
+        Command::Truncate(4),
+    ];
+    let wanted = [DONE, DONE, DONE, RANGE, DONE, DONE, DONE, DONE];
+    let after = [48, 48, 48, 64, 80, 82, 3, 4, 10, 20, 1];
+    assert!(rt;
+        tells::<_, _, Far>(
+            rt.alloc(),
+            source.borrow(),
+            commands.as_slice(),
+            wanted.as_slice(),
+            after.as_slice()
+        )
+    );
+    Ok(())
+}

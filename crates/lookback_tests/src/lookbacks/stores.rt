@@ -1,0 +1,191 @@
+// Worked stores of distances, and which rule others break at which slice.
+
+use super::{Far, RETURNS, Two, keeps};
+use crate::rows::{numbers, reads};
+use columnar_bytes::indexed::encode;
+use columnar_bytes::stash::Stash;
+use columnar_core::bytes::{AsBytes, Check, Stored};
+use columnar_core::container::{Borrow, ContainerBytes};
+use columnar_core::fault::StoreFault;
+use columnar_core::traits::{Len, Push};
+use columnar_core::view::View;
+use columnar_lookback::lookbacks::Lookbacks;
+use columnar_primitive::bools::Bools;
+use columnar_sums::rank_select::RankSelect;
+use columnar_sums::result::Results;
+use std::test::Fail;
+use test_support::stashes::{has, opened, reopened, variant, writes};
+use test_support::stores::{is_written, refusal};
+
+type Viewed<'a> = Lookbacks<
+    View<'a, u64>,
+    255,
+    &'a [u8],
+    View<'a, u64>,
+    View<'a, u64>,
+    View<'a, u64>,
+>;
+
+// The rows 10, 20, 10, 30, 20: the bits 1, 1, 0, 1, 0, the values 10, 20, 30 and the distances 1, 1
+static RETURNS_STORED: [u64; 12] = [48, 48, 48, 64, 88, 90, 11, 5, 10, 20, 30, 257];
+
+#[test]
+fn a_store_that_is_accepted(rt: HostRuntime) -> Result<(), Fail> {
+    assert_eq!(rt;
+        refusal::<Far>(rt.alloc(), RETURNS_STORED.as_slice())?,
+        (0, 0)
+    );
+    let stash = opened::<Far>(rt.alloc(), RETURNS_STORED.as_slice()).expect(&rt, "opened");
+    assert_eq!(rt; variant(&stash), 1);
+    assert!(rt; has(&stash, RETURNS.as_slice()));
+    let none = [48, 48, 48, 64, 64, 64, 0, 0];
+    assert_eq!(rt; refusal::<Far>(rt.alloc(), none.as_slice())?, (0, 0));
+    let stash = opened::<Far>(rt.alloc(), none.as_slice()).expect(&rt, "opened");
+    assert!(rt; stash.is_empty());
+    Ok(())
+}
+
+#[test]
+fn each_distance_is_below_the_values_before_it(rt: HostRuntime) -> Result<(), Fail> {
+    let alloc = rt.alloc();
+    let first_too_far = [48, 48, 48, 64, 88, 90, 11, 5, 10, 20, 30, 258];
+    assert_eq!(rt; refusal::<Far>(alloc, first_too_far.as_slice())?, (15, 0));
+    let last_too_far = [48, 48, 48, 64, 88, 90, 11, 5, 10, 20, 30, 769];
+    assert_eq!(rt; refusal::<Far>(alloc, last_too_far.as_slice())?, (15, 0));
+    let no_value = [48, 48, 48, 64, 64, 65, 0, 1, 0];
+    assert_eq!(rt; refusal::<Far>(alloc, no_value.as_slice())?, (15, 0));
+    let behind_one = [56, 64, 64, 64, 80, 80, 81, 5, 0, 1, 0];
+    assert_eq!(rt;
+        refusal::<(Vec<u64>, Far)>(alloc, behind_one.as_slice())?,
+        (15, 1)
+    );
+    Ok(())
+}
+
+// The last row stands two before the last value
+#[test]
+fn a_distance_may_be_further_than_a_push_looks(rt: HostRuntime) -> Result<(), Fail> {
+    let alloc = rt.alloc();
+    let words = [48, 48, 48, 64, 88, 90, 11, 5, 10, 20, 30, 513];
+    let rows = [10, 20, 10, 30, 10];
+    assert_eq!(rt; refusal::<Far>(alloc, words.as_slice())?, (0, 0));
+    let far = opened::<Far>(alloc, words.as_slice()).expect(&rt, "opened");
+    assert!(rt; has(&far, rows.as_slice()));
+    assert_eq!(rt; refusal::<Two>(alloc, words.as_slice())?, (0, 0));
+    let two = opened::<Two>(alloc, words.as_slice()).expect(&rt, "opened");
+    assert!(rt; has(&two, rows.as_slice()));
+    Ok(())
+}
+
+// Of two values that are the same, the last one is meant.
+#[test]
+fn the_least_distance_is_kept(rt: HostRuntime) -> Result<(), Fail> {
+    let words = [48, 48, 48, 64, 88, 88, 7, 3, 7, 7, 9];
+    let mut stash = opened::<Far>(rt.alloc(), words.as_slice()).expect(&rt, "opened");
+    assert!(rt; stash.push(7u64).is_ok());
+    assert!(rt; has(&stash, [7, 7, 9, 7].as_slice()));
+    assert!(rt;
+        writes(
+            &stash,
+            [48, 48, 48, 64, 88, 89, 7, 4, 7, 7, 9, 1].as_slice()
+        )
+    );
+    Ok(())
+}
+
+#[test]
+fn as_many_values_and_distances_as_bits(rt: HostRuntime) -> Result<(), Fail> {
+    let alloc = rt.alloc();
+    let one_value_more = [48, 48, 48, 64, 96, 98, 11, 5, 10, 20, 30, 40, 257];
+    assert_eq!(rt; refusal::<Far>(alloc, one_value_more.as_slice())?, (10, 0));
+    let one_distance_less = [48, 48, 48, 64, 88, 89, 11, 5, 10, 20, 30, 1];
+    assert_eq!(rt;
+        refusal::<Far>(alloc, one_distance_less.as_slice())?,
+        (10, 0)
+    );
+    // (this rule comes before that of the distances)
+    let no_bit = [48, 48, 48, 64, 72, 73, 0, 1, 7, 1];
+    assert_eq!(rt; refusal::<Far>(alloc, no_bit.as_slice())?, (10, 0));
+    Ok(())
+}
+
+#[test]
+fn a_view_tests_itself(rt: HostRuntime) -> Result<(), Fail> {
+    for (tail, values, distances, wanted) in [
+        ([3u64, 3], [7u64, 9].as_slice(), [1u8].as_slice(), Ok(())),
+        (
+            [3, 3],
+            [7, 9].as_slice(),
+            [2].as_slice(),
+            Err(StoreFault::Lookback(0)),
+        ),
+        (
+            [2, 2],
+            [7].as_slice(),
+            [0].as_slice(),
+            Err(StoreFault::Lookback(0)),
+        ),
+        (
+            [3, 3],
+            [7].as_slice(),
+            [0].as_slice(),
+            Err(StoreFault::Parts(0)),
+        ),
+    ] {
+        let bits = Bools {
+            values: View::from_slice([].as_slice()),
+            tail: View::from_slice(tail.as_slice()),
+        };
+        let view: Viewed<'_> = Lookbacks {
+            inner: Results {
+                indexes: RankSelect {
+                    counts: View::from_slice([].as_slice()),
+                    values: bits,
+                },
+                oks: View::from_slice(values),
+                errs: distances,
+            },
+        };
+        assert_eq!(rt; view.check(), wanted);
+    }
+    Ok(())
+}
+
+#[test]
+fn distances_are_written_tested_and_opened(rt: HostRuntime) -> Result<(), Fail> {
+    let column = numbers::<Far>(rt.alloc(), RETURNS.as_slice())?;
+    assert!(rt; is_written(&column, RETURNS_STORED.as_slice()));
+    let mut words = Vec::new(rt.alloc());
+    assert!(rt; encode(&mut words, &column.borrow()).is_ok());
+    assert_eq!(rt; words.as_slice(), RETURNS_STORED.as_slice());
+    let stash = reopened(rt.alloc(), &Stash::<_, Vec<u8>>::Typed(column)).expect(&rt, "reopened");
+    assert_eq!(rt; variant(&stash), 1);
+    assert!(rt; has(&stash, RETURNS.as_slice()));
+    assert!(rt; writes(&stash, RETURNS_STORED.as_slice()));
+    Ok(())
+}
+
+#[test]
+fn a_store_is_loaded_as_it_stands(rt: HostRuntime) -> Result<(), Fail> {
+    let two_sevens = [48, 48, 48, 64, 80, 81, 3, 3, 7, 7, 1];
+    let stash = opened::<Far>(rt.alloc(), two_sevens.as_slice()).expect(&rt, "opened");
+    let Stash::Typed(column) = stash.to_typed(rt.alloc())? else {
+        return Err(Fail::from("not a column"));
+    };
+    assert!(rt; keeps(&column, [7, 7].as_slice(), [1].as_slice()));
+    assert!(rt; is_written(&column, two_sevens.as_slice()));
+    Ok(())
+}
+
+#[test]
+fn slices_of_distances(rt: HostRuntime) -> Result<(), Fail> {
+    let mut sizes = Vec::new(rt.alloc());
+    assert_eq!(rt; Far::slice_count(), 5);
+    assert!(rt; Far::element_sizes(&mut sizes).is_ok());
+    assert_eq!(rt; sizes.as_slice(), [8, 8, 8, 8, 1].as_slice());
+    let column = numbers::<Far>(rt.alloc(), RETURNS.as_slice())?;
+    assert_eq!(rt; column.byte_slice(2).len(), 16);
+    assert_eq!(rt; column.byte_slice(3).len(), 24);
+    assert_eq!(rt; column.borrow().get_byte_slice(4).1.len(), 2);
+    Ok(())
+}

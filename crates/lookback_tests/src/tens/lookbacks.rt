@@ -1,0 +1,71 @@
+// Numbers that are kept as how far back one with the same last decimal digit stands, by worked rows.
+ghost use Rattle.columnar_core.specs.Format.{IsSound};
+ghost use Rattle.columnar_bytes.specs.Stashes.{stash_content};
+
+use super::Tens;
+use crate::rows::{numbers, reads};
+use columnar_bytes::stash::Stash;
+use columnar_core::traits::Column;
+use columnar_lists::vector::Vecs;
+use columnar_lookback::lookbacks::Lookbacks;
+use std::test::Fail;
+use test_support::columns::{item_of, takes};
+use test_support::stashes::{opened, row_of, variant, writes};
+
+pub(super) type Held = Lookbacks<Tens<Vec<u64>>, 255>;
+
+type Lists = Vecs<Held, Vec<u64>>;
+
+// The rows 13, 23, both stored
+pub(super) static BOTH_STORED: [u64; 10] = [48, 48, 48, 64, 80, 80, 3, 2, 13, 23];
+
+// The same, each in a list
+static TWO_LISTS: [u64; 13] = [56, 72, 72, 72, 88, 104, 104, 1, 2, 3, 2, 13, 23];
+
+#[test]
+fn the_same_digit_is_kept_as_its_distance(rt: HostRuntime) -> Result<(), Fail> {
+    let column = numbers::<Held>(rt.alloc(), [13, 27, 23].as_slice())?;
+    assert!(rt; reads(&column, [13, 27, 13].as_slice()));
+    assert_eq!(rt; column.inner.oks.numbers.as_slice(), [13, 27].as_slice());
+    assert_eq!(rt; column.inner.errs.as_slice(), [1].as_slice());
+    assert_eq!(rt; column.distance_to(&107u64), Some(0));
+    assert_eq!(rt; column.distance_to(&3u64), Some(1));
+    assert_eq!(rt; column.distance_to(&31u64), None);
+    Ok(())
+}
+
+#[test]
+fn bytes_with_one_digit_twice_are_pushed_to(rt: HostRuntime) -> Result<(), Fail> {
+    let mut stash = opened::<Held>(rt.alloc(), BOTH_STORED.as_slice()).expect(&rt, "opened");
+    match stash.make_typed() {
+        Ok(column) => {
+            assert!(rt; takes(column, 33u64));
+            assert!(rt; reads(&*column, [13, 23, 23].as_slice()));
+        }
+        Err(_) => assert!(rt; false),
+    }
+    assert_eq!(rt; variant(&stash), 0);
+    assert!(rt; writes(&stash, [48, 48, 48, 64, 80, 81, 3, 3, 13, 23, 0].as_slice()));
+    Ok(())
+}
+
+// Has a stash the lists [13] and [23]?
+fn has_both_lists<'a>(stash: &'a Stash<Lists, Vec<u8>>) -> bool
+    requires { IsSound ⟦<Lists as Column>⟧.format (stash_content stash.now) }
+{
+    item_of(row_of(stash, 0), 0) == Some(13)
+        && item_of(row_of(stash, 0), 1).is_none()
+        && item_of(row_of(stash, 1), 0) == Some(23)
+        && item_of(row_of(stash, 1), 1).is_none()
+}
+
+#[test]
+fn lists_of_digits_are_opened_and_loaded(rt: HostRuntime) -> Result<(), Fail> {
+    let stash = opened::<Lists>(rt.alloc(), TWO_LISTS.as_slice()).expect(&rt, "opened");
+    assert_eq!(rt; variant(&stash), 1);
+    assert!(rt; has_both_lists(&stash));
+    let typed = stash.to_typed(rt.alloc())?;
+    assert_eq!(rt; variant(&typed), 0);
+    assert!(rt; has_both_lists(&typed));
+    Ok(())
+}

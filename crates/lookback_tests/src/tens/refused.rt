@@ -1,0 +1,31 @@
+// A push of a number whose digit is there twice, with whatever request for memory refused: it is done, or the bytes are
+// as they were. A request that is refused anywhere else in the test ends it.
+
+use super::lookbacks::{BOTH_STORED, Held};
+use columnar_base::fault::GrowError;
+use columnar_core::traits::Push;
+use std::test::Fail;
+use test_support::stashes::{has, opened, variant, writes};
+use test_support::trials::is_refused;
+
+#[test]
+fn a_push_to_opened_bytes(rt: HostRuntime) -> Result<(), Fail> {
+    let alloc = rt.alloc();
+    assert!(rt; !is_refused::<Held>(alloc, BOTH_STORED.as_slice()));
+    let Some(mut stash) = opened::<Held>(alloc, BOTH_STORED.as_slice()) else {
+        return Ok(());
+    };
+    match stash.push(33u64) {
+        Ok(()) => {
+            assert_eq!(rt; variant(&stash), 0);
+            assert!(rt; has(&stash, [13, 23, 23].as_slice()));
+        }
+        Err(error) => {
+            assert_eq!(rt; error, GrowError::Memory);
+            assert_eq!(rt; variant(&stash), 1);
+            assert!(rt; has(&stash, [13, 23].as_slice()));
+            assert!(rt; writes(&stash, BOTH_STORED.as_slice()));
+        }
+    }
+    Ok(())
+}

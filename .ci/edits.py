@@ -171,7 +171,8 @@ class Crate:
             how = {"stdin": subprocess.DEVNULL, "stdout": subprocess.PIPE, "stderr": subprocess.STDOUT}
             how["preexec_fn"] = lambda: os.setpgid(0, GUARD)
             ran = subprocess.run(words, cwd=room, errors="replace", text=True, **how)
-        return ran.returncode, ran.stdout
+        # (a message that is long goes on in lines that are set in)
+        return ran.returncode, re.sub(r"(\.antt:\d+:\d+: error: [^\n]*)\n  (?=\S)", r"\1 ", ran.stdout)
 
 
 def deep(name, own):

@@ -51,7 +51,7 @@ fn push<R: Clock, O: Write>(rt: &R, alloc: Global, out: &mut O, bits: &[bool]) -
 fn plain<R: Clock, O: Write>(rt: &R, alloc: Global, out: &mut O, bits: &[bool]) -> Option<()> {
     let stash = Stash::<Plain, Vec<u8>>::Typed(work::push_values::<bool, Plain>(alloc, bits).ok()?);
     let view = stash.borrow();
-    summed!(rt, out, "get_bools", M, work::count_true(&view));
+    summed!(rt, out, "get_bools", M, work::sum(&view));
     Some(())
 }
 
@@ -65,7 +65,7 @@ fn queries<R: Clock, O: Write>(
     let mut random = start;
     let stash = Stash::<Bits, Vec<u8>>::Typed(work::push_values::<bool, Bits>(alloc, bits).ok()?);
     let view = stash.borrow();
-    let ones = work::count_true(&view);
+    let ones = work::sum(&view);
     if ones == 0 {
         return None;
     }
@@ -92,8 +92,8 @@ fn queries<R: Clock, O: Write>(
 fn walks<R: Clock, O: Write>(rt: &R, alloc: Global, out: &mut O, bits: &[bool]) -> Option<()> {
     let stash = Stash::<Bits, Vec<u8>>::Typed(work::push_values::<bool, Bits>(alloc, bits).ok()?);
     let view = stash.borrow();
-    summed!(rt, out, "get_bits", M, work::count_true(&view));
-    let ones = work::count_true(&view) as usize;
+    summed!(rt, out, "get_bits", M, work::sum(&view));
+    let ones = work::sum(&view) as usize;
     summed!(
         rt,
         out,

@@ -36,7 +36,7 @@ fn results<R: Clock, O: Write>(rt: &R, alloc: Global, out: &mut O, rows: &[Row])
     );
     let stash = Stash::<Rows, Vec<u8>>::Typed(work::push_refs::<Row, Rows>(alloc, rows).ok()?);
     let view = stash.borrow();
-    summed!(rt, out, "get_results", N, work::sum_results(&view));
+    summed!(rt, out, "get_results", N, work::sum(&view));
     timed!(
         rt,
         out,

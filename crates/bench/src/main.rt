@@ -22,6 +22,7 @@ macro_rules! summed {
     }};
 }
 
+mod amount;
 mod bits;
 mod clock;
 mod input;

@@ -44,7 +44,7 @@ fn typed<R: Clock, O: Write>(rt: &R, alloc: Global, out: &mut O, words: &[u64]) 
         N,
         work::copied::<View<'_, u64>, Vec<u64>>(alloc, view, 0, N)?
     );
-    summed!(rt, out, "sum_u64_typed", N, work::sum_words(&view));
+    summed!(rt, out, "sum_u64_typed", N, work::sum(&view));
     timed!(rt, out, "encode_u64", N, work::encoded(alloc, &view)?);
     timed!(
         rt,
@@ -68,7 +68,7 @@ fn opened<R: Clock, O: Write>(rt: &R, alloc: Global, out: &mut O, words: &[u64])
     );
     let stash = Numbers::try_from_bytes(alloc, bytes).ok()?;
     let view = stash.borrow();
-    summed!(rt, out, "sum_u64_bytes", N, work::sum_words(&view));
+    summed!(rt, out, "sum_u64_bytes", N, work::sum(&view));
     timed!(
         rt,
         out,

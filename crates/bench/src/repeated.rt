@@ -41,7 +41,7 @@ fn runs<R: Clock, O: Write>(rt: &R, alloc: Global, out: &mut O, words: &[u64]) -
     );
     let stash = Stash::<Runs, Vec<u8>>::Typed(work::push_refs::<u64, Runs>(alloc, words).ok()?);
     let view = stash.borrow();
-    summed!(rt, out, "get_repeats", N, work::sum_words(&view));
+    summed!(rt, out, "get_repeats", N, work::sum(&view));
     Some(())
 }
 
@@ -55,6 +55,6 @@ fn recent<R: Clock, O: Write>(rt: &R, alloc: Global, out: &mut O, words: &[u64])
     );
     let stash = Stash::<Recent, Vec<u8>>::Typed(work::push_refs::<u64, Recent>(alloc, words).ok()?);
     let view = stash.borrow();
-    summed!(rt, out, "get_lookbacks", N, work::sum_words(&view));
+    summed!(rt, out, "get_lookbacks", N, work::sum(&view));
     Some(())
 }

@@ -60,7 +60,7 @@ fn typed<R: Clock, O: Write>(rt: &R, alloc: Global, out: &mut O, rows: &[Row]) -
         N,
         work::push_view::<Viewed<'_>, Rows>(alloc, &view).ok()?
     );
-    summed!(rt, out, "get_rows_typed", N, work::sum_rows(&view));
+    summed!(rt, out, "get_rows_typed", N, work::sum(&view));
     timed!(rt, out, "encode_rows", N, work::encoded(alloc, &view)?);
     timed!(
         rt,
@@ -104,7 +104,7 @@ fn opened<R: Clock, O: Write>(rt: &R, alloc: Global, out: &mut O, rows: &[Row]) 
     );
     let stash = Held::try_from_bytes(alloc, bytes).ok()?;
     let view = stash.borrow();
-    summed!(rt, out, "get_rows_bytes", N, work::sum_rows(&view));
+    summed!(rt, out, "get_rows_bytes", N, work::sum(&view));
     timed!(
         rt,
         out,

@@ -51,7 +51,7 @@ fn texts<R: Clock, O: Write>(rt: &R, alloc: Global, out: &mut O, records: &[Reco
         texts.as_slice(),
     ).ok()?);
     let view = stash.borrow();
-    summed!(rt, out, "get_strings", N, work::sum_texts(&view));
+    summed!(rt, out, "get_strings", N, work::sum(&view));
     timed!(
         rt,
         out,
@@ -93,7 +93,7 @@ fn typed<R: Clock, O: Write>(
         N,
         work::push_view::<Viewed<'_>, Records>(alloc, &view).ok()?
     );
-    summed!(rt, out, "get_records_typed", N, work::sum_records(&view));
+    summed!(rt, out, "get_records_typed", N, work::sum(&view));
     timed!(rt, out, "encode_records", N, work::encoded(alloc, &view)?);
     timed!(
         rt,
@@ -126,7 +126,7 @@ fn copies<R: Clock, O: Write>(
 fn opened<R: Clock, O: Write>(rt: &R, alloc: Global, out: &mut O, bytes: Vec<u8>) -> Option<()> {
     let held = Held::try_from_bytes(alloc, bytes).ok()?;
     let view = held.borrow();
-    summed!(rt, out, "get_records_bytes", N, work::sum_records(&view));
+    summed!(rt, out, "get_records_bytes", N, work::sum(&view));
     timed!(rt, out, "to_typed_records", N, held.to_typed(alloc).ok()?);
     Some(())
 }

@@ -6,6 +6,7 @@ ghost use Rattle.columnar_lists.specs.Lists.{lists_format};
 ghost use Rattle.columnar_sums.specs.Discriminants.{discriminant_format, owned_forms, variants_of};
 ghost use Rattle.columnar_sums.specs.RankColumns.{IsRanked};
 
+use crate::amount::Amount;
 use crate::plain::Plain;
 use columnar_base::fault::GrowError;
 use columnar_base::slice::Slice;
@@ -74,38 +75,19 @@ pub fn push_view<V: Index + Len, C: Storage + Push<V::Ref>>(
 }
 
 #[inline(never)]
-pub fn sum_rows<V: Len + Index<Ref = (u64, Option<u64>)>>(view: &V) -> u64
+pub fn sum<V: Len + Index<Ref: Amount>>(view: &V) -> u64
     requires { IsSound V.format (V.content view.now) }
 {
-    let mut sum = 0u64;
-    for i in 0..view.len() {
-        let (first, second) = view.get(i);
-        sum = sum.wrapping_add(first);
-        if let Some(value) = second {
-            sum = sum.wrapping_add(value);
-        }
-    }
-    sum
+    total(view)
 }
 
-#[inline(never)]
-pub fn sum_words<V: Len + Index<Ref = u64>>(view: &V) -> u64
+// The same, as a part of what calls it.
+fn total<V: Len + Index<Ref: Amount>>(view: &V) -> u64
     requires { IsSound V.format (V.content view.now) }
 {
     let mut sum = 0u64;
     for i in 0..view.len() {
-        sum = sum.wrapping_add(view.get(i));
-    }
-    sum
-}
-
-#[inline(never)]
-pub fn count_true<V: Len + Index<Ref = bool>>(view: &V) -> u64
-    requires { IsSound V.format (V.content view.now) }
-{
-    let mut sum = 0u64;
-    for i in 0..view.len() {
-        sum = sum.wrapping_add(view.get(i) as u64);
+        sum = sum.wrapping_add(view.get(i).amount());
     }
     sum
 }
@@ -265,58 +247,7 @@ pub fn sum_lists<'a>(lists: &Vecs<View<'a, u64>, View<'a, u64>>) -> u64
 {
     let mut sum = 0u64;
     for i in 0..lists.len() {
-        let list = lists.get(i);
-        sum = sum.wrapping_add(sum_list(&list));
-    }
-    sum
-}
-
-fn sum_list<'a>(list: &Slice<View<'a, u64>>) -> u64
-    requires { IsSound (part_format words_format) (part list.now.lower list.now.upper (⟦<View<'a, u64> as Column>⟧.content list.now.slice)) }
-{
-    let mut sum = 0u64;
-    for j in 0..list.len() {
-        sum = sum.wrapping_add(list.get(j));
-    }
-    sum
-}
-
-#[inline(never)]
-pub fn sum_texts<'a, V: Len + Index<Ref = &'a [u8]>>(view: &V) -> u64
-    requires { IsSound V.format (V.content view.now) }
-{
-    let mut sum = 0u64;
-    for i in 0..view.len() {
-        sum = sum.wrapping_add(view.get(i).len() as u64);
-    }
-    sum
-}
-
-#[inline(never)]
-pub fn sum_records<'a, V: Len + Index<Ref = (u64, &'a [u8], Option<u64>)>>(view: &V) -> u64
-    requires { IsSound V.format (V.content view.now) }
-{
-    let mut sum = 0u64;
-    for i in 0..view.len() {
-        let (number, text, other) = view.get(i);
-        sum = sum.wrapping_add(number).wrapping_add(text.len() as u64);
-        if let Some(value) = other {
-            sum = sum.wrapping_add(value);
-        }
-    }
-    sum
-}
-
-#[inline(never)]
-pub fn sum_results<V: Len + Index<Ref = Result<u64, u32>>>(view: &V) -> u64
-    requires { IsSound V.format (V.content view.now) }
-{
-    let mut sum = 0u64;
-    for i in 0..view.len() {
-        sum = sum.wrapping_add(match view.get(i) {
-            Ok(value) => value,
-            Err(error) => error as u64,
-        });
+        sum = sum.wrapping_add(total(&lists.get(i)));
     }
     sum
 }

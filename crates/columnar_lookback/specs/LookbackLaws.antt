@@ -312,7 +312,7 @@ pub record Referred (t d : Format) (x y z : Content) (i before m : ℕ) : Type 0
   pub some_value : 1 ≤ before
   pub near : m ≤ before - 1
   pub within : before - 1 - m < length (t.rows y)
-  pub row : (v : Row) → slice_get (t.rows y) (before - 1 - m) ≡ Some v → slice_get (recall lookbacks_code [] (weave_results (ranks_bits x) (t.rows y) (d.rows z))) i ≡ Some v
+  pub row : slice_get (recall lookbacks_code [] (weave_results (ranks_bits x) (t.rows y) (d.rows z))) i ≡ slice_get (t.rows y) (before - 1 - m)
 
 -- the place of the distance
 pub distance_within : (t d : Format) {x y z : Content} (i before : ℕ) → IsSound (lookbacks_format t d) (both x (both y z)) → i < length (recall lookbacks_code [] (weave_results (ranks_bits x) (t.rows y) (d.rows z))) → slice_get (map truth (ranks_bits x)) i ≡ Some (truth false) → before ≡ ones (ranks_bits x) i → i - before < length (d.rows z)
@@ -333,19 +333,23 @@ referred t d {x} {y} {z} i before m s l h e b f =
     let c = ones_clear (ranks_bits x) i h in
     let a : m < before = omega (arith, r, w, c, e) in
     let q : (before - 1 - m) + suc (distance (err (unsigned_row w8 m))) ≡ ones (ranks_bits x) (i + 1) = omega (arith, a, w, c, e) in
+    let n = lookbacks_within t d i (before - 1 - m) (err (unsigned_row w8 m)) s u q in
+    let o = slice_get_some (t.rows y) (before - 1 - m) n in
     record {
       some_value = omega (arith, a);
       near = omega (arith, a);
-      within = lookbacks_within t d i (before - 1 - m) (err (unsigned_row w8 m)) s u q;
-      row = λ v o. lookbacks_row t d i (before - 1 - m) (err (unsigned_row w8 m)) v s u q o;
+      within = n;
+      row = lookbacks_row t d i (before - 1 - m) (err (unsigned_row w8 m)) o.0 s u q o.1 ∙ sym o.1;
     }
 
 -- a row whose bit is set is the value at its place
 pub set_within : (t d : Format) {x y z : Content} (i : ℕ) → IsSound (lookbacks_format t d) (both x (both y z)) → slice_get (map truth (ranks_bits x)) i ≡ Some (truth true) → ones (ranks_bits x) i < length (t.rows y)
 set_within t d i s h = results_ok_value t d i (lookbacks_results t d s) h
 
-pub set_row : (t d : Format) {x y z : Content} (i : ℕ) (v : Row) → IsSound (lookbacks_format t d) (both x (both y z)) → slice_get (map truth (ranks_bits x)) i ≡ Some (truth true) → slice_get (t.rows y) (ones (ranks_bits x) i) ≡ Some v → slice_get (recall lookbacks_code [] (weave_results (ranks_bits x) (t.rows y) (d.rows z))) i ≡ Some v
-set_row t d {x} {y} {z} i v s h g = lookbacks_row t d i (ones (ranks_bits x) i) (ok v) v s (results_ok t d x y z i v h g) (omega (arith, ones_set (ranks_bits x) i h)) g
+pub set_row : (t d : Format) {x y z : Content} (i : ℕ) → IsSound (lookbacks_format t d) (both x (both y z)) → slice_get (map truth (ranks_bits x)) i ≡ Some (truth true) → slice_get (recall lookbacks_code [] (weave_results (ranks_bits x) (t.rows y) (d.rows z))) i ≡ slice_get (t.rows y) (ones (ranks_bits x) i)
+set_row t d {x} {y} {z} i s h =
+    let v = slice_get_some (t.rows y) (ones (ranks_bits x) i) (set_within t d i s h) in
+    lookbacks_row t d i (ones (ranks_bits x) i) (ok v.0) v.0 s (results_ok t d x y z i v.0 h v.1) (omega (arith, ones_set (ranks_bits x) i h)) v.1 ∙ sym v.1
 
 -- What one inner row brings: to the values as many as it has, and to the distances just its own.
 

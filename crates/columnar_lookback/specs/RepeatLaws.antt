@@ -177,14 +177,15 @@ pub repeats_within : (t : Format) {x y : Content} (i k : ℕ) → IsSound (repea
 repeats_within t i k s l e = let a = (up_to t i s l).all in omega (arith, a, e)
 
 -- Row i is value k where k + 1 values stand up to it.
-pub repeats_row : (t : Format) {x y : Content} (i k : ℕ) (v : Row) → IsSound (repeats_format t) (both x y) → i < length (recall repeats_code [] (weave (ranks_bits x) (t.rows y))) → k + 1 ≡ ones (ranks_bits x) (i + 1) → slice_get (t.rows y) k ≡ Some v → slice_get (recall repeats_code [] (weave (ranks_bits x) (t.rows y))) i ≡ Some v
-repeats_row t {x} {y} i k v s l e h =
+pub repeats_row : (t : Format) {x y : Content} (i k : ℕ) → IsSound (repeats_format t) (both x y) → i < length (recall repeats_code [] (weave (ranks_bits x) (t.rows y))) → k + 1 ≡ ones (ranks_bits x) (i + 1) → slice_get (recall repeats_code [] (weave (ranks_bits x) (t.rows y))) i ≡ slice_get (t.rows y) k
+repeats_row t {x} {y} i k s l e =
     let a = up_to t i s l in
     let n = ones (ranks_bits x) (i + 1) in
     let c = a.all in
     let f = length-take-le n (t.rows y) c in
-    let g = recent_onto (take n (t.rows y)) [] k 0 v (taken_at n k (t.rows y) v (omega (arith, e)) h) (omega (arith, e, f)) in
-    a.row ∙ ap Some g
+    let h = slice_get_some (t.rows y) k (repeats_within t i k s l e) in
+    let g = recent_onto (take n (t.rows y)) [] k 0 h.0 (taken_at n k (t.rows y) h.0 (omega (arith, e)) h.1) (omega (arith, e, f)) in
+    a.row ∙ ap Some g ∙ sym h.1
 
 -- the values up to row i, which brings one or not
 ones_next : (b : List Bool) (i : ℕ) (z : Bool) → slice_get b i ≡ Some z → ones b (i + 1) ≡ ones b i + cond z 1 0

@@ -1,5 +1,5 @@
 //! Columns that refer back to one of the last values.
-ghost use Rattle.std.specs.Prelude.{◌≡◌, [], drop, IsTrue};
+ghost use Rattle.std.specs.Prelude.{◌≡◌, ◌<◌, [], drop, length, slice_get, IsTrue};
 ghost use Rattle.std.specs.Int.{to_le_bytes, w8};
 ghost use Rattle.columnar_base.specs.Elements.{elements};
 ghost use Rattle.columnar_base.specs.Numbers.{unsigned_row_of};
@@ -80,13 +80,7 @@ impl<TC: Index, VC: Distances, CC: Words, RC: Words, WC: Words, const N: u8> Ind
     type Ref = TC::Ref;
 
     fn get(&self, index: usize) -> TC::Ref {
-        let before = self.inner.indexes.rank(index);
-        if self.inner.indexes.get(index) {
-            self.inner.oks.get(before)
-        } else {
-            let back = self.inner.errs.index_as(index - before);
-            self.inner.oks.get(before - 1 - back as usize)
-        }
+        self.inner.oks.get(self.value_index(index))
     }
 }
 
@@ -100,13 +94,32 @@ where
 
     fn get(&self, index: usize) -> <&'a TC as Index>::Ref {
         let column: &'a Lookbacks<TC, N, VC, CC, RC, WC> = *self;
-        let before = column.inner.indexes.rank(index);
         let values: &'a TC = &column.inner.oks;
-        if column.inner.indexes.get(index) {
-            values.get(before)
+        values.get(column.value_index(index))
+    }
+}
+
+impl<TC: Column, VC: Distances, CC: Words, RC: Words, WC: Words, const N: u8> Lookbacks<
+    TC,
+    N,
+    VC,
+    CC,
+    RC,
+    WC,
+> {
+    // Which of the values row `index` is.
+    fn value_index(&self, index: usize) -> usize
+        requires sound { IsSound (lookbacks_format TC.format VC.format) (results_content TC.content VC.content CC.bytes RC.bytes WC.bytes self.now.inner) }
+        requires in_range { index < length ((lookbacks_format TC.format VC.format).rows (results_content TC.content VC.content CC.bytes RC.bytes WC.bytes self.now.inner)) }
+        ensures within { result < length (TC.format.rows (TC.content self.now.inner.oks)) }
+        ensures row { slice_get ((lookbacks_format TC.format VC.format).rows (results_content TC.content VC.content CC.bytes RC.bytes WC.bytes self.now.inner)) index ≡ slice_get (TC.format.rows (TC.content self.now.inner.oks)) result }
+    {
+        let before = self.inner.indexes.rank(index);
+        if self.inner.indexes.get(index) {
+            before
         } else {
-            let back = column.inner.errs.index_as(index - before);
-            values.get(before - 1 - back as usize)
+            let back = self.inner.errs.index_as(index - before);
+            before - 1 - back as usize
         }
     }
 }

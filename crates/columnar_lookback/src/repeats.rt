@@ -1,5 +1,5 @@
 //! Columns that keep a run of rows once.
-ghost use Rattle.std.specs.Prelude.{◌≡◌};
+ghost use Rattle.std.specs.Prelude.{◌≡◌, ◌<◌, length, slice_get};
 ghost use Rattle.columnar_base.specs.Format.{both, IsSound};
 ghost use Rattle.columnar_sums.specs.RankColumns.{ranks_content};
 ghost use Rattle.columnar_lookback.specs.Repeats.{repeats_format, last_is};
@@ -36,12 +36,7 @@ impl<TC: Index, CC: Words, VC: Words, WC: Words> Index for Repeats<TC, CC, VC, W
     type Ref = TC::Ref;
 
     fn get(&self, index: usize) -> TC::Ref {
-        let before = self.inner.indexes.rank(index);
-        if self.inner.indexes.get(index) {
-            self.inner.somes.get(before)
-        } else {
-            self.inner.somes.get(before - 1)
-        }
+        self.inner.somes.get(self.value_index(index))
     }
 }
 
@@ -54,12 +49,24 @@ where
 
     fn get(&self, index: usize) -> <&'a TC as Index>::Ref {
         let column: &'a Repeats<TC, CC, VC, WC> = *self;
-        let before = column.inner.indexes.rank(index);
         let values: &'a TC = &column.inner.somes;
-        if column.inner.indexes.get(index) {
-            values.get(before)
+        values.get(column.value_index(index))
+    }
+}
+
+impl<TC: Column, CC: Words, VC: Words, WC: Words> Repeats<TC, CC, VC, WC> {
+    // Which of the values row `index` is.
+    fn value_index(&self, index: usize) -> usize
+        requires sound { IsSound (repeats_format TC.format) (both (ranks_content CC.bytes VC.bytes WC.bytes self.now.inner.indexes) (TC.content self.now.inner.somes)) }
+        requires in_range { index < length ((repeats_format TC.format).rows (both (ranks_content CC.bytes VC.bytes WC.bytes self.now.inner.indexes) (TC.content self.now.inner.somes))) }
+        ensures within { result < length (TC.format.rows (TC.content self.now.inner.somes)) }
+        ensures row { slice_get ((repeats_format TC.format).rows (both (ranks_content CC.bytes VC.bytes WC.bytes self.now.inner.indexes) (TC.content self.now.inner.somes))) index ≡ slice_get (TC.format.rows (TC.content self.now.inner.somes)) result }
+    {
+        let before = self.inner.indexes.rank(index);
+        if self.inner.indexes.get(index) {
+            before
         } else {
-            values.get(before - 1)
+            before - 1
         }
     }
 }

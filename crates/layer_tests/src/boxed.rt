@@ -7,11 +7,13 @@ use columnar_base::view::View;
 use columnar_bytes::indexed::{decode, validate, validate_structure};
 use columnar_core::boxed::Boxed;
 use columnar_core::bytes::{AsBytes, Check, Stored};
-use columnar_core::container::{Borrow, BorrowIndexAs, ExtendFrom, PushIndexAs, Storage, Truncate};
+use columnar_core::container::{Borrow, BorrowIndexAs, ExtendFrom, PushIndexAs, Storage};
 use columnar_core::rc::{from_bytes, from_store};
 use columnar_core::store::DecodedStore;
 use std::rc::Rc;
 use std::test::Fail;
+use test_support::columns::cut;
+use test_support::{equal, holds};
 
 type Boxes = Boxed<Vec<u64>>;
 
@@ -52,30 +54,30 @@ fn boxes_are_pushed_and_read(rt: HostRuntime) -> Result<(), Fail> {
     Push::push(&mut column, &kept)?;
     PushRef::push_ref(&mut column, &kept)?;
     Push::push(&mut column, Boxed(9u64))?;
-    assert_eq!(rt; column.0.as_slice(), [7, 7, 9].as_slice());
-    assert_eq!(rt; Len::len(&column), 3);
-    assert_eq!(rt; column.borrow().get(2), Boxed(9));
-    assert_eq!(rt; *column.borrow().get(1), 7);
-    assert!(rt; column.borrow().check().is_ok());
+    equal!(rt; column.0.as_slice(), [7, 7, 9].as_slice());
+    equal!(rt; Len::len(&column), 3);
+    equal!(rt; column.borrow().get(2), Boxed(9));
+    equal!(rt; *column.borrow().get(1), 7);
+    holds!(rt; column.borrow().check().is_ok());
     let mut copy = Boxes::with_capacity_for(alloc, [column.borrow()].iter().copied())?;
     copy.extend_from_self(column.borrow(), 1..3)?;
-    assert_eq!(rt; copy.0.as_slice(), [7, 9].as_slice());
-    assert!(rt; copy.duplicate(alloc)? == copy);
-    Truncate::truncate(&mut copy, 1);
-    assert_eq!(rt; copy.0.as_slice(), [7].as_slice());
+    equal!(rt; copy.0.as_slice(), [7, 9].as_slice());
+    holds!(rt; copy.duplicate(alloc)? == copy);
+    cut(&mut copy, 1);
+    equal!(rt; copy.0.as_slice(), [7].as_slice());
     Clear::clear(&mut copy);
-    assert!(rt; Len::is_empty(&copy));
-    assert!(rt; validate::<Boxes>(SEVEN.as_slice()).is_ok());
+    holds!(rt; Len::is_empty(&copy));
+    holds!(rt; validate::<Boxes>(SEVEN.as_slice()).is_ok());
     Ok(())
 }
 
 #[test]
 fn rows_as_values_of_one_type(rt: HostRuntime) -> Result<(), Fail> {
     let mut column: Vec<u64> = Storage::empty(rt.alloc());
-    assert_eq!(rt; first_as::<u64, Vec<u64>>(&column), None);
+    equal!(rt; first_as::<u64, Vec<u64>>(&column), None);
     add(&mut column, &5u64)?;
     add(&mut column, &6u64)?;
-    assert_eq!(rt; first_as::<u64, Vec<u64>>(&column), Some(5));
+    equal!(rt; first_as::<u64, Vec<u64>>(&column), Some(5));
     Ok(())
 }
 
@@ -87,12 +89,12 @@ fn a_shared_column_is_read_as_what_it_shares(rt: HostRuntime) -> Result<(), Fail
     let Ok(shared) = Rc::new(alloc, column) else {
         return Err(Fail::from(GrowError::Memory));
     };
-    assert_eq!(rt; Len::len(&shared), 1);
-    assert_eq!(rt; Borrow::borrow(&shared).get(0), 7);
-    assert!(rt; validate::<Rc<Vec<u64>>>(SEVEN.as_slice()).is_ok());
+    equal!(rt; Len::len(&shared), 1);
+    equal!(rt; Borrow::borrow(&shared).get(0), 7);
+    holds!(rt; validate::<Rc<Vec<u64>>>(SEVEN.as_slice()).is_ok());
     let mut sizes = Vec::new(alloc);
     Rc::<Vec<u64>>::element_sizes(&mut sizes)?;
-    assert_eq!(rt; sizes.as_slice(), [8].as_slice());
+    equal!(rt; sizes.as_slice(), [8].as_slice());
     Ok(())
 }
 
@@ -103,15 +105,15 @@ fn a_view_of_bytes_is_shared(rt: HostRuntime) -> Result<(), Fail> {
     if validate_structure(bytes, 1).is_err() {
         return Err(Fail::from(GrowError::Format));
     }
+    let mut slices = decode(bytes);
     let store = DecodedStore::new(bytes);
     let mut offset = 0;
     let shared = from_store::<Numbers<'_>>(alloc, &store, &mut offset)?;
-    assert_eq!(rt; offset, 1);
-    assert!(rt; shared.check().is_ok());
-    assert_eq!(rt; shared.get_byte_slice(0).1.len(), 8);
-    let mut slices = decode(bytes);
+    equal!(rt; offset, 1);
+    holds!(rt; shared.check().is_ok());
+    equal!(rt; shared.get_byte_slice(0).1.len(), 8);
     let again = from_bytes::<Numbers<'_>>(alloc, &mut slices)?;
-    assert!(rt; again.check().is_ok());
-    assert_eq!(rt; slices.count(), 0);
+    holds!(rt; again.check().is_ok());
+    equal!(rt; slices.count(), 0);
     Ok(())
 }

@@ -19,6 +19,7 @@ use std::io::{Error, ErrorKind};
 use std::test::Fail;
 use test_support::stores::{bytes_of, front};
 use test_support::writers::Slow;
+use test_support::{equal, holds};
 
 // A column of bytes beside one of words: two slices
 #[derive(Clone, Copy)]
@@ -131,7 +132,7 @@ fn tested(alloc: Global, words: &[u64], expected: usize) -> Result<Result<(), St
 fn encodes_the_worked_stores(rt: HostRuntime) -> Result<(), Fail> {
     let mut store = Vec::new(rt.alloc());
     encode(&mut store, &View::<u64>::from_slice(&[7]))?;
-    assert_eq!(rt; store.as_slice(), [16, 24, 7].as_slice());
+    equal!(rt; store.as_slice(), [16, 24, 7].as_slice());
     encode(
         &mut store,
         &BytesAndWords {
@@ -139,16 +140,16 @@ fn encodes_the_worked_stores(rt: HostRuntime) -> Result<(), Fail> {
             words: &[7],
         },
     )?;
-    assert_eq!(rt;
+    equal!(rt;
         store.as_slice(),
         [16, 24, 7, 24, 27, 40, 197121, 7].as_slice()
     );
-    assert_eq!(rt; length_in_words(&View::<u64>::from_slice(&[7])), Some(3));
-    assert_eq!(rt; length_in_bytes(&View::<u64>::from_slice(&[7])), Some(24));
+    equal!(rt; length_in_words(&View::<u64>::from_slice(&[7])), Some(3));
+    equal!(rt; length_in_bytes(&View::<u64>::from_slice(&[7])), Some(24));
 
     let mut empty = Vec::new(rt.alloc());
     encode(&mut empty, &View::<u64>::from_slice(&[]))?;
-    assert_eq!(rt; empty.as_slice(), [16, 16].as_slice());
+    equal!(rt; empty.as_slice(), [16, 16].as_slice());
     Ok(())
 }
 
@@ -159,9 +160,9 @@ fn the_last_bytes_are_those_of_the_word(rt: HostRuntime) -> Result<(), Fail> {
     let want: [u8; 24] = [
         16, 0, 0, 0, 0, 0, 0, 0, 24, 0, 0, 0, 0, 0, 0, 0, 7, 0, 0, 0, 0, 0, 0, 0,
     ];
-    assert_eq!(rt; bytes.as_slice(), want.as_slice());
-    assert_eq!(rt; written(rt.alloc(), &item)?.as_slice(), want.as_slice());
-    assert_eq!(rt; validate_structure(&bytes, 1), Ok(()));
+    equal!(rt; bytes.as_slice(), want.as_slice());
+    equal!(rt; written(rt.alloc(), &item)?.as_slice(), want.as_slice());
+    equal!(rt; validate_structure(&bytes, 1), Ok(()));
     Ok(())
 }
 
@@ -173,41 +174,41 @@ fn a_long_slice_is_written_whole(rt: HostRuntime) -> Result<(), Fail> {
     }
     let item = View::<u64>::from_slice(&items);
     let bytes = written(rt.alloc(), &item)?;
-    assert_eq!(rt; bytes.len(), 2416);
+    holds!(rt; bytes.len() == 2416);
     for i in 0..300 {
-        assert_eq!(rt; bytes[16 + 8 * i] as usize, i % 256);
-        assert_eq!(rt; bytes[17 + 8 * i] as usize, i / 256);
-        assert_eq!(rt; bytes[18 + 8 * i], 0);
+        equal!(rt; bytes[16 + 8 * i] as usize, i % 256);
+        equal!(rt; bytes[17 + 8 * i] as usize, i / 256);
+        equal!(rt; bytes[18 + 8 * i], 0);
     }
-    assert_eq!(rt; bytes.as_slice(), encoded(rt.alloc(), &item)?.as_slice());
+    equal!(rt; bytes.as_slice(), encoded(rt.alloc(), &item)?.as_slice());
     Ok(())
 }
 
 #[test]
 fn names_the_first_broken_rule(rt: HostRuntime) -> Result<(), Fail> {
     let alloc = rt.alloc();
-    assert_eq!(rt; tested(alloc, &[], 0)?, Err(StoreFault::Empty(0)));
-    assert_eq!(rt; tested(alloc, &[0], 0)?, Err(StoreFault::FirstOffset(0)));
-    assert_eq!(rt;
+    equal!(rt; tested(alloc, &[], 0)?, Err(StoreFault::Empty(0)));
+    equal!(rt; tested(alloc, &[0], 0)?, Err(StoreFault::FirstOffset(0)));
+    equal!(rt;
         tested(alloc, &[0, 0, 0], 2)?,
         Err(StoreFault::FirstOffset(0))
     );
-    assert_eq!(rt; tested(alloc, &[4], 0)?, Err(StoreFault::FirstOffset(0)));
-    assert_eq!(rt; tested(alloc, &[16], 1)?, Err(StoreFault::Table(0)));
-    assert_eq!(rt; tested(alloc, &[8], 0)?, Ok(()));
-    assert_eq!(rt;
+    equal!(rt; tested(alloc, &[4], 0)?, Err(StoreFault::FirstOffset(0)));
+    equal!(rt; tested(alloc, &[16], 1)?, Err(StoreFault::Table(0)));
+    equal!(rt; tested(alloc, &[8], 0)?, Ok(()));
+    equal!(rt;
         tested(alloc, &[8], usize::MAX)?,
         Err(StoreFault::SliceCount(0))
     );
-    assert_eq!(rt;
+    equal!(rt;
         tested(alloc, &[16, 32, 7], 1)?,
         Err(StoreFault::PastEnd(0))
     );
-    assert_eq!(rt;
+    equal!(rt;
         tested(alloc, &[16, 8, 7], 1)?,
         Err(StoreFault::Backwards(0))
     );
-    assert_eq!(rt; tested(alloc, &[16, 24, 7, 9], 1)?, Ok(()));
+    equal!(rt; tested(alloc, &[16, 24, 7, 9], 1)?, Ok(()));
     Ok(())
 }
 
@@ -215,12 +216,12 @@ fn names_the_first_broken_rule(rt: HostRuntime) -> Result<(), Fail> {
 fn a_store_that_is_cut_is_refused(rt: HostRuntime) -> Result<(), Fail> {
     let bytes = bytes_of(rt.alloc(), &[40, 40, 40, 56, 64, 1, 2, 7])?;
     let bytes = bytes.as_slice();
-    assert_eq!(rt; validate_structure(bytes, 4), Ok(()));
-    assert_eq!(rt;
+    equal!(rt; validate_structure(bytes, 4), Ok(()));
+    equal!(rt;
         validate_structure(front(bytes, 56), 4),
         Err(StoreFault::PastEnd(3))
     );
-    assert_eq!(rt;
+    equal!(rt;
         validate_structure(front(bytes, 63), 4),
         Err(StoreFault::NotWords(0))
     );
@@ -235,17 +236,17 @@ fn reads_the_slices(rt: HostRuntime) -> Result<(), Fail> {
     };
     let bytes = written(rt.alloc(), &item)?;
     let bytes = bytes.as_slice();
-    assert_eq!(rt; bytes.len(), 40);
+    equal!(rt; bytes.len(), 40);
     match validate_structure(bytes, 2) {
         Ok(()) => {
             let store = DecodedStore::new(bytes);
-            assert_eq!(rt; store.len(), 2);
-            assert_eq!(rt; store.get(0), [1, 2, 3].as_slice());
-            assert_eq!(rt; store.get(1), [7, 0, 0, 0, 0, 0, 0, 0].as_slice());
-            assert_eq!(rt; decode_index(bytes, 0), [1, 2, 3].as_slice());
-            assert_eq!(rt; decode(bytes).count(), 2);
+            equal!(rt; store.len(), 2);
+            equal!(rt; store.get(0), [1, 2, 3].as_slice());
+            equal!(rt; store.get(1), [7, 0, 0, 0, 0, 0, 0, 0].as_slice());
+            equal!(rt; decode_index(bytes, 0), [1, 2, 3].as_slice());
+            equal!(rt; decode(bytes).count(), 2);
         }
-        Err(_) => assert!(rt; false),
+        Err(_) => holds!(rt; false),
     }
     Ok(())
 }
@@ -257,18 +258,18 @@ fn gives_the_slices_with_their_alignment(rt: HostRuntime) -> Result<(), Fail> {
         words: &[7, 8],
     };
     let mut slices = ByteSlices::new(&item);
-    assert_eq!(rt; slices.size_hint(), (2, Some(2)));
+    equal!(rt; slices.size_hint(), (2, Some(2)));
     for want in [(1, 3), (8, 16)] {
         match slices.next() {
             Some((align, slice)) => {
-                assert_eq!(rt; align, want.0);
-                assert_eq!(rt; slice.align(), want.0);
-                assert_eq!(rt; slice.len(), want.1);
+                equal!(rt; align, want.0);
+                equal!(rt; slice.align(), want.0);
+                equal!(rt; slice.len(), want.1);
             }
-            None => assert!(rt; false),
+            None => holds!(rt; false),
         }
     }
-    assert!(rt; slices.next().is_none());
+    holds!(rt; slices.next().is_none());
     Ok(())
 }
 
@@ -297,8 +298,8 @@ fn generic_code_goes_over_the_slices(rt: HostRuntime) -> Result<(), Fail> {
         bytes: &[1, 2, 3],
         words: &[7, 8],
     };
-    assert_eq!(rt; byte_total(&item), 19);
-    assert_eq!(rt; counted(&item), 2);
+    equal!(rt; byte_total(&item), 19);
+    equal!(rt; counted(&item), 2);
     Ok(())
 }
 
@@ -311,8 +312,8 @@ fn writes_byte_by_byte(rt: HostRuntime) -> Result<(), Fail> {
         kind: None,
     };
     write(&mut slow, &item)?;
-    assert_eq!(rt; slow.taken.len(), 24);
-    assert_eq!(rt;
+    equal!(rt; slow.taken.len(), 24);
+    equal!(rt;
         slow.taken.as_slice(),
         encoded(rt.alloc(), &item)?.as_slice()
     );
@@ -334,10 +335,10 @@ fn a_fault_ends_the_writing(rt: HostRuntime) -> Result<(), Fail> {
         };
         let want = kind.unwrap_or(ErrorKind::WriteZero);
         match write(&mut slow, &item) {
-            Err(WriteFault::Writer(fault)) => assert_eq!(rt; fault.kind(), want),
-            _ => assert!(rt; false),
+            Err(WriteFault::Writer(fault)) => equal!(rt; fault.kind(), want),
+            _ => holds!(rt; false),
         }
-        assert_eq!(rt;
+        equal!(rt;
             slow.taken.as_slice(),
             [16, 0, 0, 0, 0, 0, 0, 0, 24, 0].as_slice()
         );

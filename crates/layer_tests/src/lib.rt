@@ -5,6 +5,8 @@
 #[cfg(test)]
 mod boxed;
 #[cfg(test)]
+mod claims;
+#[cfg(test)]
 mod indexed;
 #[cfg(test)]
 mod lists;

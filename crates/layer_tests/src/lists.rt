@@ -3,7 +3,7 @@ ghost use Rattle.std.specs.Prelude.{◌≡◌};
 ghost use Rattle.columnar_base.specs.Format.{IsSound};
 
 use columnar_core::bytes::{AsBytes, Check, Stored};
-use columnar_core::container::{Borrow, ContainerBytes, ExtendFrom, Reborrow, Storage, Truncate};
+use columnar_core::container::{Borrow, ContainerBytes, ExtendFrom, Reborrow, Storage};
 use columnar_core::fault::StoreFault;
 use columnar_core::slice::Slice;
 use columnar_core::traits::{Clear, Index, Len};
@@ -14,7 +14,8 @@ use smallvec::SmallVec;
 use std::alloc::{AllocError, Global};
 use std::fmt::Debug;
 use std::test::Fail;
-use test_support::columns::{copied, count, row_at, takes, takes_ref, takes_rows};
+use test_support::columns::{copied, count, cut, row_at, takes, takes_ref, takes_rows};
+use test_support::{equal, holds};
 
 type Lists = Vecs<Vec<u64>, Vec<u64>>;
 
@@ -26,19 +27,19 @@ type Nested = Vecs<Lists, Vec<u64>>;
 fn lists_of_words(rt: HostRuntime) -> Result<(), Fail> {
     let view = View::from_slice([1u64, 2, 3, 4, 5, 6].as_slice());
     let mut lists = Lists::empty(rt.alloc());
-    assert!(rt; takes_rows(&mut lists, view, 0, 2));
-    assert!(rt; takes_rows(&mut lists, view, 2, 2));
-    assert!(rt; takes_rows(&mut lists, view, 1, 6));
-    assert_eq!(rt; count(&lists), 3);
-    assert_eq!(rt; lists.bounds.as_slice(), [2, 2, 7].as_slice());
-    assert_eq!(rt; lists.values.as_slice(), [1, 2, 2, 3, 4, 5, 6].as_slice());
+    holds!(rt; takes_rows(&mut lists, view, 0, 2));
+    holds!(rt; takes_rows(&mut lists, view, 2, 2));
+    holds!(rt; takes_rows(&mut lists, view, 1, 6));
+    equal!(rt; count(&lists), 3);
+    equal!(rt; lists.bounds.as_slice(), [2, 2, 7].as_slice());
+    equal!(rt; lists.values.as_slice(), [1, 2, 2, 3, 4, 5, 6].as_slice());
     let last = row_at(&lists.borrow(), 2).expect(&rt, "row 2");
-    assert_eq!(rt; last.len(), 5);
-    assert_eq!(rt; row_at(&last, 1), Some(3));
+    equal!(rt; last.len(), 5);
+    equal!(rt; row_at(&last, 1), Some(3));
     let copy = lists.clone()?;
-    assert_eq!(rt; copy.bounds.as_slice(), [2, 2, 7].as_slice());
+    equal!(rt; copy.bounds.as_slice(), [2, 2, 7].as_slice());
     lists.clear();
-    assert!(rt; lists.is_empty());
+    holds!(rt; lists.is_empty());
     Ok(())
 }
 
@@ -48,19 +49,19 @@ fn lists_are_pushed_from_slices_and_vectors(rt: HostRuntime) -> Result<(), Fail>
     let pair = [1u64, 2];
     let view = View::from_slice(pair.as_slice());
     let mut lists = Lists::empty(rt.alloc());
-    assert!(rt; takes(&mut lists, pair.as_slice()));
-    assert!(rt; takes(&mut lists, &pair[..0]));
-    assert!(rt; takes(&mut lists, &owned));
-    assert!(rt; takes_ref(&mut lists, &owned));
-    assert!(rt; takes_ref(&mut lists, &pair.as_slice()));
-    assert!(rt; takes_ref(&mut lists, &Slice::new(1, 2, view)));
-    assert!(rt; takes(&mut lists, owned));
-    assert!(rt; lists.push_iter(pair.iter().copied()).is_ok());
-    assert_eq!(rt;
+    holds!(rt; takes(&mut lists, pair.as_slice()));
+    holds!(rt; takes(&mut lists, &pair[..0]));
+    holds!(rt; takes(&mut lists, &owned));
+    holds!(rt; takes_ref(&mut lists, &owned));
+    holds!(rt; takes_ref(&mut lists, &pair.as_slice()));
+    holds!(rt; takes_ref(&mut lists, &Slice::new(1, 2, view)));
+    holds!(rt; takes(&mut lists, owned));
+    holds!(rt; lists.push_iter(pair.iter().copied()).is_ok());
+    equal!(rt;
         lists.bounds.as_slice(),
         [2, 2, 3, 4, 6, 7, 8, 10].as_slice()
     );
-    assert_eq!(rt;
+    equal!(rt;
         lists.values.as_slice(),
         [1, 2, 3, 3, 1, 2, 2, 3, 1, 2].as_slice()
     );
@@ -72,15 +73,15 @@ fn lists_are_pushed_from_arrays(rt: HostRuntime) -> Result<(), Fail> {
     let pair = [1u64, 2];
     laws::array_is_the_list(&pair);
     let mut lists = Lists::empty(rt.alloc());
-    assert!(rt; takes(&mut lists, &pair));
-    assert!(rt; takes(&mut lists, [3u64, 4, 5]));
-    assert!(rt; takes_ref(&mut lists, &[6u64]));
-    assert_eq!(rt; lists.bounds.as_slice(), [2, 5, 6].as_slice());
-    assert_eq!(rt; lists.values.as_slice(), [1, 2, 3, 4, 5, 6].as_slice());
+    holds!(rt; takes(&mut lists, &pair));
+    holds!(rt; takes(&mut lists, [3u64, 4, 5]));
+    holds!(rt; takes_ref(&mut lists, &[6u64]));
+    equal!(rt; lists.bounds.as_slice(), [2, 5, 6].as_slice());
+    equal!(rt; lists.values.as_slice(), [1, 2, 3, 4, 5, 6].as_slice());
     let mut pairs = Vecs::<Vec<[u64; 2]>, Vec<u64>>::empty(rt.alloc());
-    assert!(rt; takes(&mut pairs, &[[1u64, 2], [3, 4], [5, 6]]));
-    assert_eq!(rt; pairs.bounds.as_slice(), [3].as_slice());
-    assert_eq!(rt;
+    holds!(rt; takes(&mut pairs, &[[1u64, 2], [3, 4], [5, 6]]));
+    equal!(rt; pairs.bounds.as_slice(), [3].as_slice());
+    equal!(rt;
         pairs.values.as_slice(),
         [[1, 2], [3, 4], [5, 6]].as_slice()
     );
@@ -92,11 +93,11 @@ fn lists_are_pushed_from_small_vectors(rt: HostRuntime) -> Result<(), Fail> {
     let few = SmallVec::<u64, 2>::from_slice(rt.alloc(), &[1])?;
     let many = SmallVec::<u64, 2>::from_slice(rt.alloc(), &[2, 3, 4])?;
     let mut lists = Lists::empty(rt.alloc());
-    assert!(rt; takes(&mut lists, &few));
-    assert!(rt; takes_ref(&mut lists, &many));
-    assert!(rt; takes(&mut lists, few));
-    assert_eq!(rt; lists.bounds.as_slice(), [1, 4, 5].as_slice());
-    assert_eq!(rt; lists.values.as_slice(), [1, 2, 3, 4, 1].as_slice());
+    holds!(rt; takes(&mut lists, &few));
+    holds!(rt; takes_ref(&mut lists, &many));
+    holds!(rt; takes(&mut lists, few));
+    equal!(rt; lists.bounds.as_slice(), [1, 4, 5].as_slice());
+    equal!(rt; lists.values.as_slice(), [1, 2, 3, 4, 1].as_slice());
     Ok(())
 }
 
@@ -106,11 +107,11 @@ fn lists_of_lists_are_pushed_from_slices(rt: HostRuntime) -> Result<(), Fail> {
     let second = [3u64];
     let mut nested = Nested::empty(rt.alloc());
     let both = [first.as_slice(), second.as_slice()];
-    assert!(rt; takes(&mut nested, both.as_slice()));
-    assert!(rt; takes(&mut nested, &both[..1]));
-    assert_eq!(rt; nested.bounds.as_slice(), [2, 3].as_slice());
-    assert_eq!(rt; nested.values.bounds.as_slice(), [2, 3, 5].as_slice());
-    assert_eq!(rt; nested.values.values.as_slice(), [1, 2, 3, 1, 2].as_slice());
+    holds!(rt; takes(&mut nested, both.as_slice()));
+    holds!(rt; takes(&mut nested, &both[..1]));
+    equal!(rt; nested.bounds.as_slice(), [2, 3].as_slice());
+    equal!(rt; nested.values.bounds.as_slice(), [2, 3, 5].as_slice());
+    equal!(rt; nested.values.values.as_slice(), [1, 2, 3, 1, 2].as_slice());
     Ok(())
 }
 
@@ -118,22 +119,21 @@ fn lists_of_lists_are_pushed_from_slices(rt: HostRuntime) -> Result<(), Fail> {
 fn ranges_of_lists(rt: HostRuntime) -> Result<(), Fail> {
     let view = View::from_slice([1u64, 2, 3, 4, 5, 6].as_slice());
     let mut source = Lists::empty(rt.alloc());
-    assert!(rt; takes_rows(&mut source, view, 0, 2));
-    assert!(rt; takes_rows(&mut source, view, 2, 5));
-    assert!(rt; takes_rows(&mut source, view, 5, 6));
+    holds!(rt; takes_rows(&mut source, view, 0, 2));
+    holds!(rt; takes_rows(&mut source, view, 2, 5));
+    holds!(rt; takes_rows(&mut source, view, 5, 6));
     let views = [source.borrow(), source.borrow()];
     let mut lists = Lists::with_capacity_for(rt.alloc(), views.iter().copied())?;
-    assert!(rt; takes_rows(&mut lists, view, 4, 6));
-    assert!(rt; lists.reserve_for(views.iter().copied()).is_ok());
-    assert!(rt; copied(&mut lists, source.borrow(), 1, 3));
-    assert_eq!(rt; lists.bounds.as_slice(), [2, 5, 6].as_slice());
-    assert_eq!(rt; lists.values.as_slice(), [5, 6, 3, 4, 5, 6].as_slice());
-    assert!(rt; copied(&mut lists, source.borrow().reborrow(), 2, 2));
-    let many = count(&lists);
-    assert_eq!(rt; many, 3);
-    lists.truncate(many - 1);
-    assert_eq!(rt; lists.bounds.as_slice(), [2, 5].as_slice());
-    assert_eq!(rt; lists.values.as_slice(), [5, 6, 3, 4, 5].as_slice());
+    holds!(rt; takes_rows(&mut lists, view, 4, 6));
+    holds!(rt; lists.reserve_for(views.iter().copied()).is_ok());
+    holds!(rt; copied(&mut lists, source.borrow(), 1, 3));
+    equal!(rt; lists.bounds.as_slice(), [2, 5, 6].as_slice());
+    equal!(rt; lists.values.as_slice(), [5, 6, 3, 4, 5, 6].as_slice());
+    holds!(rt; copied(&mut lists, source.borrow().reborrow(), 2, 2));
+    equal!(rt; count(&lists), 3);
+    cut(&mut lists, 2);
+    equal!(rt; lists.bounds.as_slice(), [2, 5].as_slice());
+    equal!(rt; lists.values.as_slice(), [5, 6, 3, 4, 5].as_slice());
     Ok(())
 }
 
@@ -149,14 +149,14 @@ fn slices_of_lists(rt: HostRuntime) -> Result<(), Fail> {
             bounds: View::from_slice(bounds.as_slice()),
             values,
         };
-        assert_eq!(rt; lists.check(), wanted);
-        assert_eq!(rt; lists.get_byte_slice(1).1.len(), 24);
+        equal!(rt; lists.check(), wanted);
+        equal!(rt; lists.get_byte_slice(1).1.len(), 24);
     }
     let mut sizes = Vec::new(rt.alloc());
-    assert!(rt; Lists::element_sizes(&mut sizes).is_ok());
-    assert!(rt; Nested::element_sizes(&mut sizes).is_ok());
-    assert_eq!(rt; sizes.as_slice(), [8, 8, 8, 8, 8].as_slice());
-    assert_eq!(rt; Nested::slice_count(), 3);
+    holds!(rt; Lists::element_sizes(&mut sizes).is_ok());
+    holds!(rt; Nested::element_sizes(&mut sizes).is_ok());
+    equal!(rt; sizes.as_slice(), [8, 8, 8, 8, 8].as_slice());
+    equal!(rt; Nested::slice_count(), 3);
     Ok(())
 }
 
@@ -164,25 +164,25 @@ fn slices_of_lists(rt: HostRuntime) -> Result<(), Fail> {
 fn lists_of_lists(rt: HostRuntime) -> Result<(), Fail> {
     let view = View::from_slice([1u64, 2, 3, 4, 5, 6].as_slice());
     let mut inner = Lists::empty(rt.alloc());
-    assert!(rt; takes_rows(&mut inner, view, 0, 2));
-    assert!(rt; takes_rows(&mut inner, view, 2, 2));
-    assert!(rt; takes_rows(&mut inner, view, 2, 6));
+    holds!(rt; takes_rows(&mut inner, view, 0, 2));
+    holds!(rt; takes_rows(&mut inner, view, 2, 2));
+    holds!(rt; takes_rows(&mut inner, view, 2, 6));
     let mut nested = Nested::empty(rt.alloc());
-    assert!(rt; takes_rows(&mut nested, inner.borrow(), 1, 3));
-    assert!(rt; takes_rows(&mut nested, inner.borrow(), 0, 1));
+    holds!(rt; takes_rows(&mut nested, inner.borrow(), 1, 3));
+    holds!(rt; takes_rows(&mut nested, inner.borrow(), 0, 1));
     let mut copy = Nested::empty(rt.alloc());
-    assert!(rt; copied(&mut copy, nested.borrow(), 0, 2));
-    assert!(rt; copied(&mut copy, nested.borrow(), 0, 2));
-    assert_eq!(rt; count(&copy), 4);
-    assert_eq!(rt; copy.bounds.as_slice(), [2, 3, 5, 6].as_slice());
-    assert_eq!(rt;
+    holds!(rt; copied(&mut copy, nested.borrow(), 0, 2));
+    holds!(rt; copied(&mut copy, nested.borrow(), 0, 2));
+    equal!(rt; count(&copy), 4);
+    equal!(rt; copy.bounds.as_slice(), [2, 3, 5, 6].as_slice());
+    equal!(rt;
         copy.values.bounds.as_slice(),
         [0, 4, 6, 6, 10, 12].as_slice()
     );
     let list = row_at(&copy.borrow(), 1).expect(&rt, "row 1");
     let inner_list = row_at(&list, 0).expect(&rt, "row 0 of row 1");
-    assert_eq!(rt; row_at(&inner_list, 1), Some(2));
-    assert_eq!(rt; copy.byte_slice(2).len(), 96);
+    equal!(rt; row_at(&inner_list, 1), Some(2));
+    equal!(rt; copy.byte_slice(2).len(), 96);
     Ok(())
 }
 
@@ -196,9 +196,9 @@ fn printed<V: Len + Index<Ref: Debug> + Copy>(alloc: Global, view: V) -> Result<
 #[test]
 fn lists_print_their_rows(rt: HostRuntime) -> Result<(), Fail> {
     let mut lists = Lists::empty(rt.alloc());
-    assert!(rt; takes(&mut lists, [1u64, 2].as_slice()));
-    assert!(rt; takes(&mut lists, [3u64].as_slice()));
+    holds!(rt; takes(&mut lists, [1u64, 2].as_slice()));
+    holds!(rt; takes(&mut lists, [3u64].as_slice()));
     let text = printed(rt.alloc(), lists.borrow())?;
-    assert_eq!(rt; text.as_str(), "[[1, 2], [3]]");
+    equal!(rt; text.as_str(), "[[1, 2], [3]]");
     Ok(())
 }

@@ -13,6 +13,7 @@ use columnar_sums::rank_select::RankSelect;
 use std::alloc::Global;
 use std::test::Fail;
 use test_support::columns::{copied, count, cut, row_at};
+use test_support::{equal, holds};
 
 type Held = Options<Vec<u64>, Vec<u64>, Vec<u64>, [u64; 2]>;
 
@@ -21,25 +22,25 @@ type Viewed<'a> = Options<View<'a, u64>, View<'a, u64>, View<'a, u64>, View<'a, 
 #[test]
 fn some_and_none(rt: HostRuntime) -> Result<(), Fail> {
     let mut column = Held::empty(rt.alloc());
-    assert!(rt; column.is_all_none());
-    assert!(rt; column.push(Some(7u64)).is_ok());
-    assert!(rt; column.push(None::<u64>).is_ok());
-    assert!(rt; column.push_ref(&Some(9u64)).is_ok());
-    assert!(rt; column.push(&None::<u64>).is_ok());
-    assert_eq!(rt; count(&column), 4);
-    assert_eq!(rt; row_at(&column, 0), Some(Some(7)));
-    assert_eq!(rt; row_at(&&column, 0), Some(Some(&7)));
-    assert_eq!(rt; row_at(&column, 1), Some(None));
-    assert_eq!(rt; row_at(&column.borrow(), 2), Some(Some(9)));
-    assert_eq!(rt; Index::last(&column.borrow()), Some(None));
-    assert!(rt; !column.is_all_none());
-    assert_eq!(rt; column.somes.as_slice(), [7, 9].as_slice());
-    assert!(rt; column.borrow().check().is_ok());
+    holds!(rt; column.is_all_none());
+    holds!(rt; column.push(Some(7u64)).is_ok());
+    holds!(rt; column.push(None::<u64>).is_ok());
+    holds!(rt; column.push_ref(&Some(9u64)).is_ok());
+    holds!(rt; column.push(&None::<u64>).is_ok());
+    equal!(rt; count(&column), 4);
+    equal!(rt; row_at(&column, 0), Some(Some(7)));
+    equal!(rt; row_at(&&column, 0), Some(Some(&7)));
+    equal!(rt; row_at(&column, 1), Some(None));
+    equal!(rt; row_at(&column.borrow(), 2), Some(Some(9)));
+    equal!(rt; Index::last(&column.borrow()), Some(None));
+    holds!(rt; !column.is_all_none());
+    equal!(rt; column.somes.as_slice(), [7, 9].as_slice());
+    holds!(rt; column.borrow().check().is_ok());
     cut(&mut column, 2);
-    assert_eq!(rt; column.somes.as_slice(), [7].as_slice());
-    assert_eq!(rt; column.len(), 2);
+    equal!(rt; column.somes.as_slice(), [7].as_slice());
+    equal!(rt; column.len(), 2);
     column.clear();
-    assert!(rt; column.is_empty());
+    holds!(rt; column.is_empty());
     Ok(())
 }
 
@@ -59,52 +60,52 @@ fn five<C: Storage + Push<Option<u64>> + Drop>(alloc: Global) -> Result<C, Fail>
 fn copies_of_ranges(rt: HostRuntime) -> Result<(), Fail> {
     let column = five::<Held>(rt.alloc())?;
     let mut copy = Held::with_capacity_for(rt.alloc(), [column.borrow()].iter().copied())?;
-    assert!(rt; copied(&mut copy, column.borrow(), 1, 4));
-    assert_eq!(rt; copy.somes.as_slice(), [3, 4].as_slice());
-    assert_eq!(rt; row_at(&copy, 0), Some(None));
+    holds!(rt; copied(&mut copy, column.borrow(), 1, 4));
+    equal!(rt; copy.somes.as_slice(), [3, 4].as_slice());
+    equal!(rt; row_at(&copy, 0), Some(None));
     Ok(())
 }
 
 #[test]
 fn copies_behind_rows(rt: HostRuntime) -> Result<(), Fail> {
     let mut copy = five::<Held>(rt.alloc())?;
-    assert!(rt; copied(&mut copy, five::<Held>(rt.alloc())?.borrow(), 2, 5));
-    assert_eq!(rt; copy.len(), 8);
-    assert_eq!(rt; copy.somes.as_slice(), [1, 3, 4, 3, 4].as_slice());
-    assert_eq!(rt; row_at(&copy, 5), Some(Some(3)));
-    assert_eq!(rt; row_at(&copy, 7), Some(None));
+    holds!(rt; copied(&mut copy, five::<Held>(rt.alloc())?.borrow(), 2, 5));
+    equal!(rt; copy.len(), 8);
+    equal!(rt; copy.somes.as_slice(), [1, 3, 4, 3, 4].as_slice());
+    equal!(rt; row_at(&copy, 5), Some(Some(3)));
+    equal!(rt; row_at(&copy, 7), Some(None));
     Ok(())
 }
 
 #[test]
 fn copies_of_columns(rt: HostRuntime) -> Result<(), Fail> {
     let mut column = five::<Held>(rt.alloc())?;
-    assert!(rt;
+    holds!(rt;
         column
             .reserve_for([five::<Held>(rt.alloc())?.borrow()].iter().copied())
             .is_ok()
     );
     let same = column.duplicate(rt.alloc())?;
-    assert_eq!(rt; row_at(&same, 2), Some(Some(3)));
+    equal!(rt; row_at(&same, 2), Some(Some(3)));
     let twin = same.clone()?;
-    assert!(rt; twin == same);
+    holds!(rt; twin == same);
     column.clear();
-    assert!(rt; twin != column);
+    holds!(rt; twin != column);
     Ok(())
 }
 
 #[test]
 fn values_alone(rt: HostRuntime) -> Result<(), Fail> {
     let mut all = Held::empty(rt.alloc());
-    assert!(rt; Push::extend(&mut all, [Some(1u64), Some(2)].iter().copied()).is_ok());
+    holds!(rt; Push::extend(&mut all, [Some(1u64), Some(2)].iter().copied()).is_ok());
     let values = match all.try_unwrap() {
         Some(values) => values,
         None => return Err(Fail::from("none")),
     };
-    assert_eq!(rt; values.as_slice(), [1, 2].as_slice());
+    equal!(rt; values.as_slice(), [1, 2].as_slice());
     let mut one = Held::empty(rt.alloc());
-    assert!(rt; Push::extend(&mut one, [Some(1u64), None].iter().copied()).is_ok());
-    assert!(rt; one.try_unwrap().is_none());
+    holds!(rt; Push::extend(&mut one, [Some(1u64), None].iter().copied()).is_ok());
+    holds!(rt; one.try_unwrap().is_none());
     Ok(())
 }
 
@@ -121,9 +122,9 @@ fn parts_that_differ(rt: HostRuntime) -> Result<(), Fail> {
         },
         somes: View::from_slice([7, 8].as_slice()),
     };
-    assert_eq!(rt; uneven.check(), Err(StoreFault::Parts(0)));
+    equal!(rt; uneven.check(), Err(StoreFault::Parts(0)));
     let mut sizes = Vec::new(rt.alloc());
-    assert!(rt; Held::element_sizes(&mut sizes).is_ok());
-    assert_eq!(rt; sizes.as_slice(), [8, 8, 8, 8].as_slice());
+    holds!(rt; Held::element_sizes(&mut sizes).is_ok());
+    equal!(rt; sizes.as_slice(), [8, 8, 8, 8].as_slice());
     Ok(())
 }

@@ -9,6 +9,7 @@ use columnar_sums::rank_select::RankSelect;
 use std::alloc::Global;
 use std::test::Fail;
 use test_support::columns::copied;
+use test_support::holds;
 
 type Held = RankSelect<Vec<u64>, Vec<u64>, [u64; 2]>;
 
@@ -126,7 +127,7 @@ fn random_bits_of_many_lengths(rt: HostRuntime) -> Result<(), Fail> {
     let mut seed = 88172645463325252;
     for n in [0, 1, 63, 64, 65, 1023, 1024, 1025, 2048, 65536] {
         for sparse in [1, 2, 40, 3000] {
-            assert!(rt; agrees_at_random(rt.alloc(), n, sparse, &mut seed)?);
+            holds!(rt; agrees_at_random(rt.alloc(), n, sparse, &mut seed)?);
         }
     }
     Ok(())

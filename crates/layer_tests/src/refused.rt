@@ -7,6 +7,7 @@ use columnar_core::bytes::Check;
 use columnar_core::rc::from_store;
 use columnar_core::store::DecodedStore;
 use std::test::Fail;
+use test_support::{equal, holds};
 
 #[test]
 fn views_that_are_shared(rt: HostRuntime) -> Result<(), Fail> {
@@ -18,12 +19,12 @@ fn views_that_are_shared(rt: HostRuntime) -> Result<(), Fail> {
     let mut offset = 0;
     match from_store::<Numbers<'_>>(rt.alloc(), &store, &mut offset) {
         Ok(shared) => {
-            assert_eq!(rt; offset, 1);
-            assert!(rt; shared.check().is_ok());
+            equal!(rt; offset, 1);
+            holds!(rt; shared.check().is_ok());
         }
         Err(error) => {
-            assert_eq!(rt; error, GrowError::Memory);
-            assert_eq!(rt; offset, 0);
+            equal!(rt; error, GrowError::Memory);
+            equal!(rt; offset, 0);
         }
     }
     Ok(())

@@ -7,6 +7,7 @@ use columnar_core::traits::Len;
 use std::test::Fail;
 use test_support::columns::{copied, copy_all};
 use test_support::stashes::opened;
+use test_support::{equal, holds};
 
 // The rows 7, 7, 7, of which the first two are both stored
 static TWO_SEVENS: [u64; 9] = [40, 40, 40, 56, 72, 3, 3, 7, 7];
@@ -15,14 +16,14 @@ static TWO_SEVENS: [u64; 9] = [40, 40, 40, 56, 72, 3, 3, 7, 7];
 fn a_front_is_copied_as_it_stands(rt: HostRuntime) -> Result<(), Fail> {
     let source = numbers::<Held>(rt.alloc(), RUNS.as_slice())?;
     let mut copy = Held::with_capacity_for(rt.alloc(), [source.borrow()].iter().copied())?;
-    assert!(rt; copied(&mut copy, source.borrow(), 0, 4));
-    assert!(rt; reads(&copy, [1, 1, 2, 2].as_slice()));
-    assert_eq!(rt; copy.inner.somes.as_slice(), [1, 2].as_slice());
+    holds!(rt; copied(&mut copy, source.borrow(), 0, 4));
+    holds!(rt; reads(&copy, [1, 1, 2, 2].as_slice()));
+    equal!(rt; copy.inner.somes.as_slice(), [1, 2].as_slice());
     let stash = opened::<Held>(rt.alloc(), TWO_SEVENS.as_slice()).expect(&rt, "opened");
     let mut sevens = Held::empty(rt.alloc());
-    assert!(rt; copied(&mut sevens, stash.borrow(), 0, 3));
-    assert!(rt; reads(&sevens, [7, 7, 7].as_slice()));
-    assert_eq!(rt; sevens.inner.somes.as_slice(), [7, 7].as_slice());
+    holds!(rt; copied(&mut sevens, stash.borrow(), 0, 3));
+    holds!(rt; reads(&sevens, [7, 7, 7].as_slice()));
+    equal!(rt; sevens.inner.somes.as_slice(), [7, 7].as_slice());
     Ok(())
 }
 
@@ -30,9 +31,9 @@ fn a_front_is_copied_as_it_stands(rt: HostRuntime) -> Result<(), Fail> {
 fn a_whole_column_is_copied(rt: HostRuntime) -> Result<(), Fail> {
     let source = numbers::<Held>(rt.alloc(), RUNS.as_slice())?;
     let mut copy = Held::empty(rt.alloc());
-    assert!(rt; copy.reserve_for([source.borrow()].iter().copied()).is_ok());
-    assert!(rt; copy_all(&mut copy, source.borrow()).is_ok());
-    assert!(rt; copy == source);
+    holds!(rt; copy.reserve_for([source.borrow()].iter().copied()).is_ok());
+    holds!(rt; copy_all(&mut copy, source.borrow()).is_ok());
+    holds!(rt; copy == source);
     Ok(())
 }
 
@@ -40,13 +41,13 @@ fn a_whole_column_is_copied(rt: HostRuntime) -> Result<(), Fail> {
 fn a_range_begins_in_a_run(rt: HostRuntime) -> Result<(), Fail> {
     let source = numbers::<Held>(rt.alloc(), RUNS.as_slice())?;
     let mut copy = Held::empty(rt.alloc());
-    assert!(rt; copied(&mut copy, source.borrow(), 1, 4));
-    assert!(rt; reads(&copy, [1, 2, 2].as_slice()));
-    assert_eq!(rt; copy.inner.somes.as_slice(), [1, 2].as_slice());
+    holds!(rt; copied(&mut copy, source.borrow(), 1, 4));
+    holds!(rt; reads(&copy, [1, 2, 2].as_slice()));
+    equal!(rt; copy.inner.somes.as_slice(), [1, 2].as_slice());
     let mut last = Held::empty(rt.alloc());
-    assert!(rt; copied(&mut last, source.borrow(), 3, 5));
-    assert!(rt; reads(&last, [2, 1].as_slice()));
-    assert_eq!(rt; last.inner.somes.as_slice(), [2, 1].as_slice());
+    holds!(rt; copied(&mut last, source.borrow(), 3, 5));
+    holds!(rt; reads(&last, [2, 1].as_slice()));
+    equal!(rt; last.inner.somes.as_slice(), [2, 1].as_slice());
     Ok(())
 }
 
@@ -54,9 +55,9 @@ fn a_range_begins_in_a_run(rt: HostRuntime) -> Result<(), Fail> {
 fn a_range_begins_with_a_run(rt: HostRuntime) -> Result<(), Fail> {
     let source = numbers::<Held>(rt.alloc(), RUNS.as_slice())?;
     let mut copy = Held::empty(rt.alloc());
-    assert!(rt; copied(&mut copy, source.borrow(), 2, 5));
-    assert!(rt; reads(&copy, [2, 2, 1].as_slice()));
-    assert_eq!(rt; copy.inner.somes.as_slice(), [2, 1].as_slice());
+    holds!(rt; copied(&mut copy, source.borrow(), 2, 5));
+    holds!(rt; reads(&copy, [2, 2, 1].as_slice()));
+    equal!(rt; copy.inner.somes.as_slice(), [2, 1].as_slice());
     Ok(())
 }
 
@@ -64,13 +65,13 @@ fn a_range_begins_with_a_run(rt: HostRuntime) -> Result<(), Fail> {
 fn empty_ranges_are_copied(rt: HostRuntime) -> Result<(), Fail> {
     let source = numbers::<Held>(rt.alloc(), RUNS.as_slice())?;
     let mut copy = Held::empty(rt.alloc());
-    assert!(rt; copied(&mut copy, source.borrow(), 0, 0));
-    assert!(rt; copied(&mut copy, source.borrow(), 3, 3));
-    assert!(rt; copied(&mut copy, source.borrow(), 5, 5));
-    assert!(rt; copy.is_empty());
+    holds!(rt; copied(&mut copy, source.borrow(), 0, 0));
+    holds!(rt; copied(&mut copy, source.borrow(), 3, 3));
+    holds!(rt; copied(&mut copy, source.borrow(), 5, 5));
+    holds!(rt; copy.is_empty());
     let mut more = numbers::<Held>(rt.alloc(), [4].as_slice())?;
-    assert!(rt; copied(&mut more, source.borrow(), 3, 3));
-    assert!(rt; reads(&more, [4].as_slice()));
+    holds!(rt; copied(&mut more, source.borrow(), 3, 3));
+    holds!(rt; reads(&more, [4].as_slice()));
     Ok(())
 }
 
@@ -78,12 +79,12 @@ fn empty_ranges_are_copied(rt: HostRuntime) -> Result<(), Fail> {
 fn rows_are_copied_behind_the_same_row(rt: HostRuntime) -> Result<(), Fail> {
     let source = numbers::<Held>(rt.alloc(), RUNS.as_slice())?;
     let mut column = numbers::<Held>(rt.alloc(), [5, 1].as_slice())?;
-    assert!(rt; copied(&mut column, source.borrow(), 0, 2));
-    assert!(rt; reads(&column, [5, 1, 1, 1].as_slice()));
-    assert_eq!(rt; column.inner.somes.as_slice(), [5, 1].as_slice());
-    assert!(rt; copied(&mut column, source.borrow(), 1, 5));
-    assert!(rt; reads(&column, [5, 1, 1, 1, 1, 2, 2, 1].as_slice()));
-    assert_eq!(rt; column.inner.somes.as_slice(), [5, 1, 2, 1].as_slice());
+    holds!(rt; copied(&mut column, source.borrow(), 0, 2));
+    holds!(rt; reads(&column, [5, 1, 1, 1].as_slice()));
+    equal!(rt; column.inner.somes.as_slice(), [5, 1].as_slice());
+    holds!(rt; copied(&mut column, source.borrow(), 1, 5));
+    holds!(rt; reads(&column, [5, 1, 1, 1, 1, 2, 2, 1].as_slice()));
+    equal!(rt; column.inner.somes.as_slice(), [5, 1, 2, 1].as_slice());
     Ok(())
 }
 
@@ -91,11 +92,11 @@ fn rows_are_copied_behind_the_same_row(rt: HostRuntime) -> Result<(), Fail> {
 fn rows_are_copied_behind_another_row(rt: HostRuntime) -> Result<(), Fail> {
     let source = numbers::<Held>(rt.alloc(), RUNS.as_slice())?;
     let mut column = numbers::<Held>(rt.alloc(), [5].as_slice())?;
-    assert!(rt; copied(&mut column, source.borrow(), 0, 3));
-    assert!(rt; reads(&column, [5, 1, 1, 2].as_slice()));
-    assert_eq!(rt; column.inner.somes.as_slice(), [5, 1, 2].as_slice());
-    assert!(rt; copied(&mut column, source.borrow(), 1, 2));
-    assert!(rt; reads(&column, [5, 1, 1, 2, 1].as_slice()));
-    assert_eq!(rt; column.inner.somes.as_slice(), [5, 1, 2, 1].as_slice());
+    holds!(rt; copied(&mut column, source.borrow(), 0, 3));
+    holds!(rt; reads(&column, [5, 1, 1, 2].as_slice()));
+    equal!(rt; column.inner.somes.as_slice(), [5, 1, 2].as_slice());
+    holds!(rt; copied(&mut column, source.borrow(), 1, 2));
+    holds!(rt; reads(&column, [5, 1, 1, 2, 1].as_slice()));
+    equal!(rt; column.inner.somes.as_slice(), [5, 1, 2, 1].as_slice());
     Ok(())
 }

@@ -13,6 +13,7 @@ use columnar_lookback::lookbacks::Lookbacks;
 use std::test::Fail;
 use test_support::columns::{count, cut, row_at, takes};
 use test_support::stores::front;
+use test_support::{equal, holds};
 
 // As far back as it goes
 type Far = Lookbacks<Vec<u64>, 255>;
@@ -30,20 +31,20 @@ fn keeps<const N: u8>(column: &Lookbacks<Vec<u64>, N>, values: &[u64], distances
 #[test]
 fn one_of_the_last_values_is_kept_as_its_distance(rt: HostRuntime) -> Result<(), Fail> {
     let mut column = Far::empty(rt.alloc());
-    assert!(rt; column.is_empty());
-    assert_eq!(rt; column.distance_to(&10u64), None);
-    assert!(rt; column.push(10u64).is_ok());
-    assert!(rt; column.push(&20u64).is_ok());
-    assert_eq!(rt; column.distance_to(&20u64), Some(0));
-    assert_eq!(rt; column.distance_to(&10u64), Some(1));
-    assert_eq!(rt; column.distance_to(&30u64), None);
-    assert!(rt; column.push_ref(&10u64).is_ok());
-    assert!(rt; column.push(30u64).is_ok());
-    assert!(rt; column.push(&20u64).is_ok());
-    assert_eq!(rt; count(&column), 5);
-    assert!(rt; reads(&column, RETURNS.as_slice()));
-    assert!(rt; keeps(&column, [10, 20, 30].as_slice(), [1, 1].as_slice()));
-    assert_eq!(rt; row_at(&column, 5), None);
+    holds!(rt; column.is_empty());
+    equal!(rt; column.distance_to(&10u64), None);
+    holds!(rt; column.push(10u64).is_ok());
+    holds!(rt; column.push(&20u64).is_ok());
+    equal!(rt; column.distance_to(&20u64), Some(0));
+    equal!(rt; column.distance_to(&10u64), Some(1));
+    equal!(rt; column.distance_to(&30u64), None);
+    holds!(rt; column.push_ref(&10u64).is_ok());
+    holds!(rt; column.push(30u64).is_ok());
+    holds!(rt; column.push(&20u64).is_ok());
+    equal!(rt; count(&column), 5);
+    holds!(rt; reads(&column, RETURNS.as_slice()));
+    holds!(rt; keeps(&column, [10, 20, 30].as_slice(), [1, 1].as_slice()));
+    equal!(rt; row_at(&column, 5), None);
     Ok(())
 }
 
@@ -52,17 +53,17 @@ fn no_more_values_are_looked_at_than_are_asked_for(rt: HostRuntime) -> Result<()
     let alloc = rt.alloc();
     let rows = [10, 20, 20, 10, 30, 10, 20];
     let none = numbers::<Lookbacks<Vec<u64>, 0>>(alloc, rows.as_slice())?;
-    assert!(rt; keeps(&none, rows.as_slice(), [].as_slice()));
-    assert!(rt; reads(&none, rows.as_slice()));
+    holds!(rt; keeps(&none, rows.as_slice(), [].as_slice()));
+    holds!(rt; reads(&none, rows.as_slice()));
     let one = numbers::<Lookbacks<Vec<u64>, 1>>(alloc, rows.as_slice())?;
-    assert!(rt; keeps(&one, [10, 20, 10, 30, 10, 20].as_slice(), [0].as_slice()));
-    assert!(rt; reads(&one, rows.as_slice()));
+    holds!(rt; keeps(&one, [10, 20, 10, 30, 10, 20].as_slice(), [0].as_slice()));
+    holds!(rt; reads(&one, rows.as_slice()));
     let two = numbers::<Two>(alloc, rows.as_slice())?;
-    assert!(rt; keeps(&two, [10, 20, 30, 10, 20].as_slice(), [0, 1].as_slice()));
-    assert!(rt; reads(&two, rows.as_slice()));
+    holds!(rt; keeps(&two, [10, 20, 30, 10, 20].as_slice(), [0, 1].as_slice()));
+    holds!(rt; reads(&two, rows.as_slice()));
     let three = numbers::<Lookbacks<Vec<u64>, 3>>(alloc, rows.as_slice())?;
-    assert!(rt; keeps(&three, [10, 20, 30].as_slice(), [0, 1, 2, 1].as_slice()));
-    assert!(rt; reads(&three, rows.as_slice()));
+    holds!(rt; keeps(&three, [10, 20, 30].as_slice(), [0, 1, 2, 1].as_slice()));
+    holds!(rt; reads(&three, rows.as_slice()));
     Ok(())
 }
 
@@ -73,27 +74,27 @@ fn the_last_of_two_hundred_and_fifty_five(rt: HostRuntime) -> Result<(), Fail> {
         rows.push(i)?;
     }
     let mut column = numbers::<Far>(rt.alloc(), rows.as_slice())?;
-    assert_eq!(rt; column.distance_to(&0u64), None);
-    assert_eq!(rt; column.distance_to(&1u64), Some(254));
-    assert!(rt; takes(&mut column, 1u64));
-    assert_eq!(rt; column.inner.errs.as_slice(), [254].as_slice());
-    assert_eq!(rt; row_at(&column, 256), Some(1));
-    assert!(rt; takes(&mut column, 0u64));
-    assert_eq!(rt; column.inner.oks.as_slice().len(), 257);
-    assert_eq!(rt; row_at(&column, 257), Some(0));
+    equal!(rt; column.distance_to(&0u64), None);
+    equal!(rt; column.distance_to(&1u64), Some(254));
+    holds!(rt; takes(&mut column, 1u64));
+    equal!(rt; column.inner.errs.as_slice(), [254].as_slice());
+    equal!(rt; row_at(&column, 256), Some(1));
+    holds!(rt; takes(&mut column, 0u64));
+    equal!(rt; column.inner.oks.as_slice().len(), 257);
+    equal!(rt; row_at(&column, 257), Some(0));
     Ok(())
 }
 
 #[test]
 fn rows_are_read_through_views_and_references(rt: HostRuntime) -> Result<(), Fail> {
     let column = numbers::<Far>(rt.alloc(), RETURNS.as_slice())?;
-    assert_eq!(rt; row_at(&&column, 0), Some(&10));
-    assert_eq!(rt; row_at(&&column, 2), Some(&10));
-    assert_eq!(rt; row_at(&&column, 4), Some(&20));
-    assert!(rt; reads(&column.borrow(), RETURNS.as_slice()));
-    assert!(rt; reads(&column.borrow().reborrow(), RETURNS.as_slice()));
-    assert_eq!(rt; Index::last(&column.borrow()), Some(20));
-    assert!(rt; column.borrow().check().is_ok());
+    equal!(rt; row_at(&&column, 0), Some(&10));
+    equal!(rt; row_at(&&column, 2), Some(&10));
+    equal!(rt; row_at(&&column, 4), Some(&20));
+    holds!(rt; reads(&column.borrow(), RETURNS.as_slice()));
+    holds!(rt; reads(&column.borrow().reborrow(), RETURNS.as_slice()));
+    equal!(rt; Index::last(&column.borrow()), Some(20));
+    holds!(rt; column.borrow().check().is_ok());
     Ok(())
 }
 
@@ -101,18 +102,18 @@ fn rows_are_read_through_views_and_references(rt: HostRuntime) -> Result<(), Fai
 fn rows_are_cut(rt: HostRuntime) -> Result<(), Fail> {
     let mut column = numbers::<Far>(rt.alloc(), RETURNS.as_slice())?;
     cut(&mut column, 4);
-    assert!(rt; keeps(&column, [10, 20, 30].as_slice(), [1].as_slice()));
+    holds!(rt; keeps(&column, [10, 20, 30].as_slice(), [1].as_slice()));
     cut(&mut column, 3);
-    assert!(rt; reads(&column, [10, 20, 10].as_slice()));
-    assert!(rt; keeps(&column, [10, 20].as_slice(), [1].as_slice()));
-    assert!(rt; takes(&mut column, 20u64));
-    assert!(rt; takes(&mut column, 30u64));
-    assert!(rt; reads(&column, [10, 20, 10, 20, 30].as_slice()));
-    assert!(rt; keeps(&column, [10, 20, 30].as_slice(), [1, 0].as_slice()));
+    holds!(rt; reads(&column, [10, 20, 10].as_slice()));
+    holds!(rt; keeps(&column, [10, 20].as_slice(), [1].as_slice()));
+    holds!(rt; takes(&mut column, 20u64));
+    holds!(rt; takes(&mut column, 30u64));
+    holds!(rt; reads(&column, [10, 20, 10, 20, 30].as_slice()));
+    holds!(rt; keeps(&column, [10, 20, 30].as_slice(), [1, 0].as_slice()));
     cut(&mut column, 0);
-    assert!(rt; column.is_empty());
-    assert!(rt; takes(&mut column, 10u64));
-    assert!(rt; keeps(&column, [10].as_slice(), [].as_slice()));
+    holds!(rt; column.is_empty());
+    holds!(rt; takes(&mut column, 10u64));
+    holds!(rt; keeps(&column, [10].as_slice(), [].as_slice()));
     Ok(())
 }
 
@@ -120,17 +121,17 @@ fn rows_are_cut(rt: HostRuntime) -> Result<(), Fail> {
 fn columns_are_cloned_compared_and_cleared(rt: HostRuntime) -> Result<(), Fail> {
     let mut column = numbers::<Far>(rt.alloc(), RETURNS.as_slice())?;
     let same = column.duplicate(rt.alloc())?;
-    assert!(rt; reads(&same, RETURNS.as_slice()));
+    holds!(rt; reads(&same, RETURNS.as_slice()));
     let twin = same.clone()?;
-    assert!(rt; twin == same);
-    assert!(rt; keeps(&twin, [10, 20, 30].as_slice(), [1, 1].as_slice()));
+    holds!(rt; twin == same);
+    holds!(rt; keeps(&twin, [10, 20, 30].as_slice(), [1, 1].as_slice()));
     cut(&mut column, 4);
-    assert!(rt; twin != column);
+    holds!(rt; twin != column);
     column.clear();
-    assert!(rt; column.is_empty());
-    assert!(rt; column == Far::empty(rt.alloc()));
-    assert!(rt; takes(&mut column, 20u64));
-    assert!(rt; reads(&column, [20].as_slice()));
+    holds!(rt; column.is_empty());
+    holds!(rt; column == Far::empty(rt.alloc()));
+    holds!(rt; takes(&mut column, 20u64));
+    holds!(rt; reads(&column, [20].as_slice()));
     Ok(())
 }
 
@@ -145,11 +146,11 @@ fn two_thousand_numbers(rt: HostRuntime) -> Result<(), Fail> {
         }
     }
     let column = numbers::<Far>(rt.alloc(), rows.as_slice())?;
-    assert_eq!(rt; count(&column), 2000);
-    assert!(rt; keeps(&column, front(rows.as_slice(), 200), backs.as_slice()));
-    assert!(rt; reads(&column, rows.as_slice()));
+    equal!(rt; count(&column), 2000);
+    holds!(rt; keeps(&column, front(rows.as_slice(), 200), backs.as_slice()));
+    holds!(rt; reads(&column, rows.as_slice()));
     let near = numbers::<Lookbacks<Vec<u64>, 199>>(rt.alloc(), rows.as_slice())?;
-    assert!(rt; keeps(&near, rows.as_slice(), [].as_slice()));
-    assert!(rt; reads(&near, rows.as_slice()));
+    holds!(rt; keeps(&near, rows.as_slice(), [].as_slice()));
+    holds!(rt; reads(&near, rows.as_slice()));
     Ok(())
 }

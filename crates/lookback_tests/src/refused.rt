@@ -7,6 +7,7 @@ use crate::rows::Held;
 use columnar_core::container::Borrow;
 use columnar_lookback::repeats::Repeats;
 use std::test::Fail;
+use test_support::holds;
 use test_support::stashes::opened;
 use test_support::trials::{Trial, both_pushes_keep, calls_keep, is_lawful};
 
@@ -28,13 +29,13 @@ fn a_new_value(rt: HostRuntime) -> Result<(), Fail> {
         into: SEVENS_AND_NINE.as_slice(),
         with_taken: [40, 40, 40, 56, 80, 37, 6, 7, 9, 8].as_slice(),
     };
-    assert!(rt; is_lawful::<Held>(alloc, &trial));
+    holds!(rt; is_lawful::<Held>(alloc, &trial));
     let Some(source) = opened::<Held>(alloc, trial.source) else {
         return Ok(());
     };
-    assert!(rt; both_pushes_keep::<u64, Held>(alloc, 8, &trial));
-    assert!(rt; both_pushes_keep::<&u64, Held>(alloc, &8, &trial));
-    assert!(rt; calls_keep::<_, Held>(alloc, source.borrow(), &trial));
+    holds!(rt; both_pushes_keep::<u64, Held>(alloc, 8, &trial));
+    holds!(rt; both_pushes_keep::<&u64, Held>(alloc, &8, &trial));
+    holds!(rt; calls_keep::<_, Held>(alloc, source.borrow(), &trial));
     Ok(())
 }
 
@@ -51,13 +52,13 @@ fn a_value_that_goes_on(rt: HostRuntime) -> Result<(), Fail> {
         into: SEVENS_AND_NINE.as_slice(),
         with_taken: [40, 40, 40, 56, 120, 509, 9, 7, 9, 1, 2, 3, 4, 5, 6].as_slice(),
     };
-    assert!(rt; is_lawful::<Held>(alloc, &trial));
+    holds!(rt; is_lawful::<Held>(alloc, &trial));
     let Some(source) = opened::<Held>(alloc, trial.source) else {
         return Ok(());
     };
-    assert!(rt; both_pushes_keep::<u64, Held>(alloc, 9, &trial));
-    assert!(rt; both_pushes_keep::<&u64, Held>(alloc, &9, &trial));
-    assert!(rt; calls_keep::<_, Held>(alloc, source.borrow(), &trial));
+    holds!(rt; both_pushes_keep::<u64, Held>(alloc, 9, &trial));
+    holds!(rt; both_pushes_keep::<&u64, Held>(alloc, &9, &trial));
+    holds!(rt; calls_keep::<_, Held>(alloc, source.borrow(), &trial));
     Ok(())
 }
 
@@ -75,12 +76,12 @@ fn the_last_bit_of_a_word(rt: HostRuntime) -> Result<(), Fail> {
         into: before.as_slice(),
         with_taken: [40, 40, 48, 64, 80, 1, 2, 2, 7, 8].as_slice(),
     };
-    assert!(rt; is_lawful::<Held>(alloc, &trial));
+    holds!(rt; is_lawful::<Held>(alloc, &trial));
     let Some(source) = opened::<Held>(alloc, trial.source) else {
         return Ok(());
     };
-    assert!(rt; both_pushes_keep::<u64, Held>(alloc, 8, &trial));
-    assert!(rt; calls_keep::<_, Held>(alloc, source.borrow(), &trial));
+    holds!(rt; both_pushes_keep::<u64, Held>(alloc, 8, &trial));
+    holds!(rt; calls_keep::<_, Held>(alloc, source.borrow(), &trial));
     Ok(())
 }
 
@@ -99,11 +100,11 @@ fn runs_of_pairs(rt: HostRuntime) -> Result<(), Fail> {
         into: before.as_slice(),
         with_taken: after.as_slice(),
     };
-    assert!(rt; is_lawful::<Pairs>(alloc, &trial));
+    holds!(rt; is_lawful::<Pairs>(alloc, &trial));
     let Some(source) = opened::<Pairs>(alloc, trial.source) else {
         return Ok(());
     };
-    assert!(rt; both_pushes_keep::<(u64, u64), Pairs>(alloc, (3, 30), &trial));
-    assert!(rt; calls_keep::<_, Pairs>(alloc, source.borrow(), &trial));
+    holds!(rt; both_pushes_keep::<(u64, u64), Pairs>(alloc, (3, 30), &trial));
+    holds!(rt; calls_keep::<_, Pairs>(alloc, source.borrow(), &trial));
     Ok(())
 }

@@ -11,38 +11,39 @@ use columnar_sums::option::Options;
 use std::alloc::Global;
 use std::test::Fail;
 use test_support::columns::{count, cut, row_at, takes};
+use test_support::{equal, holds};
 
 type Wide = Repeats<Options<(Vec<u64>, Vec<u32>)>>;
 
 #[test]
 fn a_run_is_kept_once(rt: HostRuntime) -> Result<(), Fail> {
     let mut column = Held::empty(rt.alloc());
-    assert!(rt; column.is_empty());
-    assert!(rt; !column.is_repeated(&1u64));
-    assert!(rt; column.push(1u64).is_ok());
-    assert!(rt; column.is_repeated(&1u64));
-    assert!(rt; !column.is_repeated(&2u64));
-    assert!(rt; column.push(&1u64).is_ok());
-    assert!(rt; column.push(2u64).is_ok());
-    assert!(rt; column.push(&2u64).is_ok());
-    assert!(rt; column.push(&1u64).is_ok());
-    assert_eq!(rt; count(&column), 5);
-    assert!(rt; reads(&column, RUNS.as_slice()));
-    assert_eq!(rt; column.inner.somes.as_slice(), [1, 2, 1].as_slice());
-    assert_eq!(rt; row_at(&column, 5), None);
+    holds!(rt; column.is_empty());
+    holds!(rt; !column.is_repeated(&1u64));
+    holds!(rt; column.push(1u64).is_ok());
+    holds!(rt; column.is_repeated(&1u64));
+    holds!(rt; !column.is_repeated(&2u64));
+    holds!(rt; column.push(&1u64).is_ok());
+    holds!(rt; column.push(2u64).is_ok());
+    holds!(rt; column.push(&2u64).is_ok());
+    holds!(rt; column.push(&1u64).is_ok());
+    equal!(rt; count(&column), 5);
+    holds!(rt; reads(&column, RUNS.as_slice()));
+    equal!(rt; column.inner.somes.as_slice(), [1, 2, 1].as_slice());
+    equal!(rt; row_at(&column, 5), None);
     Ok(())
 }
 
 #[test]
 fn rows_are_read_through_views_and_references(rt: HostRuntime) -> Result<(), Fail> {
     let column = numbers::<Held>(rt.alloc(), RUNS.as_slice())?;
-    assert_eq!(rt; row_at(&&column, 1), Some(&1));
-    assert_eq!(rt; row_at(&&column, 3), Some(&2));
-    assert_eq!(rt; row_at(&&column, 4), Some(&1));
-    assert!(rt; reads(&column.borrow(), RUNS.as_slice()));
-    assert!(rt; reads(&column.borrow().reborrow(), RUNS.as_slice()));
-    assert_eq!(rt; Index::last(&column.borrow()), Some(1));
-    assert!(rt; column.borrow().check().is_ok());
+    equal!(rt; row_at(&&column, 1), Some(&1));
+    equal!(rt; row_at(&&column, 3), Some(&2));
+    equal!(rt; row_at(&&column, 4), Some(&1));
+    holds!(rt; reads(&column.borrow(), RUNS.as_slice()));
+    holds!(rt; reads(&column.borrow().reborrow(), RUNS.as_slice()));
+    equal!(rt; Index::last(&column.borrow()), Some(1));
+    holds!(rt; column.borrow().check().is_ok());
     Ok(())
 }
 
@@ -50,19 +51,19 @@ fn rows_are_read_through_views_and_references(rt: HostRuntime) -> Result<(), Fai
 fn rows_are_cut_in_a_run(rt: HostRuntime) -> Result<(), Fail> {
     let mut column = numbers::<Held>(rt.alloc(), RUNS.as_slice())?;
     cut(&mut column, 3);
-    assert!(rt; reads(&column, [1, 1, 2].as_slice()));
-    assert_eq!(rt; column.inner.somes.as_slice(), [1, 2].as_slice());
-    assert!(rt; takes(&mut column, 2u64));
-    assert_eq!(rt; column.inner.somes.as_slice(), [1, 2].as_slice());
+    holds!(rt; reads(&column, [1, 1, 2].as_slice()));
+    equal!(rt; column.inner.somes.as_slice(), [1, 2].as_slice());
+    holds!(rt; takes(&mut column, 2u64));
+    equal!(rt; column.inner.somes.as_slice(), [1, 2].as_slice());
     cut(&mut column, 1);
-    assert_eq!(rt; column.inner.somes.as_slice(), [1].as_slice());
-    assert!(rt; takes(&mut column, 1u64));
-    assert!(rt; reads(&column, [1, 1].as_slice()));
-    assert_eq!(rt; column.inner.somes.as_slice(), [1].as_slice());
+    equal!(rt; column.inner.somes.as_slice(), [1].as_slice());
+    holds!(rt; takes(&mut column, 1u64));
+    holds!(rt; reads(&column, [1, 1].as_slice()));
+    equal!(rt; column.inner.somes.as_slice(), [1].as_slice());
     cut(&mut column, 0);
-    assert!(rt; column.is_empty());
-    assert!(rt; takes(&mut column, 1u64));
-    assert_eq!(rt; column.inner.somes.as_slice(), [1].as_slice());
+    holds!(rt; column.is_empty());
+    holds!(rt; takes(&mut column, 1u64));
+    equal!(rt; column.inner.somes.as_slice(), [1].as_slice());
     Ok(())
 }
 
@@ -70,17 +71,17 @@ fn rows_are_cut_in_a_run(rt: HostRuntime) -> Result<(), Fail> {
 fn columns_are_cloned_compared_and_cleared(rt: HostRuntime) -> Result<(), Fail> {
     let mut column = numbers::<Held>(rt.alloc(), RUNS.as_slice())?;
     let same = column.duplicate(rt.alloc())?;
-    assert!(rt; reads(&same, RUNS.as_slice()));
+    holds!(rt; reads(&same, RUNS.as_slice()));
     let twin = same.clone()?;
-    assert!(rt; twin == same);
-    assert_eq!(rt; twin.inner.somes.as_slice(), [1, 2, 1].as_slice());
+    holds!(rt; twin == same);
+    equal!(rt; twin.inner.somes.as_slice(), [1, 2, 1].as_slice());
     cut(&mut column, 4);
-    assert!(rt; twin != column);
+    holds!(rt; twin != column);
     column.clear();
-    assert!(rt; column.is_empty());
-    assert!(rt; column == Held::empty(rt.alloc()));
-    assert!(rt; takes(&mut column, 2u64));
-    assert!(rt; reads(&column, [2].as_slice()));
+    holds!(rt; column.is_empty());
+    holds!(rt; column == Held::empty(rt.alloc()));
+    holds!(rt; takes(&mut column, 2u64));
+    holds!(rt; reads(&column, [2].as_slice()));
     Ok(())
 }
 
@@ -91,9 +92,9 @@ fn two_thousand_numbers(rt: HostRuntime) -> Result<(), Fail> {
         rows.push(i / 3)?;
     }
     let column = numbers::<Held>(rt.alloc(), rows.as_slice())?;
-    assert_eq!(rt; count(&column), 2000);
-    assert_eq!(rt; column.inner.somes.as_slice().len(), 667);
-    assert!(rt; reads(&column, rows.as_slice()));
+    equal!(rt; count(&column), 2000);
+    equal!(rt; column.inner.somes.as_slice().len(), 667);
+    holds!(rt; reads(&column, rows.as_slice()));
     Ok(())
 }
 
@@ -124,9 +125,9 @@ fn two_thousand_pairs_that_may_be_absent(rt: HostRuntime) -> Result<(), Fail> {
         rows.push(wide_row(i / 4))?;
     }
     let column = wide(rt.alloc(), rows.as_slice())?;
-    assert_eq!(rt; count(&column), 2000);
-    assert_eq!(rt; count(&column.inner.somes), 500);
-    assert_eq!(rt; column.inner.somes.somes.0.as_slice().len(), 333);
-    assert!(rt; reads(&column, rows.as_slice()));
+    equal!(rt; count(&column), 2000);
+    equal!(rt; count(&column.inner.somes), 500);
+    equal!(rt; column.inner.somes.somes.0.as_slice().len(), 333);
+    holds!(rt; reads(&column, rows.as_slice()));
     Ok(())
 }

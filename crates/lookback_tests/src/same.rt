@@ -15,6 +15,7 @@ use columnar_sums::option::Options;
 use std::alloc::Global;
 use std::test::Fail;
 use std::time::Duration;
+use test_support::equal;
 
 // Is the item the same as each of two rows?
 fn told<T: Item + Copy, C: Storage + Push<T> + SameAs<T> + Drop>(
@@ -39,19 +40,19 @@ fn told<T: Item + Copy, C: Storage + Push<T> + SameAs<T> + Drop>(
 #[test]
 fn numbers_bits_and_characters(rt: HostRuntime) -> Result<(), Fail> {
     let alloc = rt.alloc();
-    assert_eq!(rt; told::<u64, Vec<u64>>(alloc, 1, 2, &2)?, (false, true));
-    assert_eq!(rt; told::<&u64, Vec<u64>>(alloc, &1, &2, &&1)?, (true, false));
-    assert_eq!(rt; told::<u8, Vec<u8>>(alloc, 1, 2, &3)?, (false, false));
-    assert_eq!(rt;
+    equal!(rt; told::<u64, Vec<u64>>(alloc, 1, 2, &2)?, (false, true));
+    equal!(rt; told::<&u64, Vec<u64>>(alloc, &1, &2, &&1)?, (true, false));
+    equal!(rt; told::<u8, Vec<u8>>(alloc, 1, 2, &3)?, (false, false));
+    equal!(rt;
         told::<bool, Bools>(alloc, true, false, &true)?,
         (true, false)
     );
-    assert_eq!(rt;
+    equal!(rt;
         told::<&bool, Bools>(alloc, &true, &false, &&false)?,
         (false, true)
     );
-    assert_eq!(rt; told::<char, Chars>(alloc, 'a', 'b', &'b')?, (false, true));
-    assert_eq!(rt;
+    equal!(rt; told::<char, Chars>(alloc, 'a', 'b', &'b')?, (false, true));
+    equal!(rt;
         told::<&char, Chars>(alloc, &'a', &'b', &&'a')?,
         (true, false)
     );
@@ -63,37 +64,37 @@ fn durations_units_and_strides(rt: HostRuntime) -> Result<(), Fail> {
     let alloc = rt.alloc();
     let long = Duration::new(2, 1);
     let short = Duration::new(2, 0);
-    assert_eq!(rt;
+    equal!(rt;
         told::<Duration, Durations>(alloc, long, short, &short)?,
         (false, true)
     );
-    assert_eq!(rt;
+    equal!(rt;
         told::<&Duration, Durations>(alloc, &long, &short, &&long)?,
         (true, false)
     );
-    assert_eq!(rt; told::<(), Empties>(alloc, (), (), &())?, (true, true));
-    assert_eq!(rt; told::<&(), Empties>(alloc, &(), &(), &&())?, (true, true));
-    assert_eq!(rt; told::<u64, Strides>(alloc, 3, 6, &6)?, (false, true));
-    assert_eq!(rt; told::<&u64, Strides>(alloc, &3, &5, &&3)?, (true, false));
+    equal!(rt; told::<(), Empties>(alloc, (), (), &())?, (true, true));
+    equal!(rt; told::<&(), Empties>(alloc, &(), &(), &&())?, (true, true));
+    equal!(rt; told::<u64, Strides>(alloc, 3, 6, &6)?, (false, true));
+    equal!(rt; told::<&u64, Strides>(alloc, &3, &5, &&3)?, (true, false));
     Ok(())
 }
 
 #[test]
 fn tuples_of_columns(rt: HostRuntime) -> Result<(), Fail> {
     let alloc = rt.alloc();
-    assert_eq!(rt;
+    equal!(rt;
         told::<_, (Vec<u64>,)>(alloc, (1u64,), (2,), &(1,))?,
         (true, false)
     );
-    assert_eq!(rt;
+    equal!(rt;
         told::<_, (Vec<u64>, Vec<u64>)>(alloc, (1u64, 2u64), (1, 3), &(1, 3))?,
         (false, true)
     );
-    assert_eq!(rt;
+    equal!(rt;
         told::<_, (Vec<u64>, Vec<u64>)>(alloc, (1u64, 3u64), (2, 3), &(1, 3))?,
         (true, false)
     );
-    assert_eq!(rt;
+    equal!(rt;
         told::<_, (Vec<u64>, Vec<u64>)>(alloc, &(1u64, 3u64), &(2, 3), &&(2, 3))?,
         (false, true)
     );
@@ -103,7 +104,7 @@ fn tuples_of_columns(rt: HostRuntime) -> Result<(), Fail> {
 #[test]
 fn tuples_of_three_columns(rt: HostRuntime) -> Result<(), Fail> {
     let alloc = rt.alloc();
-    assert_eq!(rt;
+    equal!(rt;
         told::<_, (Vec<u64>, Vec<u64>, Bools)>(
             alloc,
             (1u64, 2u64, true),
@@ -112,7 +113,7 @@ fn tuples_of_three_columns(rt: HostRuntime) -> Result<(), Fail> {
         )?,
         (false, true)
     );
-    assert_eq!(rt;
+    equal!(rt;
         told::<_, (Vec<u64>, Vec<u64>, Bools)>(
             alloc,
             (1u64, 2u64, true),
@@ -129,23 +130,23 @@ fn rows_that_may_be_absent_and_boxes(rt: HostRuntime) -> Result<(), Fail> {
     let alloc = rt.alloc();
     let one = Some(1u64);
     let two = Some(2u64);
-    assert_eq!(rt;
+    equal!(rt;
         told::<_, Options<Vec<u64>>>(alloc, one, two, &two)?,
         (false, true)
     );
-    assert_eq!(rt;
+    equal!(rt;
         told::<_, Options<Vec<u64>>>(alloc, one, None, &None)?,
         (false, true)
     );
-    assert_eq!(rt;
+    equal!(rt;
         told::<_, Options<Vec<u64>>>(alloc, one, None, &one)?,
         (true, false)
     );
-    assert_eq!(rt;
+    equal!(rt;
         told::<_, Options<Vec<u64>>>(alloc, &None, &two, &&two)?,
         (false, true)
     );
-    assert_eq!(rt;
+    equal!(rt;
         told::<_, Boxed<Vec<u64>>>(alloc, Boxed(1u64), Boxed(2), &Boxed(1))?,
         (true, false)
     );
@@ -162,7 +163,7 @@ fn tuples_of_four_columns(rt: HostRuntime) -> Result<(), Fail> {
         ((1, 2, false, 4), false),
         ((1, 2, true, 9), false),
     ] {
-        assert_eq!(rt;
+        equal!(rt;
             told::<_, (Vec<u64>, Vec<u64>, Bools, Vec<u64>)>(rt.alloc(), item, row, &item)?,
             (true, wanted)
         );
@@ -173,16 +174,16 @@ fn tuples_of_four_columns(rt: HostRuntime) -> Result<(), Fail> {
 #[test]
 fn texts(rt: HostRuntime) -> Result<(), Fail> {
     let alloc = rt.alloc();
-    assert_eq!(rt;
+    equal!(rt;
         told::<&str, Strings>(alloc, "abc", "abd", &"abc")?,
         (true, false)
     );
-    assert_eq!(rt;
+    equal!(rt;
         told::<&str, Strings>(alloc, "abc", "ab", &"ab")?,
         (false, true)
     );
-    assert_eq!(rt; told::<&str, Strings>(alloc, "", "ab", &"")?, (true, false));
-    assert_eq!(rt;
+    equal!(rt; told::<&str, Strings>(alloc, "", "ab", &"")?, (true, false));
+    equal!(rt;
         told::<&[u8], Strings>(
             alloc,
             b"ab".as_slice(),

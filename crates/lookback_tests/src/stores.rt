@@ -15,6 +15,7 @@ use columnar_sums::rank_select::RankSelect;
 use std::test::Fail;
 use test_support::stashes::{has, opened, reopened, variant, writes};
 use test_support::stores::{is_written, refusal};
+use test_support::{equal, holds};
 
 type Viewed<'a> = Repeats<View<'a, u64>, View<'a, u64>, View<'a, u64>, View<'a, u64>>;
 
@@ -29,27 +30,27 @@ static NO_FIRST: [u64; 7] = [40, 40, 40, 56, 56, 0, 1];
 
 #[test]
 fn a_store_that_is_accepted(rt: HostRuntime) -> Result<(), Fail> {
-    assert_eq!(rt;
+    equal!(rt;
         refusal::<Held>(rt.alloc(), SEVENS_AND_NINE.as_slice())?,
         (0, 0)
     );
     let stash = opened::<Held>(rt.alloc(), SEVENS_AND_NINE.as_slice()).expect(&rt, "opened");
-    assert_eq!(rt; variant(&stash), 1);
-    assert!(rt; has(&stash, [7, 7, 9].as_slice()));
+    equal!(rt; variant(&stash), 1);
+    holds!(rt; has(&stash, [7, 7, 9].as_slice()));
     let none = [40, 40, 40, 56, 56, 0, 0];
-    assert_eq!(rt; refusal::<Held>(rt.alloc(), none.as_slice())?, (0, 0));
+    equal!(rt; refusal::<Held>(rt.alloc(), none.as_slice())?, (0, 0));
     let stash = opened::<Held>(rt.alloc(), none.as_slice()).expect(&rt, "opened");
-    assert!(rt; stash.is_empty());
+    holds!(rt; stash.is_empty());
     Ok(())
 }
 
 #[test]
 fn the_first_row_is_a_value(rt: HostRuntime) -> Result<(), Fail> {
-    assert_eq!(rt; refusal::<Held>(rt.alloc(), NO_FIRST.as_slice())?, (15, 0));
+    equal!(rt; refusal::<Held>(rt.alloc(), NO_FIRST.as_slice())?, (15, 0));
     let second = [40, 40, 40, 56, 64, 2, 2, 7];
-    assert_eq!(rt; refusal::<Held>(rt.alloc(), second.as_slice())?, (15, 0));
+    equal!(rt; refusal::<Held>(rt.alloc(), second.as_slice())?, (15, 0));
     let behind_one = [48, 56, 56, 56, 72, 72, 5, 0, 1];
-    assert_eq!(rt;
+    equal!(rt;
         refusal::<(Vec<u64>, Held)>(rt.alloc(), behind_one.as_slice())?,
         (15, 1)
     );
@@ -59,12 +60,12 @@ fn the_first_row_is_a_value(rt: HostRuntime) -> Result<(), Fail> {
 #[test]
 fn as_many_values_as_bits(rt: HostRuntime) -> Result<(), Fail> {
     let too_many = [40, 40, 40, 56, 80, 5, 3, 7, 9, 8];
-    assert_eq!(rt; refusal::<Held>(rt.alloc(), too_many.as_slice())?, (10, 0));
+    equal!(rt; refusal::<Held>(rt.alloc(), too_many.as_slice())?, (10, 0));
     let too_few = [40, 40, 40, 56, 64, 5, 3, 7];
-    assert_eq!(rt; refusal::<Held>(rt.alloc(), too_few.as_slice())?, (10, 0));
+    equal!(rt; refusal::<Held>(rt.alloc(), too_few.as_slice())?, (10, 0));
     // (this rule comes before that of the first row)
     let no_bit = [40, 40, 40, 56, 64, 0, 1, 7];
-    assert_eq!(rt; refusal::<Held>(rt.alloc(), no_bit.as_slice())?, (10, 0));
+    equal!(rt; refusal::<Held>(rt.alloc(), no_bit.as_slice())?, (10, 0));
     Ok(())
 }
 
@@ -88,7 +89,7 @@ fn a_view_tests_itself(rt: HostRuntime) -> Result<(), Fail> {
                 somes: View::from_slice(values),
             },
         };
-        assert_eq!(rt; view.check(), wanted);
+        equal!(rt; view.check(), wanted);
     }
     Ok(())
 }
@@ -96,14 +97,14 @@ fn a_view_tests_itself(rt: HostRuntime) -> Result<(), Fail> {
 #[test]
 fn runs_are_written_tested_and_opened(rt: HostRuntime) -> Result<(), Fail> {
     let column = numbers::<Held>(rt.alloc(), RUNS.as_slice())?;
-    assert!(rt; is_written(&column, RUNS_STORED.as_slice()));
+    holds!(rt; is_written(&column, RUNS_STORED.as_slice()));
     let mut words = Vec::new(rt.alloc());
-    assert!(rt; encode(&mut words, &column.borrow()).is_ok());
-    assert_eq!(rt; words.as_slice(), RUNS_STORED.as_slice());
+    holds!(rt; encode(&mut words, &column.borrow()).is_ok());
+    equal!(rt; words.as_slice(), RUNS_STORED.as_slice());
     let stash = reopened(rt.alloc(), &Stash::<_, Vec<u8>>::Typed(column)).expect(&rt, "reopened");
-    assert_eq!(rt; variant(&stash), 1);
-    assert!(rt; has(&stash, RUNS.as_slice()));
-    assert!(rt; writes(&stash, RUNS_STORED.as_slice()));
+    equal!(rt; variant(&stash), 1);
+    holds!(rt; has(&stash, RUNS.as_slice()));
+    holds!(rt; writes(&stash, RUNS_STORED.as_slice()));
     Ok(())
 }
 
@@ -114,20 +115,20 @@ fn a_store_is_loaded_as_it_stands(rt: HostRuntime) -> Result<(), Fail> {
     let Stash::Typed(column) = stash.to_typed(rt.alloc())? else {
         return Err(Fail::from("not a column"));
     };
-    assert_eq!(rt; column.inner.somes.as_slice(), [7, 7].as_slice());
-    assert!(rt; is_written(&column, two_sevens.as_slice()));
+    equal!(rt; column.inner.somes.as_slice(), [7, 7].as_slice());
+    holds!(rt; is_written(&column, two_sevens.as_slice()));
     Ok(())
 }
 
 #[test]
 fn slices_of_runs(rt: HostRuntime) -> Result<(), Fail> {
     let mut sizes = Vec::new(rt.alloc());
-    assert_eq!(rt; Held::slice_count(), 4);
-    assert!(rt; Held::element_sizes(&mut sizes).is_ok());
-    assert_eq!(rt; sizes.as_slice(), [8, 8, 8, 8].as_slice());
+    equal!(rt; Held::slice_count(), 4);
+    holds!(rt; Held::element_sizes(&mut sizes).is_ok());
+    equal!(rt; sizes.as_slice(), [8, 8, 8, 8].as_slice());
     let column = numbers::<Held>(rt.alloc(), RUNS.as_slice())?;
-    assert_eq!(rt; column.byte_slice(2).len(), 16);
-    assert_eq!(rt; column.byte_slice(3).len(), 24);
-    assert_eq!(rt; column.borrow().get_byte_slice(3).1.len(), 24);
+    equal!(rt; column.byte_slice(2).len(), 16);
+    equal!(rt; column.byte_slice(3).len(), 24);
+    equal!(rt; column.borrow().get_byte_slice(3).1.len(), 24);
     Ok(())
 }

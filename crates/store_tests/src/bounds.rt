@@ -12,6 +12,7 @@ use std::alloc::Global;
 use std::iter::once;
 use std::test::Fail;
 use test_support::stores::bytes_of;
+use test_support::{equal, holds};
 
 type Numbers = Vec<u64>;
 
@@ -179,10 +180,10 @@ fn row_shortened<'b, R: ReborrowRef<'b>>(row: R) -> R::ShortRef
 fn a_container_of_numbers(rt: HostRuntime) -> Result<(), Fail> {
     let numbers = loads::<Numbers>(rt.alloc(), NUMBERS.as_slice()).expect(&rt, "numbers");
     let copy = uses(rt.alloc(), &numbers).expect(&rt, "a copy");
-    assert_eq!(rt; copy.as_slice(), [1, 2, 3].as_slice());
+    equal!(rt; copy.as_slice(), [1, 2, 3].as_slice());
     let taken = takes::<u64, Numbers>(rt.alloc(), &7).expect(&rt, "taken");
-    assert_eq!(rt; taken.as_slice(), [7, 7, 7].as_slice());
-    assert_eq!(rt; taken.clone()?.as_slice(), [7, 7, 7].as_slice());
+    equal!(rt; taken.as_slice(), [7, 7, 7].as_slice());
+    equal!(rt; taken.clone()?.as_slice(), [7, 7, 7].as_slice());
     Ok(())
 }
 
@@ -190,11 +191,11 @@ fn a_container_of_numbers(rt: HostRuntime) -> Result<(), Fail> {
 fn a_container_of_pairs(rt: HostRuntime) -> Result<(), Fail> {
     let pairs = loads::<Pairs>(rt.alloc(), PAIRS.as_slice()).expect(&rt, "pairs");
     let copy = uses(rt.alloc(), &pairs).expect(&rt, "a copy");
-    assert_eq!(rt; copy.0.as_slice(), [1, 2, 3].as_slice());
-    assert_eq!(rt; copy.1.as_slice(), [10, 20, 30].as_slice());
+    equal!(rt; copy.0.as_slice(), [1, 2, 3].as_slice());
+    equal!(rt; copy.1.as_slice(), [10, 20, 30].as_slice());
     let taken = takes::<(u64, u64), Pairs>(rt.alloc(), &(7, 70)).expect(&rt, "taken");
-    assert_eq!(rt; taken.0.as_slice(), [7, 7, 7].as_slice());
-    assert_eq!(rt; taken.1.as_slice(), [70, 70, 70].as_slice());
+    equal!(rt; taken.0.as_slice(), [7, 7, 7].as_slice());
+    equal!(rt; taken.1.as_slice(), [70, 70, 70].as_slice());
     Ok(())
 }
 
@@ -202,9 +203,9 @@ fn a_container_of_pairs(rt: HostRuntime) -> Result<(), Fail> {
 fn a_container_of_lists(rt: HostRuntime) -> Result<(), Fail> {
     let lists = loads::<Lists>(rt.alloc(), LISTS.as_slice()).expect(&rt, "lists");
     let copy = uses(rt.alloc(), &lists).expect(&rt, "a copy");
-    assert_eq!(rt; copy.bounds.as_slice(), [2, 3].as_slice());
-    assert_eq!(rt; copy.values.0.as_slice(), [1, 2, 3].as_slice());
-    assert_eq!(rt; copy.values.1.as_slice(), [10, 20, 30].as_slice());
+    equal!(rt; copy.bounds.as_slice(), [2, 3].as_slice());
+    equal!(rt; copy.values.0.as_slice(), [1, 2, 3].as_slice());
+    equal!(rt; copy.values.1.as_slice(), [10, 20, 30].as_slice());
     Ok(())
 }
 
@@ -212,15 +213,15 @@ fn a_container_of_lists(rt: HostRuntime) -> Result<(), Fail> {
 fn views_of_numbers(rt: HostRuntime) -> Result<(), Fail> {
     let bytes = bytes_of(rt.alloc(), NUMBERS.as_slice())?;
     let mut view = views::<View<'_, u64>>(bytes.as_slice()).expect(&rt, "a view");
-    assert_eq!(rt; ends(&view), Some((1, 3)));
-    assert_eq!(rt; ends_as::<u64, _>(&view), Some((1, 3)));
+    equal!(rt; ends(&view), Some((1, 3)));
+    equal!(rt; ends_as::<u64, _>(&view), Some((1, 3)));
     let short = shortened(view);
-    assert_eq!(rt; short.len(), 3);
-    assert_eq!(rt; as_value::<u64, _>(7u64), 7);
-    assert_eq!(rt; as_value::<u64, _>(&7u64), 7);
+    equal!(rt; short.len(), 3);
+    equal!(rt; as_value::<u64, _>(7u64), 7);
+    equal!(rt; as_value::<u64, _>(&7u64), 7);
     view.clear();
-    assert_eq!(rt; ends(&view), None);
-    assert_eq!(rt; ends_as::<u64, _>(&view), None);
+    equal!(rt; ends(&view), None);
+    equal!(rt; ends_as::<u64, _>(&view), None);
     Ok(())
 }
 
@@ -228,11 +229,11 @@ fn views_of_numbers(rt: HostRuntime) -> Result<(), Fail> {
 fn views_of_pairs(rt: HostRuntime) -> Result<(), Fail> {
     let bytes = bytes_of(rt.alloc(), PAIRS.as_slice())?;
     let view = views::<(View<'_, u64>, View<'_, u64>)>(bytes.as_slice()).expect(&rt, "a view");
-    assert_eq!(rt; ends(&view), Some(((1, 10), (3, 30))));
-    assert_eq!(rt; ends_as::<(u64, u64), _>(&view), Some(((1, 10), (3, 30))));
+    equal!(rt; ends(&view), Some(((1, 10), (3, 30))));
+    equal!(rt; ends_as::<(u64, u64), _>(&view), Some(((1, 10), (3, 30))));
     let (first, second) = shortened(view);
-    assert_eq!(rt; first.len(), 3);
-    assert_eq!(rt; second.len(), 3);
+    equal!(rt; first.len(), 3);
+    equal!(rt; second.len(), 3);
     Ok(())
 }
 
@@ -243,10 +244,10 @@ fn views_of_lists(rt: HostRuntime) -> Result<(), Fail> {
         bytes.as_slice(),
     ).expect(&rt, "a view");
     let (first, last) = ends(&view).expect(&rt, "two rows");
-    assert_eq!(rt; (first.lower, first.upper), (0, 2));
-    assert_eq!(rt; (last.lower, last.upper), (2, 3));
+    equal!(rt; (first.lower, first.upper), (0, 2));
+    equal!(rt; (last.lower, last.upper), (2, 3));
     let short = shortened(view);
-    assert_eq!(rt; short.bounds.len(), 2);
+    equal!(rt; short.bounds.len(), 2);
     Ok(())
 }
 
@@ -256,10 +257,10 @@ fn ranges_of_a_view(rt: HostRuntime) -> Result<(), Fail> {
     let view = View::from_slice(rows.as_slice());
     if view.len() >= 3 {
         let range = Slice::new(1, 3, view);
-        assert_eq!(rt; ends(&range), Some((2, 3)));
-        assert_eq!(rt; ends_as::<u64, _>(&range), Some((2, 3)));
-        assert_eq!(rt; shortened(range).lower, 1);
-        assert_eq!(rt; row_shortened(range).upper, 3);
+        equal!(rt; ends(&range), Some((2, 3)));
+        equal!(rt; ends_as::<u64, _>(&range), Some((2, 3)));
+        equal!(rt; shortened(range).lower, 1);
+        equal!(rt; row_shortened(range).upper, 3);
     }
     Ok(())
 }
@@ -267,12 +268,12 @@ fn ranges_of_a_view(rt: HostRuntime) -> Result<(), Fail> {
 #[test]
 fn offsets_rise(rt: HostRuntime) -> Result<(), Fail> {
     let numbers = loads::<Numbers>(rt.alloc(), NUMBERS.as_slice()).expect(&rt, "numbers");
-    assert_eq!(rt; rises(&numbers, 3), Some(3));
-    assert_eq!(rt; rises(&numbers, 2), None);
-    assert_eq!(rt; rises(&numbers.borrow(), 3), Some(3));
+    equal!(rt; rises(&numbers, 3), Some(3));
+    equal!(rt; rises(&numbers, 2), None);
+    equal!(rt; rises(&numbers.borrow(), 3), Some(3));
     let bytes = bytes_of(rt.alloc(), NUMBERS.as_slice())?;
-    assert!(rt; rises_in::<Numbers>(bytes.as_slice(), 3));
-    assert!(rt; rises_in::<View<'_, u64>>(bytes.as_slice(), 3));
-    assert!(rt; !rises_in::<Numbers>(bytes.as_slice(), 4));
+    holds!(rt; rises_in::<Numbers>(bytes.as_slice(), 3));
+    holds!(rt; rises_in::<View<'_, u64>>(bytes.as_slice(), 3));
+    holds!(rt; !rises_in::<Numbers>(bytes.as_slice(), 4));
     Ok(())
 }

@@ -9,6 +9,7 @@ use std::test::Fail;
 use test_support::columns::{copied, cut, item_of, row_at, takes_ranges};
 use test_support::stashes::{opened, reopened, row_of, writes};
 use test_support::stores::{bytes_of, is_written, refusal};
+use test_support::{equal, holds};
 
 type Pairs = (Vec<u64>, Vec<u64>);
 
@@ -43,10 +44,10 @@ static SECONDS: [u64; 3] = [10, 20, 30];
 fn parts_of_two_lengths_are_refused(rt: HostRuntime) -> Result<(), Fail> {
     let uneven = [24, 32, 48, 1, 2, 3];
     let even = [24, 32, 40, 1, 2];
-    assert_eq!(rt; refusal::<Pairs>(rt.alloc(), uneven.as_slice())?, (10, 0));
-    assert_eq!(rt; refusal::<Pairs>(rt.alloc(), even.as_slice())?, (0, 0));
+    equal!(rt; refusal::<Pairs>(rt.alloc(), uneven.as_slice())?, (10, 0));
+    equal!(rt; refusal::<Pairs>(rt.alloc(), even.as_slice())?, (0, 0));
     let bytes = bytes_of(rt.alloc(), uneven.as_slice())?;
-    assert_eq!(rt;
+    equal!(rt;
         validate::<PairsView<'_>>(bytes.as_slice()),
         Err(StoreFault::Parts(0))
     );
@@ -56,22 +57,22 @@ fn parts_of_two_lengths_are_refused(rt: HostRuntime) -> Result<(), Fail> {
 #[test]
 fn a_bound_past_the_values_is_refused(rt: HostRuntime) -> Result<(), Fail> {
     let alloc = rt.alloc();
-    assert_eq!(rt; refusal::<Lists>(alloc, LISTS.as_slice())?, (0, 0));
-    assert_eq!(rt; refusal::<Beside>(alloc, BESIDE.as_slice())?, (0, 0));
+    equal!(rt; refusal::<Lists>(alloc, LISTS.as_slice())?, (0, 0));
+    equal!(rt; refusal::<Beside>(alloc, BESIDE.as_slice())?, (0, 0));
     for (first, last) in [(2, 4), (4, 3), (2, 2), (4, 4)] {
         let lists = [32, 48, 72, 96, first, last, 1, 2, 3, 10, 20, 30];
-        assert_eq!(rt; refusal::<Lists>(alloc, lists.as_slice())?, (11, 0));
+        equal!(rt; refusal::<Lists>(alloc, lists.as_slice())?, (11, 0));
         let beside = [40, 56, 72, 96, 120, 7, 8, first, last, 1, 2, 3, 10, 20, 30];
-        assert_eq!(rt; refusal::<Beside>(alloc, beside.as_slice())?, (11, 1));
+        equal!(rt; refusal::<Beside>(alloc, beside.as_slice())?, (11, 1));
         let bytes = bytes_of(alloc, beside.as_slice())?;
-        assert_eq!(rt;
+        equal!(rt;
             validate::<BesideView<'_>>(bytes.as_slice()),
             Err(StoreFault::Bounds(1))
         );
     }
     // The values are a pair whose parts differ in length: the rule of the part comes before that of the lists.
     let values_differ = [32, 48, 72, 88, 2, 4, 1, 2, 3, 10, 20];
-    assert_eq!(rt; refusal::<Lists>(alloc, values_differ.as_slice())?, (10, 1));
+    equal!(rt; refusal::<Lists>(alloc, values_differ.as_slice())?, (10, 1));
     Ok(())
 }
 
@@ -81,22 +82,22 @@ fn lists_of_pairs_are_encoded(rt: HostRuntime) -> Result<(), Fail> {
         View::from_slice(FIRSTS.as_slice()),
         View::from_slice(SECONDS.as_slice()),
     );
-    assert!(rt; pairs.check().is_ok());
+    holds!(rt; pairs.check().is_ok());
     let mut lists = Stash::<Lists, Vec<u8>>::empty(rt.alloc());
-    assert!(rt; takes_ranges(&mut lists, pairs, &[(0, 2), (2, 3)]));
-    assert!(rt; writes(&lists, LISTS.as_slice()));
+    holds!(rt; takes_ranges(&mut lists, pairs, &[(0, 2), (2, 3)]));
+    holds!(rt; writes(&lists, LISTS.as_slice()));
     Ok(())
 }
 
 #[test]
 fn lists_of_pairs_are_opened(rt: HostRuntime) -> Result<(), Fail> {
     let lists = opened::<Lists>(rt.alloc(), LISTS.as_slice()).expect(&rt, "lists");
-    assert_eq!(rt; lists.len(), 2);
-    assert_eq!(rt; item_of(row_of(&lists, 0), 0), Some((1, 10)));
-    assert_eq!(rt; item_of(row_of(&lists, 0), 1), Some((2, 20)));
-    assert_eq!(rt; item_of(row_of(&lists, 0), 2), None);
-    assert_eq!(rt; item_of(row_of(&lists, 1), 0), Some((3, 30)));
-    assert_eq!(rt; item_of(row_of(&lists, 2), 0), None);
+    equal!(rt; lists.len(), 2);
+    equal!(rt; item_of(row_of(&lists, 0), 0), Some((1, 10)));
+    equal!(rt; item_of(row_of(&lists, 0), 1), Some((2, 20)));
+    equal!(rt; item_of(row_of(&lists, 0), 2), None);
+    equal!(rt; item_of(row_of(&lists, 1), 0), Some((3, 30)));
+    equal!(rt; item_of(row_of(&lists, 2), 0), None);
     Ok(())
 }
 
@@ -106,15 +107,15 @@ fn lists_of_pairs_are_pushed_to_again(rt: HostRuntime) -> Result<(), Fail> {
         View::from_slice(FIRSTS.as_slice()),
         View::from_slice(SECONDS.as_slice()),
     );
-    assert!(rt; pairs.check().is_ok());
+    holds!(rt; pairs.check().is_ok());
     let lists = opened::<Lists>(rt.alloc(), LISTS.as_slice()).expect(&rt, "lists");
     let mut loaded = lists.to_typed(rt.alloc())?;
-    assert!(rt; takes_ranges(&mut loaded, pairs, &[(1, 1), (0, 3)]));
+    holds!(rt; takes_ranges(&mut loaded, pairs, &[(1, 1), (0, 3)]));
     let again = reopened(rt.alloc(), &loaded).expect(&rt, "reopened");
-    assert_eq!(rt; again.len(), 4);
-    assert_eq!(rt; item_of(row_of(&again, 1), 0), Some((3, 30)));
-    assert_eq!(rt; item_of(row_of(&again, 2), 0), None);
-    assert_eq!(rt; item_of(row_of(&again, 3), 2), Some((3, 30)));
+    equal!(rt; again.len(), 4);
+    equal!(rt; item_of(row_of(&again, 1), 0), Some((3, 30)));
+    equal!(rt; item_of(row_of(&again, 2), 0), None);
+    equal!(rt; item_of(row_of(&again, 3), 2), Some((3, 30)));
     Ok(())
 }
 
@@ -124,13 +125,13 @@ fn a_list_is_pushed_beside_a_number(rt: HostRuntime) -> Result<(), Fail> {
         View::from_slice(FIRSTS.as_slice()),
         View::from_slice(SECONDS.as_slice()),
     );
-    assert!(rt; pairs.check().is_ok());
+    holds!(rt; pairs.check().is_ok());
     let mut stash = opened::<Beside>(rt.alloc(), BESIDE.as_slice()).expect(&rt, "rows");
-    assert!(rt; stash.push((9u64, Slice::new(1, 3, pairs))).is_ok());
+    holds!(rt; stash.push((9u64, Slice::new(1, 3, pairs))).is_ok());
     let wanted = [
         40, 64, 88, 128, 168, 7, 8, 9, 2, 3, 5, 1, 2, 3, 2, 3, 10, 20, 30, 20, 30,
     ];
-    assert!(rt; writes(&stash, wanted.as_slice()));
+    holds!(rt; writes(&stash, wanted.as_slice()));
     Ok(())
 }
 
@@ -138,9 +139,9 @@ fn a_list_is_pushed_beside_a_number(rt: HostRuntime) -> Result<(), Fail> {
 fn a_number_beside_a_list_is_a_row(rt: HostRuntime) -> Result<(), Fail> {
     let stash = opened::<Beside>(rt.alloc(), BESIDE.as_slice()).expect(&rt, "rows");
     let (number, list) = row_of(&stash, 1).expect(&rt, "row 1");
-    assert_eq!(rt; number, 8);
-    assert_eq!(rt; list.len(), 1);
-    assert_eq!(rt; row_at(&list, 0), Some((3, 30)));
+    equal!(rt; number, 8);
+    equal!(rt; list.len(), 1);
+    equal!(rt; row_at(&list, 0), Some((3, 30)));
     Ok(())
 }
 
@@ -148,15 +149,15 @@ fn a_number_beside_a_list_is_a_row(rt: HostRuntime) -> Result<(), Fail> {
 fn the_slices_of_lists_beside_numbers(rt: HostRuntime) -> Result<(), Fail> {
     let stash = opened::<Beside>(rt.alloc(), BESIDE.as_slice()).expect(&rt, "rows");
     let view = stash.borrow();
-    assert_eq!(rt; view.get_byte_slice(2).1.len(), 24);
+    equal!(rt; view.get_byte_slice(2).1.len(), 24);
     let mut total = 0usize;
     for (_, slice) in ByteSlices::new(&view) {
         total = total.saturating_add(slice.len());
     }
-    assert_eq!(rt; total, 80);
+    equal!(rt; total, 80);
     let mut sizes = Vec::new(rt.alloc());
-    assert!(rt; Beside::element_sizes(&mut sizes).is_ok());
-    assert_eq!(rt; sizes.as_slice(), [8, 8, 8, 8].as_slice());
+    holds!(rt; Beside::element_sizes(&mut sizes).is_ok());
+    equal!(rt; sizes.as_slice(), [8, 8, 8, 8].as_slice());
     Ok(())
 }
 
@@ -164,8 +165,8 @@ fn the_slices_of_lists_beside_numbers(rt: HostRuntime) -> Result<(), Fail> {
 fn lists_of_lists_of_pairs_are_encoded(rt: HostRuntime) -> Result<(), Fail> {
     let lists = opened::<Lists>(rt.alloc(), LISTS.as_slice()).expect(&rt, "lists");
     let mut nested = Nested::empty(rt.alloc());
-    assert!(rt; takes_ranges(&mut nested, lists.borrow(), &[(1, 2), (0, 0), (0, 2)]));
-    assert!(rt; is_written(&nested, NESTED.as_slice()));
+    holds!(rt; takes_ranges(&mut nested, lists.borrow(), &[(1, 2), (0, 0), (0, 2)]));
+    holds!(rt; is_written(&nested, NESTED.as_slice()));
     Ok(())
 }
 
@@ -175,8 +176,8 @@ fn lists_of_lists_of_pairs_are_opened(rt: HostRuntime) -> Result<(), Fail> {
     let inner = item_of(row_of(&nested, 2), 1)
         .expect(&rt, "list 1 of row 2")
         .reborrow_ref();
-    assert_eq!(rt; inner.len(), 1);
-    assert_eq!(rt; row_at(&inner, 0), Some((3, 30)));
+    equal!(rt; inner.len(), 1);
+    equal!(rt; row_at(&inner, 0), Some((3, 30)));
     Ok(())
 }
 
@@ -185,15 +186,15 @@ fn lists_of_lists_of_pairs_are_copied_and_cut(rt: HostRuntime) -> Result<(), Fai
     let nested = opened::<Nested>(rt.alloc(), NESTED.as_slice()).expect(&rt, "nested");
     let mut copy = Nested::empty(rt.alloc());
     let view = nested.borrow();
-    assert!(rt; copied(&mut copy, view, 1, 3));
-    assert!(rt; copied(&mut copy, view, 0, 1));
-    assert_eq!(rt; copy.bounds.as_slice(), [0, 2, 3].as_slice());
-    assert_eq!(rt; copy.values.bounds.as_slice(), [2, 3, 4].as_slice());
-    assert_eq!(rt;
+    holds!(rt; copied(&mut copy, view, 1, 3));
+    holds!(rt; copied(&mut copy, view, 0, 1));
+    equal!(rt; copy.bounds.as_slice(), [0, 2, 3].as_slice());
+    equal!(rt; copy.values.bounds.as_slice(), [2, 3, 4].as_slice());
+    equal!(rt;
         copy.values.values.1.as_slice(),
         [10, 20, 30, 30].as_slice()
     );
     cut(&mut copy, 2);
-    assert_eq!(rt; copy.values.values.0.as_slice(), [1, 2, 3].as_slice());
+    equal!(rt; copy.values.values.0.as_slice(), [1, 2, 3].as_slice());
     Ok(())
 }

@@ -5,6 +5,8 @@
 #[cfg(test)]
 mod bounds;
 #[cfg(test)]
+mod claims;
+#[cfg(test)]
 mod depth;
 #[cfg(test)]
 mod nests;

@@ -9,6 +9,7 @@ use columnar::fault::GrowError;
 use columnar::{Borrow, Column, Index, Len, Options, Push, Slice, Storage, Vecs};
 use std::alloc::Global;
 use std::test::Fail;
+use test_support::equal;
 
 // Whose, of how many years where that is known, and the marks, each in a column of its own
 type Columns = (Vec<u64>, (Options<Vec<u32>>, Vecs<Vec<u16>>));
@@ -80,9 +81,9 @@ fn marks_are_given_back(rt: HostRuntime) -> Result<(), Fail> {
     let mut marks = Marks::new(rt.alloc());
     marks.record(7, Some(12), held.borrow())?;
     marks.record(8, None, held.borrow())?;
-    assert_eq!(rt; marks.len(), 2);
-    assert_eq!(rt; marks.row(0), Some((7, Some(12), Some(3))));
-    assert_eq!(rt; marks.row(1), Some((8, None, Some(3))));
-    assert_eq!(rt; marks.row(2), None);
+    equal!(rt; marks.len(), 2);
+    equal!(rt; marks.row(0), Some((7, Some(12), Some(3))));
+    equal!(rt; marks.row(1), Some((8, None, Some(3))));
+    equal!(rt; marks.row(2), None);
     Ok(())
 }

@@ -9,6 +9,7 @@ use columnar::fault::GrowError;
 use columnar::{Column, Index, Len, Push};
 use std::alloc::Global;
 use std::test::Fail;
+use test_support::equal;
 
 // When, who, how loud and how long, each in a column of its own
 type Columns = ((Vec<u64>, Vec<u32>), (Vec<u16>, Vec<u64>));
@@ -77,16 +78,16 @@ fn a_log_gives_its_events_back(rt: HostRuntime) -> Result<(), Fail> {
     log.record(at(10))?;
     log.record(at(20))?;
     log.record(at(30))?;
-    assert_eq!(rt; log.len(), 3);
-    assert_eq!(rt; log.event(1), Some(at(20)));
-    assert_eq!(rt; log.event(3), None);
+    equal!(rt; log.len(), 3);
+    equal!(rt; log.event(1), Some(at(20)));
+    equal!(rt; log.event(3), None);
     Ok(())
 }
 
 #[test]
 fn a_log_begins_without_events(rt: HostRuntime) -> Result<(), Fail> {
     let log = Log::new(rt.alloc());
-    assert_eq!(rt; log.len(), 0);
-    assert_eq!(rt; log.event(0), None);
+    equal!(rt; log.len(), 0);
+    equal!(rt; log.event(0), None);
     Ok(())
 }

@@ -11,6 +11,7 @@ use std::test::Fail;
 use test_support::columns::row_at;
 use test_support::stashes::{opened, row_of};
 use test_support::stores::{bytes_of, front, refusal};
+use test_support::{equal, holds};
 
 // Lists of units, bounded by offsets that follow a stride
 type Spans = Vecs<Empties, Strides>;
@@ -31,15 +32,15 @@ fn rows(alloc: Global, words: &[u64]) -> Option<usize> {
 
 #[test]
 fn lists_of_a_stride_of_nothing_are_empty(rt: HostRuntime) -> Result<(), Fail> {
-    assert_eq!(rt;
+    equal!(rt;
         refusal::<Spans>(rt.alloc(), EMPTY_LISTS.as_slice())?,
         (0, 0)
     );
-    assert_eq!(rt;
+    equal!(rt;
         rows(rt.alloc(), EMPTY_LISTS.as_slice()),
         Some(1152921504606846976)
     );
-    assert_eq!(rt;
+    equal!(rt;
         refusal::<Spans>(rt.alloc(), LISTS_OF_ONE.as_slice())?,
         (11, 0)
     );
@@ -57,8 +58,8 @@ fn threes(alloc: Global, words: &[u64]) -> Option<(usize, usize)> {
 fn lists_of_three_units(rt: HostRuntime) -> Result<(), Fail> {
     let two = [24u64, 32, 40, 2, 6];
     let seven_units = [24u64, 32, 40, 2, 7];
-    assert_eq!(rt; threes(rt.alloc(), two.as_slice()), Some((2, 3)));
-    assert_eq!(rt;
+    equal!(rt; threes(rt.alloc(), two.as_slice()), Some((2, 3)));
+    equal!(rt;
         refusal::<Threes>(rt.alloc(), seven_units.as_slice())?,
         (11, 0)
     );
@@ -75,16 +76,16 @@ fn a_hundred_lists_of_three_follow_a_stride(rt: HostRuntime) -> Result<(), Fail>
     let Ok(bounds) = Fixeds::<3>::try_from(lists.bounds) else {
         return Err(Fail::from("not multiples"));
     };
-    assert_eq!(rt; bounds.count, 100);
+    equal!(rt; bounds.count, 100);
     let threes = Threes {
         bounds,
         values: lists.values,
     };
     let view = threes.borrow();
-    assert!(rt; view.check().is_ok());
+    holds!(rt; view.check().is_ok());
     for i in 0..100 {
         let list = row_at(&view, i).expect(&rt, "a list");
-        assert_eq!(rt; list.len(), 3);
+        equal!(rt; list.len(), 3);
     }
     Ok(())
 }
@@ -93,11 +94,11 @@ fn a_hundred_lists_of_three_follow_a_stride(rt: HostRuntime) -> Result<(), Fail>
 fn arrays_of_three_bytes(rt: HostRuntime) -> Result<(), Fail> {
     let one = [16u64, 19, 197121];
     let part = [16u64, 18, 513];
-    assert_eq!(rt;
+    equal!(rt;
         refusal::<Vec<[u8; 3]>>(rt.alloc(), one.as_slice())?,
         (0, 0)
     );
-    assert_eq!(rt;
+    equal!(rt;
         refusal::<Vec<[u8; 3]>>(rt.alloc(), part.as_slice())?,
         (8, 0)
     );
@@ -107,19 +108,19 @@ fn arrays_of_three_bytes(rt: HostRuntime) -> Result<(), Fail> {
 #[test]
 fn a_tail_has_two_words(rt: HostRuntime) -> Result<(), Fail> {
     let short = [24u64, 24, 32, 5];
-    assert_eq!(rt; refusal::<Bools>(rt.alloc(), short.as_slice())?, (9, 1));
+    equal!(rt; refusal::<Bools>(rt.alloc(), short.as_slice())?, (9, 1));
     Ok(())
 }
 
 #[test]
 fn a_store_has_a_table(rt: HostRuntime) -> Result<(), Fail> {
-    assert_eq!(rt; refusal::<Vec<u64>>(rt.alloc(), [].as_slice())?, (2, 0));
-    assert_eq!(rt; refusal::<Vec<u64>>(rt.alloc(), [0u64].as_slice())?, (3, 0));
-    assert_eq!(rt;
+    equal!(rt; refusal::<Vec<u64>>(rt.alloc(), [].as_slice())?, (2, 0));
+    equal!(rt; refusal::<Vec<u64>>(rt.alloc(), [0u64].as_slice())?, (3, 0));
+    equal!(rt;
         refusal::<Vec<u64>>(rt.alloc(), [16u64].as_slice())?,
         (4, 0)
     );
-    assert_eq!(rt; refusal::<Vec<u64>>(rt.alloc(), [8u64].as_slice())?, (5, 0));
+    equal!(rt; refusal::<Vec<u64>>(rt.alloc(), [8u64].as_slice())?, (5, 0));
     Ok(())
 }
 
@@ -138,15 +139,15 @@ fn refusal_of_front(alloc: Global, words: &[u64], len: usize) -> Result<(u8, usi
 fn a_store_is_whole_words(rt: HostRuntime) -> Result<(), Fail> {
     let seven_and_none = [40u64, 40, 40, 56, 64, 1, 2, 7];
     let words = seven_and_none.as_slice();
-    assert_eq!(rt; refusal_of_front(rt.alloc(), words, 64)?, (0, 0));
-    assert_eq!(rt; refusal_of_front(rt.alloc(), words, 63)?, (1, 0));
-    assert_eq!(rt; refusal_of_front(rt.alloc(), words, 56)?, (6, 3));
+    equal!(rt; refusal_of_front(rt.alloc(), words, 64)?, (0, 0));
+    equal!(rt; refusal_of_front(rt.alloc(), words, 63)?, (1, 0));
+    equal!(rt; refusal_of_front(rt.alloc(), words, 56)?, (6, 3));
     Ok(())
 }
 
 #[test]
 fn the_stride_is_judged_before_the_length(rt: HostRuntime) -> Result<(), Fail> {
     let both = [24u64, 40, 48, 2, 18446744073709551615, 5];
-    assert_eq!(rt; refusal::<Strides>(rt.alloc(), both.as_slice())?, (16, 0));
+    equal!(rt; refusal::<Strides>(rt.alloc(), both.as_slice())?, (16, 0));
     Ok(())
 }

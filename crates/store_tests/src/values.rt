@@ -10,6 +10,7 @@ use std::test::Fail;
 use std::time::Duration;
 use test_support::stashes::{has, opened, row_of, variant, writes};
 use test_support::stores::{bytes_of, is_written, refusal};
+use test_support::{equal, holds};
 
 type Bytes = Vec<u8>;
 
@@ -28,14 +29,14 @@ type Bits = Bools<Vec<u64>, [u64; 2]>;
 #[test]
 fn bytes_are_padded_with_zeros(rt: HostRuntime) -> Result<(), Fail> {
     let mut column = Bytes::empty(rt.alloc());
-    assert!(rt; Push::push(&mut column, 1u8).is_ok());
-    assert!(rt; Push::push(&mut column, &2u8).is_ok());
-    assert!(rt; column.push_ref(&3u8).is_ok());
+    holds!(rt; Push::push(&mut column, 1u8).is_ok());
+    holds!(rt; Push::push(&mut column, &2u8).is_ok());
+    holds!(rt; column.push_ref(&3u8).is_ok());
     let mut words = Vec::new(rt.alloc());
     encode(&mut words, &column.borrow())?;
-    assert_eq!(rt; words.as_slice(), [16, 19, 197121].as_slice());
+    equal!(rt; words.as_slice(), [16, 19, 197121].as_slice());
     let stash = opened::<Bytes>(rt.alloc(), words.as_slice()).expect(&rt, "bytes");
-    assert!(rt; has(&stash, &[&1, &2, &3]));
+    holds!(rt; has(&stash, &[&1, &2, &3]));
     Ok(())
 }
 
@@ -43,26 +44,26 @@ fn bytes_are_padded_with_zeros(rt: HostRuntime) -> Result<(), Fail> {
 fn foreign_padding_is_kept_until_it_is_aligned(rt: HostRuntime) -> Result<(), Fail> {
     let padded = [16, 19, 4278387201];
     let mut stash = opened::<Bytes>(rt.alloc(), padded.as_slice()).expect(&rt, "bytes");
-    assert!(rt; has(&stash, &[&1, &2, &3]));
-    assert!(rt; writes(&stash, padded.as_slice()));
+    holds!(rt; has(&stash, &[&1, &2, &3]));
+    holds!(rt; writes(&stash, padded.as_slice()));
     let aligned = stash.to_aligned(rt.alloc())?;
-    assert_eq!(rt; variant(&aligned), 2);
-    assert!(rt; writes(&aligned, [16, 19, 197121].as_slice()));
+    equal!(rt; variant(&aligned), 2);
+    holds!(rt; writes(&aligned, [16, 19, 197121].as_slice()));
     let wanted = bytes_of(rt.alloc(), [16, 19, 197121].as_slice())?;
-    assert_eq!(rt; stash.make_aligned(rt.alloc())?.bytes(), wanted.as_slice());
-    assert_eq!(rt; stash.make_aligned(rt.alloc())?.bytes(), wanted.as_slice());
-    assert_eq!(rt; variant(&stash), 2);
+    equal!(rt; stash.make_aligned(rt.alloc())?.bytes(), wanted.as_slice());
+    equal!(rt; stash.make_aligned(rt.alloc())?.bytes(), wanted.as_slice());
+    equal!(rt; variant(&stash), 2);
     Ok(())
 }
 
 #[test]
 fn slices_of_bytes_are_pushed(rt: HostRuntime) -> Result<(), Fail> {
     let mut column = Bytes::empty(rt.alloc());
-    assert!(rt; column.push_slice(&[1, 2]).is_ok());
-    assert!(rt; column.push_slice(&[3]).is_ok());
-    assert!(rt; column.push_slice(&[]).is_ok());
-    assert!(rt; column.push_slice(&[4, 5, 6]).is_ok());
-    assert_eq!(rt; column.as_slice(), [1, 2, 3, 4, 5, 6].as_slice());
+    holds!(rt; column.push_slice(&[1, 2]).is_ok());
+    holds!(rt; column.push_slice(&[3]).is_ok());
+    holds!(rt; column.push_slice(&[]).is_ok());
+    holds!(rt; column.push_slice(&[4, 5, 6]).is_ok());
+    equal!(rt; column.as_slice(), [1, 2, 3, 4, 5, 6].as_slice());
     Ok(())
 }
 
@@ -70,13 +71,13 @@ fn slices_of_bytes_are_pushed(rt: HostRuntime) -> Result<(), Fail> {
 fn a_half_character_is_refused(rt: HostRuntime) -> Result<(), Fail> {
     let alloc = rt.alloc();
     let half = [16, 20, 55296];
-    assert_eq!(rt;
+    equal!(rt;
         refusal::<Chars<Vec<u32>>>(alloc, half.as_slice())?,
         (14, 0)
     );
     // The code before it is a character's.
     let stash = opened::<Chars<Vec<u32>>>(alloc, [16, 20, 55295].as_slice()).expect(&rt, "one");
-    assert_eq!(rt; row_of(&stash, 0), Some('\u{D7FF}'));
+    equal!(rt; row_of(&stash, 0), Some('\u{D7FF}'));
     Ok(())
 }
 
@@ -84,15 +85,15 @@ fn a_half_character_is_refused(rt: HostRuntime) -> Result<(), Fail> {
 fn durations_are_kept_in_two_slices(rt: HostRuntime) -> Result<(), Fail> {
     let store = [24, 32, 36, 17, 42];
     let mut column = Times::empty(rt.alloc());
-    assert!(rt; column.push(Duration::new(17, 42)).is_ok());
+    holds!(rt; column.push(Duration::new(17, 42)).is_ok());
     let mut words = Vec::new(rt.alloc());
     encode(&mut words, &column.borrow())?;
-    assert_eq!(rt; words.as_slice(), store.as_slice());
+    equal!(rt; words.as_slice(), store.as_slice());
     let stash = opened::<Times>(rt.alloc(), store.as_slice()).expect(&rt, "durations");
-    assert_eq!(rt; stash.len(), 1);
-    assert_eq!(rt; row_of(&stash, 0), Some(Duration::new(17, 42)));
+    equal!(rt; stash.len(), 1);
+    equal!(rt; row_of(&stash, 0), Some(Duration::new(17, 42)));
     let second = [24, 32, 36, 17, 1_000_000_000];
-    assert_eq!(rt; refusal::<Times>(rt.alloc(), second.as_slice())?, (14, 0));
+    equal!(rt; refusal::<Times>(rt.alloc(), second.as_slice())?, (14, 0));
     Ok(())
 }
 
@@ -100,18 +101,18 @@ fn durations_are_kept_in_two_slices(rt: HostRuntime) -> Result<(), Fail> {
 fn units_are_a_count(rt: HostRuntime) -> Result<(), Fail> {
     let store = [16, 24, 3];
     let mut column = Units::empty(rt.alloc());
-    assert!(rt; column.push(()).is_ok());
-    assert!(rt; column.push(&()).is_ok());
-    assert!(rt; column.push_ref(&()).is_ok());
+    holds!(rt; column.push(()).is_ok());
+    holds!(rt; column.push(&()).is_ok());
+    holds!(rt; column.push_ref(&()).is_ok());
     let mut words = Vec::new(rt.alloc());
     encode(&mut words, &column.borrow())?;
-    assert_eq!(rt; words.as_slice(), store.as_slice());
+    equal!(rt; words.as_slice(), store.as_slice());
     let stash = opened::<Units>(rt.alloc(), store.as_slice()).expect(&rt, "units");
-    assert_eq!(rt; stash.len(), 3);
-    assert_eq!(rt; row_of(&stash, 2), Some(()));
-    assert_eq!(rt; row_of(&stash, 3), None);
+    equal!(rt; stash.len(), 3);
+    equal!(rt; row_of(&stash, 2), Some(()));
+    equal!(rt; row_of(&stash, 3), None);
     let none = [16, 16];
-    assert_eq!(rt; refusal::<Units>(rt.alloc(), none.as_slice())?, (9, 0));
+    equal!(rt; refusal::<Units>(rt.alloc(), none.as_slice())?, (9, 0));
     Ok(())
 }
 
@@ -119,10 +120,10 @@ fn units_are_a_count(rt: HostRuntime) -> Result<(), Fail> {
 fn large_numbers_are_two_words(rt: HostRuntime) -> Result<(), Fail> {
     let store = [16, 32, 1, 0];
     let mut column = Large::empty(rt.alloc());
-    assert!(rt; column.push(1u128).is_ok());
-    assert!(rt; is_written(&column, store.as_slice()));
+    holds!(rt; column.push(1u128).is_ok());
+    holds!(rt; is_written(&column, store.as_slice()));
     let stash = opened::<Large>(rt.alloc(), store.as_slice()).expect(&rt, "numbers");
-    assert!(rt; has(&stash, &[1]));
+    holds!(rt; has(&stash, &[1]));
     Ok(())
 }
 
@@ -130,10 +131,10 @@ fn large_numbers_are_two_words(rt: HostRuntime) -> Result<(), Fail> {
 fn differences_are_in_twos_complement(rt: HostRuntime) -> Result<(), Fail> {
     let store = [16, 24, 18446744073709551615];
     let mut column = Differences::empty(rt.alloc());
-    assert!(rt; column.push(-1isize).is_ok());
-    assert!(rt; is_written(&column, store.as_slice()));
+    holds!(rt; column.push(-1isize).is_ok());
+    holds!(rt; is_written(&column, store.as_slice()));
     let stash = opened::<Differences>(rt.alloc(), store.as_slice()).expect(&rt, "numbers");
-    assert!(rt; has(&stash, &[-1]));
+    holds!(rt; has(&stash, &[-1]));
     Ok(())
 }
 
@@ -141,24 +142,24 @@ fn differences_are_in_twos_complement(rt: HostRuntime) -> Result<(), Fail> {
 fn what_a_head_claims_is_judged(rt: HostRuntime) -> Result<(), Fail> {
     let alloc = rt.alloc();
     let far = [24, 40, 40, 8589934592, 8589934592];
-    assert_eq!(rt; refusal::<Steps>(alloc, far.as_slice())?, (16, 0));
+    equal!(rt; refusal::<Steps>(alloc, far.as_slice())?, (16, 0));
     let many = [24, 40, 48, 0, 18446744073709551615, 0];
-    assert_eq!(rt; refusal::<Steps>(alloc, many.as_slice())?, (19, 0));
+    equal!(rt; refusal::<Steps>(alloc, many.as_slice())?, (19, 0));
     Ok(())
 }
 
 #[test]
 fn only_the_next_multiple_is_pushed(rt: HostRuntime) -> Result<(), Fail> {
     let mut column = Fixeds::<3, u64>::empty(rt.alloc());
-    assert_eq!(rt; column.push(4), Err(GrowError::Offset));
-    assert_eq!(rt; column.count, 0);
-    assert_eq!(rt; column.push(3), Ok(()));
-    assert_eq!(rt; column.count, 1);
+    equal!(rt; column.push(4), Err(GrowError::Offset));
+    equal!(rt; column.count, 0);
+    equal!(rt; column.push(3), Ok(()));
+    equal!(rt; column.count, 1);
     let mut stash = Stash::<Fixeds<3, u64>, Vec<u8>>::empty(rt.alloc());
-    assert_eq!(rt; stash.push(4u64), Err(GrowError::Offset));
-    assert!(rt; stash.is_empty());
-    assert_eq!(rt; stash.push(3u64), Ok(()));
-    assert!(rt; writes(&stash, [16, 24, 1].as_slice()));
+    equal!(rt; stash.push(4u64), Err(GrowError::Offset));
+    holds!(rt; stash.is_empty());
+    equal!(rt; stash.push(3u64), Ok(()));
+    holds!(rt; writes(&stash, [16, 24, 1].as_slice()));
     Ok(())
 }
 
@@ -166,17 +167,17 @@ fn only_the_next_multiple_is_pushed(rt: HostRuntime) -> Result<(), Fail> {
 fn a_full_count_is_accepted(rt: HostRuntime) -> Result<(), Fail> {
     let full = [16, 24, 18446744073709551615];
     let stash = opened::<Fixeds<1, u64>>(rt.alloc(), full.as_slice()).expect(&rt, "offsets");
-    assert_eq!(rt; stash.len(), usize::MAX);
-    assert_eq!(rt; row_of(&stash, 0), Some(1));
-    assert_eq!(rt; row_of(&stash, usize::MAX - 1), Some(u64::MAX));
-    assert!(rt; writes(&stash, full.as_slice()));
+    equal!(rt; stash.len(), usize::MAX);
+    equal!(rt; row_of(&stash, 0), Some(1));
+    equal!(rt; row_of(&stash, usize::MAX - 1), Some(u64::MAX));
+    holds!(rt; writes(&stash, full.as_slice()));
     Ok(())
 }
 
 #[test]
 fn a_part_of_an_element_is_refused(rt: HostRuntime) -> Result<(), Fail> {
     let part = [16, 19, 7];
-    assert_eq!(rt; refusal::<Vec<u32>>(rt.alloc(), part.as_slice())?, (8, 0));
+    equal!(rt; refusal::<Vec<u32>>(rt.alloc(), part.as_slice())?, (8, 0));
     Ok(())
 }
 
@@ -184,16 +185,16 @@ fn a_part_of_an_element_is_refused(rt: HostRuntime) -> Result<(), Fail> {
 fn sixty_four_trues_leave_the_tail_empty(rt: HostRuntime) -> Result<(), Fail> {
     let store = [24, 32, 48, 18446744073709551615, 0, 0];
     let mut column = Bits::empty(rt.alloc());
-    assert!(rt; Push::extend(&mut column, [true; 64].iter().copied()).is_ok());
+    holds!(rt; Push::extend(&mut column, [true; 64].iter().copied()).is_ok());
     let mut words = Vec::new(rt.alloc());
     encode(&mut words, &column.borrow())?;
-    assert_eq!(rt; words.as_slice(), store.as_slice());
+    equal!(rt; words.as_slice(), store.as_slice());
     let stash = opened::<Bits>(rt.alloc(), store.as_slice()).expect(&rt, "bits");
-    assert_eq!(rt; stash.len(), 64);
+    equal!(rt; stash.len(), 64);
     for i in 0..64 {
-        assert_eq!(rt; row_of(&stash, i), Some(true));
+        equal!(rt; row_of(&stash, i), Some(true));
     }
-    assert_eq!(rt; row_of(&stash, 64), None);
+    equal!(rt; row_of(&stash, 64), None);
     Ok(())
 }
 
@@ -201,8 +202,8 @@ fn sixty_four_trues_leave_the_tail_empty(rt: HostRuntime) -> Result<(), Fail> {
 fn a_tail_is_short_and_clean(rt: HostRuntime) -> Result<(), Fail> {
     let alloc = rt.alloc();
     let dirty = [24, 24, 40, 5, 2];
-    assert_eq!(rt; refusal::<Bits>(alloc, dirty.as_slice())?, (13, 0));
+    equal!(rt; refusal::<Bits>(alloc, dirty.as_slice())?, (13, 0));
     let long = [24, 24, 40, 0, 64];
-    assert_eq!(rt; refusal::<Bits>(alloc, long.as_slice())?, (13, 0));
+    equal!(rt; refusal::<Bits>(alloc, long.as_slice())?, (13, 0));
     Ok(())
 }

@@ -12,6 +12,7 @@ use std::io::{Error, ErrorKind};
 use std::test::Fail;
 use test_support::stores::{bytes_of, front, refusal};
 use test_support::writers::Slow;
+use test_support::{equal, holds};
 
 type Numbers = Vec<u64>;
 
@@ -39,12 +40,12 @@ fn a_column_of_seven_is_three_words(rt: HostRuntime) -> Result<(), Fail> {
     Push::push(&mut column, 7u64)?;
     let mut words = Vec::new(rt.alloc());
     encode(&mut words, &column.borrow())?;
-    assert_eq!(rt; words.as_slice(), [16, 24, 7].as_slice());
-    assert_eq!(rt; length_in_words(&column.borrow()), Some(3));
-    assert_eq!(rt; length_in_bytes(&column.borrow()), Some(24));
+    equal!(rt; words.as_slice(), [16, 24, 7].as_slice());
+    equal!(rt; length_in_words(&column.borrow()), Some(3));
+    equal!(rt; length_in_bytes(&column.borrow()), Some(24));
     let mut bytes = Vec::new(rt.alloc());
     write(&mut bytes, &column.borrow())?;
-    assert_eq!(rt; bytes.as_slice(), SEVEN.as_slice());
+    equal!(rt; bytes.as_slice(), SEVEN.as_slice());
     Ok(())
 }
 
@@ -53,7 +54,7 @@ fn the_empty_column_is_two_words(rt: HostRuntime) -> Result<(), Fail> {
     let column = Numbers::empty(rt.alloc());
     let mut words = Vec::new(rt.alloc());
     encode(&mut words, &column.borrow())?;
-    assert_eq!(rt; words.as_slice(), [16, 16].as_slice());
+    equal!(rt; words.as_slice(), [16, 16].as_slice());
     Ok(())
 }
 
@@ -68,14 +69,14 @@ fn stores_of_numbers_are_judged(rt: HostRuntime) -> Result<(), Fail> {
         (backwards.as_slice(), (7, 0)),
         (words_behind.as_slice(), (0, 0)),
     ] {
-        assert_eq!(rt; refusal::<Numbers>(alloc, words)?, wanted);
+        equal!(rt; refusal::<Numbers>(alloc, words)?, wanted);
     }
     let bytes = bytes_of(alloc, words_behind.as_slice())?;
     let Ok(stash) = Stash::<Numbers, Vec<u8>>::try_from_bytes(alloc, bytes) else {
-        assert!(rt; false);
+        holds!(rt; false);
         return Ok(());
     };
-    assert_eq!(rt; stash.len(), 1);
+    equal!(rt; stash.len(), 1);
     Ok(())
 }
 
@@ -91,7 +92,7 @@ fn structures_are_judged(rt: HostRuntime) -> Result<(), Fail> {
         ([16].as_slice(), 1, (4, 0)),
         ([8].as_slice(), 0, (0, 0)),
     ] {
-        assert_eq!(rt; refusal_of_structure(alloc, words, expected)?, wanted);
+        equal!(rt; refusal_of_structure(alloc, words, expected)?, wanted);
     }
     Ok(())
 }
@@ -99,13 +100,13 @@ fn structures_are_judged(rt: HostRuntime) -> Result<(), Fail> {
 #[test]
 fn a_store_without_its_last_byte_is_refused(rt: HostRuntime) -> Result<(), Fail> {
     let cut = front(SEVEN.as_slice(), 23);
-    assert_eq!(rt;
+    equal!(rt;
         validate::<View<'_, u64>>(cut),
         Err(StoreFault::NotWords(0))
     );
     match Stash::<Numbers, &[u8]>::try_from_bytes(rt.alloc(), cut) {
-        Ok(_) => assert!(rt; false),
-        Err(fault) => assert_eq!(rt; (fault.number(), fault.slice()), (1, 0)),
+        Ok(_) => holds!(rt; false),
+        Err(fault) => equal!(rt; (fault.number(), fault.slice()), (1, 0)),
     }
     Ok(())
 }
@@ -116,12 +117,12 @@ fn the_slices_are_read_back(rt: HostRuntime) -> Result<(), Fail> {
     match validate_structure(bytes, 1) {
         Ok(()) => {
             let store = DecodedStore::new(bytes);
-            assert_eq!(rt; store.len(), 1);
-            assert_eq!(rt; store.get(0), [7, 0, 0, 0, 0, 0, 0, 0].as_slice());
-            assert_eq!(rt; decode_index(bytes, 0), [7, 0, 0, 0, 0, 0, 0, 0].as_slice());
-            assert_eq!(rt; decode(bytes).count(), 1);
+            equal!(rt; store.len(), 1);
+            equal!(rt; store.get(0), [7, 0, 0, 0, 0, 0, 0, 0].as_slice());
+            equal!(rt; decode_index(bytes, 0), [7, 0, 0, 0, 0, 0, 0, 0].as_slice());
+            equal!(rt; decode(bytes).count(), 1);
         }
-        Err(_) => assert!(rt; false),
+        Err(_) => holds!(rt; false),
     }
     Ok(())
 }
@@ -135,8 +136,8 @@ fn a_writer_may_take_one_byte_a_call(rt: HostRuntime) -> Result<(), Fail> {
         limit: 100,
         kind: None,
     };
-    assert!(rt; write(&mut slow, &column.borrow()).is_ok());
-    assert_eq!(rt; slow.taken.as_slice(), SEVEN.as_slice());
+    holds!(rt; write(&mut slow, &column.borrow()).is_ok());
+    equal!(rt; slow.taken.as_slice(), SEVEN.as_slice());
     Ok(())
 }
 
@@ -156,10 +157,10 @@ fn a_writer_that_fails_ends_the_writing(rt: HostRuntime) -> Result<(), Fail> {
         };
         let wanted = kind.unwrap_or(ErrorKind::WriteZero);
         match stash.write_bytes(&mut slow) {
-            Err(WriteFault::Writer(fault)) => assert_eq!(rt; fault.kind(), wanted),
-            _ => assert!(rt; false),
+            Err(WriteFault::Writer(fault)) => equal!(rt; fault.kind(), wanted),
+            _ => holds!(rt; false),
         }
-        assert_eq!(rt;
+        equal!(rt;
             slow.taken.as_slice(),
             [16, 0, 0, 0, 0, 0, 0, 0, 24, 0].as_slice()
         );

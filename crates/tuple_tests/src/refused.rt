@@ -11,6 +11,7 @@ use columnar_core::container::{Borrow, ContainerBytes, Storage};
 use columnar_core::traits::{Item, Push, PushRef};
 use std::alloc::Global;
 use std::test::Fail;
+use test_support::holds;
 use test_support::stashes::opened;
 use test_support::trials::{Trial, calls_keep, copies_keep, is_lawful, pushes_keep};
 
@@ -43,11 +44,11 @@ fn pushed<'a, T: Item + Copy, C: ContainerBytes + Storage + Push<T> + Push<&'a T
 fn one_column(rt: HostRuntime) -> Result<(), Fail> {
     let alloc = rt.alloc();
     let trial = trial_of(ONE.as_slice(), ONE_MORE.as_slice(), ONE_BOTH.as_slice());
-    assert!(rt; pushed::<(u64,), One>(alloc, &(11,), &trial));
+    holds!(rt; pushed::<(u64,), One>(alloc, &(11,), &trial));
     let Some(source) = opened::<One>(alloc, trial.source) else {
         return Ok(());
     };
-    assert!(rt; copies_keep::<_, One>(alloc, source.borrow(), &trial));
+    holds!(rt; copies_keep::<_, One>(alloc, source.borrow(), &trial));
     Ok(())
 }
 
@@ -55,11 +56,11 @@ fn one_column(rt: HostRuntime) -> Result<(), Fail> {
 fn two_columns(rt: HostRuntime) -> Result<(), Fail> {
     let alloc = rt.alloc();
     let trial = trial_of(TWO.as_slice(), TWO_MORE.as_slice(), TWO_BOTH.as_slice());
-    assert!(rt; pushed::<(u64, u64), Two>(alloc, &(11, 12), &trial));
+    holds!(rt; pushed::<(u64, u64), Two>(alloc, &(11, 12), &trial));
     let Some(source) = opened::<Two>(alloc, trial.source) else {
         return Ok(());
     };
-    assert!(rt; copies_keep::<_, Two>(alloc, source.borrow(), &trial));
+    holds!(rt; copies_keep::<_, Two>(alloc, source.borrow(), &trial));
     Ok(())
 }
 
@@ -71,11 +72,11 @@ fn three_columns(rt: HostRuntime) -> Result<(), Fail> {
         THREE_MORE.as_slice(),
         THREE_BOTH.as_slice(),
     );
-    assert!(rt; pushed::<(u64, u64, u64), Three>(alloc, &(11, 12, 13), &trial));
+    holds!(rt; pushed::<(u64, u64, u64), Three>(alloc, &(11, 12, 13), &trial));
     let Some(source) = opened::<Three>(alloc, trial.source) else {
         return Ok(());
     };
-    assert!(rt; calls_keep::<_, Three>(alloc, source.borrow(), &trial));
+    holds!(rt; calls_keep::<_, Three>(alloc, source.borrow(), &trial));
     Ok(())
 }
 
@@ -87,7 +88,7 @@ fn seven_columns(rt: HostRuntime) -> Result<(), Fail> {
         SEVEN_MORE.as_slice(),
         SEVEN_BOTH.as_slice(),
     );
-    assert!(rt;
+    holds!(rt;
         pushed::<(u64, u64, u64, u64, u64, u64, u64), Seven>(
             alloc,
             &(11, 12, 13, 14, 15, 16, 17),
@@ -97,7 +98,7 @@ fn seven_columns(rt: HostRuntime) -> Result<(), Fail> {
     let Some(source) = opened::<Seven>(alloc, trial.source) else {
         return Ok(());
     };
-    assert!(rt; copies_keep::<_, Seven>(alloc, source.borrow(), &trial));
+    holds!(rt; copies_keep::<_, Seven>(alloc, source.borrow(), &trial));
     Ok(())
 }
 
@@ -105,7 +106,7 @@ fn seven_columns(rt: HostRuntime) -> Result<(), Fail> {
 fn ten_columns(rt: HostRuntime) -> Result<(), Fail> {
     let alloc = rt.alloc();
     let trial = trial_of(TEN.as_slice(), TEN_MORE.as_slice(), TEN_BOTH.as_slice());
-    assert!(rt;
+    holds!(rt;
         pushed::<(u64, u64, u64, u64, u64, u64, u64, u64, u64, u64), Ten>(
             alloc,
             &(10, 11, 12, 13, 14, 15, 16, 17, 18, 19),
@@ -115,6 +116,6 @@ fn ten_columns(rt: HostRuntime) -> Result<(), Fail> {
     let Some(source) = opened::<Ten>(alloc, trial.source) else {
         return Ok(());
     };
-    assert!(rt; copies_keep::<_, Ten>(alloc, source.borrow(), &trial));
+    holds!(rt; copies_keep::<_, Ten>(alloc, source.borrow(), &trial));
     Ok(())
 }

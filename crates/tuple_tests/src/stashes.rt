@@ -6,6 +6,7 @@ use columnar_core::bytes::Check;
 use columnar_core::traits::Len;
 use columnar_core::view::View;
 use std::test::Fail;
+use test_support::{equal, holds};
 
 static DONE: Reply = Reply::Done;
 
@@ -16,7 +17,7 @@ fn a_run_over_three_columns(rt: HostRuntime) -> Result<(), Fail> {
     let numbers = [5, 6, 7];
     let column = View::from_slice(numbers.as_slice());
     let source = (column, column, column);
-    assert!(rt; source.check().is_ok());
+    holds!(rt; source.check().is_ok());
     let commands = [
         Command::Push((1u64, 10u64, 100u64)),
         Command::Reopen,
@@ -30,12 +31,12 @@ fn a_run_over_three_columns(rt: HostRuntime) -> Result<(), Fail> {
         source,
         commands.as_slice(),
     );
-    assert_eq!(rt;
+    equal!(rt;
         replies?.as_slice(),
         [DONE, DONE, DONE, RANGE, DONE].as_slice()
     );
-    assert_eq!(rt; stash.len(), 2);
-    assert!(rt;
+    equal!(rt; stash.len(), 2);
+    holds!(rt;
         is_written(
             rt.alloc(),
             &stash.borrow(),

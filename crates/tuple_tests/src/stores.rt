@@ -3,6 +3,7 @@
 use super::worked::{SEVEN, Seven, Six, TEN, THREE, Ten, Three, Two};
 use columnar_core::bytes::Stored;
 use std::test::Fail;
+use test_support::equal;
 use test_support::stores::refusal;
 
 // Two columns of two rows and of one
@@ -31,49 +32,49 @@ static UNEVEN_SECOND: [u64; 10] = [40, 48, 56, 72, 80, 1, 2, 3, 4, 5];
 #[test]
 fn uneven_lengths_are_told_at_the_first_slice(rt: HostRuntime) -> Result<(), Fail> {
     let pair = refusal::<Two>(rt.alloc(), UNEVEN_PAIR.as_slice()).expect(&rt, "memory");
-    assert_eq!(rt; pair, (10, 0));
+    equal!(rt; pair, (10, 0));
     let third = refusal::<Three>(rt.alloc(), SHORT_THIRD.as_slice()).expect(&rt, "memory");
-    assert_eq!(rt; third, (10, 0));
+    equal!(rt; third, (10, 0));
     Ok(())
 }
 
 #[test]
 fn a_longer_last_part_is_told_at_the_first_slice(rt: HostRuntime) -> Result<(), Fail> {
     let three = refusal::<Three>(rt.alloc(), LONG_LAST_OF_THREE.as_slice()).expect(&rt, "memory");
-    assert_eq!(rt; three, (10, 0));
+    equal!(rt; three, (10, 0));
     let six = refusal::<Six>(rt.alloc(), LONG_LAST_OF_SIX.as_slice()).expect(&rt, "memory");
-    assert_eq!(rt; six, (10, 0));
+    equal!(rt; six, (10, 0));
     let ten = refusal::<Ten>(rt.alloc(), LONG_LAST_OF_TEN.as_slice()).expect(&rt, "memory");
-    assert_eq!(rt; ten, (10, 0));
+    equal!(rt; ten, (10, 0));
     Ok(())
 }
 
 #[test]
 fn a_broken_part_is_told_at_its_own_slice(rt: HostRuntime) -> Result<(), Fail> {
     let second = refusal::<Three>(rt.alloc(), BROKEN_SECOND.as_slice()).expect(&rt, "memory");
-    assert_eq!(rt; second, (8, 1));
+    equal!(rt; second, (8, 1));
     let inner = refusal::<(Vec<u64>, Two, Vec<u64>)>(rt.alloc(), UNEVEN_SECOND.as_slice()).expect(
         &rt, "memory",
     );
-    assert_eq!(rt; inner, (10, 1));
+    equal!(rt; inner, (10, 1));
     Ok(())
 }
 
 #[test]
 fn a_row_of_three_is_accepted(rt: HostRuntime) -> Result<(), Fail> {
     let three = refusal::<Three>(rt.alloc(), THREE.as_slice()).expect(&rt, "memory");
-    assert_eq!(rt; three, (0, 0));
-    assert_eq!(rt; Three::slice_count(), 3);
+    equal!(rt; three, (0, 0));
+    equal!(rt; Three::slice_count(), 3);
     Ok(())
 }
 
 #[test]
 fn a_row_of_seven_or_ten_is_accepted(rt: HostRuntime) -> Result<(), Fail> {
     let seven = refusal::<Seven>(rt.alloc(), SEVEN.as_slice()).expect(&rt, "memory");
-    assert_eq!(rt; seven, (0, 0));
+    equal!(rt; seven, (0, 0));
     let ten = refusal::<Ten>(rt.alloc(), TEN.as_slice()).expect(&rt, "memory");
-    assert_eq!(rt; ten, (0, 0));
-    assert_eq!(rt; Ten::slice_count(), 10);
-    assert_eq!(rt; TEN.as_slice().len(), 21);
+    equal!(rt; ten, (0, 0));
+    equal!(rt; Ten::slice_count(), 10);
+    equal!(rt; TEN.as_slice().len(), 21);
     Ok(())
 }

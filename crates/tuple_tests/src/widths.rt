@@ -10,6 +10,7 @@ use std::alloc::Global;
 use std::iter::once;
 use std::test::Fail;
 use test_support::stashes::{opened, row_of};
+use test_support::{equal, holds};
 
 // A column that is well formed
 #[derive(Drop)]
@@ -63,7 +64,7 @@ fn lends<'a, C: Borrow<'a, Borrowed: AsBytes<'a> + Check>>(
 fn a_tuple_of_one(rt: HostRuntime) -> Result<(), Fail> {
     let column = grown::<(u64,), One>(rt.alloc(), (1,)).expect(&rt, "grown");
     let copy = copied(rt.alloc(), &column).expect(&rt, "copied");
-    assert!(rt; lends(rt.alloc(), &copy, ONE.as_slice()));
+    holds!(rt; lends(rt.alloc(), &copy, ONE.as_slice()));
     Ok(())
 }
 
@@ -71,7 +72,7 @@ fn a_tuple_of_one(rt: HostRuntime) -> Result<(), Fail> {
 fn a_tuple_of_two(rt: HostRuntime) -> Result<(), Fail> {
     let column = grown::<(u64, u64), Two>(rt.alloc(), (1, 2)).expect(&rt, "grown");
     let copy = copied(rt.alloc(), &column).expect(&rt, "copied");
-    assert!(rt; lends(rt.alloc(), &copy, TWO.as_slice()));
+    holds!(rt; lends(rt.alloc(), &copy, TWO.as_slice()));
     Ok(())
 }
 
@@ -79,7 +80,7 @@ fn a_tuple_of_two(rt: HostRuntime) -> Result<(), Fail> {
 fn a_tuple_of_three(rt: HostRuntime) -> Result<(), Fail> {
     let column = grown::<(u64, u64, u64), Three>(rt.alloc(), (1, 2, 3)).expect(&rt, "grown");
     let copy = copied(rt.alloc(), &column).expect(&rt, "copied");
-    assert!(rt; lends(rt.alloc(), &copy, THREE.as_slice()));
+    holds!(rt; lends(rt.alloc(), &copy, THREE.as_slice()));
     Ok(())
 }
 
@@ -90,7 +91,7 @@ fn a_tuple_of_seven(rt: HostRuntime) -> Result<(), Fail> {
         &rt, "grown",
     );
     let copy = copied(rt.alloc(), &column).expect(&rt, "copied");
-    assert!(rt; lends(rt.alloc(), &copy, SEVEN.as_slice()));
+    holds!(rt; lends(rt.alloc(), &copy, SEVEN.as_slice()));
     Ok(())
 }
 
@@ -102,7 +103,7 @@ fn a_tuple_of_ten(rt: HostRuntime) -> Result<(), Fail> {
         row,
     ).expect(&rt, "grown");
     let copy = copied(rt.alloc(), &column).expect(&rt, "copied");
-    assert!(rt; lends(rt.alloc(), &copy, TEN.as_slice()));
+    holds!(rt; lends(rt.alloc(), &copy, TEN.as_slice()));
     Ok(())
 }
 
@@ -110,6 +111,6 @@ fn a_tuple_of_ten(rt: HostRuntime) -> Result<(), Fail> {
 fn a_row_of_ten_is_read(rt: HostRuntime) -> Result<(), Fail> {
     let stash = opened::<Ten>(rt.alloc(), TEN.as_slice()).expect(&rt, "opened");
     let row = row_of(&stash, 0).expect(&rt, "a row");
-    assert_eq!(rt; (row.0, row.1, row.8, row.9), (0, 1, 8, 9));
+    equal!(rt; (row.0, row.1, row.8, row.9), (0, 1, 8, 9));
     Ok(())
 }

@@ -11,6 +11,7 @@ use columnar_core::view::View;
 use columnar_primitive::bools::Bools;
 use std::alloc::Global;
 use std::test::Fail;
+use test_support::{equal, holds};
 
 type Held = Bools<Vec<u64>, [u64; 2]>;
 
@@ -32,8 +33,8 @@ fn column(alloc: Global, n: usize, step: usize) -> Result<Held, Fail>
 #[test]
 fn sixty_four_trues_fill_a_word(rt: HostRuntime) -> Result<(), Fail> {
     let column = column(rt.alloc(), 64, 1)?;
-    assert!(rt; column.values.as_slice() == [u64::MAX].as_slice());
-    assert!(rt; column.tail == [0, 0]);
+    equal!(rt; column.values.as_slice(), [u64::MAX].as_slice());
+    equal!(rt; column.tail, [0, 0]);
     Ok(())
 }
 
@@ -44,11 +45,11 @@ fn a_range_is_copied_a_word_at_a_time(rt: HostRuntime) -> Result<(), Fail> {
     if bits.extend_bits_from(&evens, 3..73).is_err() {
         return Err(Fail::from("refused"));
     }
-    assert!(rt;
+    holds!(rt;
         bits.values.as_slice() == [0xAFFF_FFFF_FFFF_FFFF, 0xAAAA_AAAA_AAAA_AAAA].as_slice()
     );
-    assert!(rt; bits.tail == [2, 2]);
-    assert_eq!(rt; bits.len(), 130);
+    equal!(rt; bits.tail, [2, 2]);
+    equal!(rt; bits.len(), 130);
     Ok(())
 }
 
@@ -56,18 +57,18 @@ fn a_range_is_copied_a_word_at_a_time(rt: HostRuntime) -> Result<(), Fail> {
 fn cuts_clear_the_bits_behind(rt: HostRuntime) -> Result<(), Fail> {
     let mut bits = column(rt.alloc(), 100, 1)?;
     bits.truncate(70);
-    assert!(rt; bits.values.as_slice() == [u64::MAX].as_slice());
-    assert!(rt; bits.tail == [63, 6]);
+    equal!(rt; bits.values.as_slice(), [u64::MAX].as_slice());
+    equal!(rt; bits.tail, [63, 6]);
     Ok(())
 }
 
 #[test]
 fn views_read_the_same_bits(rt: HostRuntime) -> Result<(), Fail> {
     let bits = column(rt.alloc(), 70, 3)?;
-    assert_eq!(rt; bits.get(66), true);
-    assert_eq!(rt; bits.get(67), false);
-    assert_eq!(rt; bits.bits_at(62, 5), 18);
-    assert_eq!(rt; bits.borrow().get(69), true);
+    equal!(rt; bits.get(66), true);
+    equal!(rt; bits.get(67), false);
+    equal!(rt; bits.bits_at(62, 5), 18);
+    equal!(rt; bits.borrow().get(69), true);
     Ok(())
 }
 
@@ -83,10 +84,10 @@ fn dirty_tails_are_refused(rt: HostRuntime) -> Result<(), Fail> {
             values: View::from_slice(&[]),
             tail: View::from_slice(tail),
         };
-        assert_eq!(rt; view.check(), wanted);
+        equal!(rt; view.check(), wanted);
     }
     let bytes = [0; 12];
-    assert!(rt;
+    holds!(rt;
         Bools {
             values: View::from_le_bytes(&bytes),
             tail: View::from_slice(&[1, 2])

@@ -6,6 +6,7 @@ use columnar_core::byte_slice::sliced::Sliced;
 use std::alloc::Global;
 use std::num::Wrapping;
 use std::test::Fail;
+use test_support::{equal, holds};
 
 // Is the number kept in these bytes, read back from them, and written with this alignment?
 fn is_kept<T: Primitive + Sliced>(alloc: Global, items: &[T], bytes: &[u8], align: u64) -> bool
@@ -29,10 +30,10 @@ fn is_kept<T: Primitive + Sliced>(alloc: Global, items: &[T], bytes: &[u8], alig
 #[test]
 fn unsigned_numbers_are_kept(rt: HostRuntime) -> Result<(), Fail> {
     let alloc = rt.alloc();
-    assert!(rt; is_kept(alloc, &[7u8], &[7], 1));
-    assert!(rt; is_kept(alloc, &[258u16], &[2, 1], 2));
-    assert!(rt; is_kept(alloc, &[16909060u32], &[4, 3, 2, 1], 4));
-    assert!(rt;
+    holds!(rt; is_kept(alloc, &[7u8], &[7], 1));
+    holds!(rt; is_kept(alloc, &[258u16], &[2, 1], 2));
+    holds!(rt; is_kept(alloc, &[16909060u32], &[4, 3, 2, 1], 4));
+    holds!(rt;
         is_kept(
             alloc,
             &[u64::MAX - 1],
@@ -40,18 +41,18 @@ fn unsigned_numbers_are_kept(rt: HostRuntime) -> Result<(), Fail> {
             8
         )
     );
-    assert!(rt; is_kept(alloc, &[<u32 as Primitive>::MAX], &[255, 255, 255, 255], 4));
-    assert!(rt; is_kept(alloc, &[<u16 as Primitive>::MIN], &[0, 0], 2));
+    holds!(rt; is_kept(alloc, &[<u32 as Primitive>::MAX], &[255, 255, 255, 255], 4));
+    holds!(rt; is_kept(alloc, &[<u16 as Primitive>::MIN], &[0, 0], 2));
     Ok(())
 }
 
 #[test]
 fn signed_numbers_are_kept_in_twos_complement(rt: HostRuntime) -> Result<(), Fail> {
     let alloc = rt.alloc();
-    assert!(rt; is_kept(alloc, &[-1i8], &[255], 1));
-    assert!(rt; is_kept(alloc, &[-2i16], &[254, 255], 2));
-    assert!(rt; is_kept(alloc, &[5i32], &[5, 0, 0, 0], 4));
-    assert!(rt;
+    holds!(rt; is_kept(alloc, &[-1i8], &[255], 1));
+    holds!(rt; is_kept(alloc, &[-2i16], &[254, 255], 2));
+    holds!(rt; is_kept(alloc, &[5i32], &[5, 0, 0, 0], 4));
+    holds!(rt;
         is_kept(
             alloc,
             &[<i64 as Primitive>::MIN],
@@ -59,21 +60,21 @@ fn signed_numbers_are_kept_in_twos_complement(rt: HostRuntime) -> Result<(), Fai
             8
         )
     );
-    assert!(rt; is_kept(alloc, &[<i16 as Primitive>::MAX], &[255, 127], 2));
+    holds!(rt; is_kept(alloc, &[<i16 as Primitive>::MAX], &[255, 127], 2));
     Ok(())
 }
 
 #[test]
 fn wrapping_numbers_are_kept_as_the_number_inside(rt: HostRuntime) -> Result<(), Fail> {
     let alloc = rt.alloc();
-    assert!(rt; is_kept(alloc, &[Wrapping(200u8)], &[200], 1));
-    assert!(rt; is_kept(alloc, &[Wrapping(258u16)], &[2, 1], 2));
-    assert!(rt; is_kept(alloc, &[Wrapping(258u32)], &[2, 1, 0, 0], 4));
-    assert!(rt; is_kept(alloc, &[Wrapping(1u64)], &[1, 0, 0, 0, 0, 0, 0, 0], 8));
-    assert!(rt; is_kept(alloc, &[Wrapping(-1i8)], &[255], 1));
-    assert!(rt; is_kept(alloc, &[Wrapping(-256i16)], &[0, 255], 2));
-    assert!(rt; is_kept(alloc, &[Wrapping(-1i32)], &[255, 255, 255, 255], 4));
-    assert!(rt;
+    holds!(rt; is_kept(alloc, &[Wrapping(200u8)], &[200], 1));
+    holds!(rt; is_kept(alloc, &[Wrapping(258u16)], &[2, 1], 2));
+    holds!(rt; is_kept(alloc, &[Wrapping(258u32)], &[2, 1, 0, 0], 4));
+    holds!(rt; is_kept(alloc, &[Wrapping(1u64)], &[1, 0, 0, 0, 0, 0, 0, 0], 8));
+    holds!(rt; is_kept(alloc, &[Wrapping(-1i8)], &[255], 1));
+    holds!(rt; is_kept(alloc, &[Wrapping(-256i16)], &[0, 255], 2));
+    holds!(rt; is_kept(alloc, &[Wrapping(-1i32)], &[255, 255, 255, 255], 4));
+    holds!(rt;
         is_kept(
             alloc,
             &[<Wrapping<i64> as Primitive>::MIN],
@@ -88,13 +89,13 @@ fn wrapping_numbers_are_kept_as_the_number_inside(rt: HostRuntime) -> Result<(),
 fn words_are_filled_with_zeros(rt: HostRuntime) -> Result<(), Fail> {
     let items = [1u16, 2, 3, 4, 5];
     let slice = <u16 as Sliced>::byte_slice(&items);
-    assert_eq!(rt; slice.len(), 10);
-    assert_eq!(rt; slice.word(0), 1125912791875585);
-    assert_eq!(rt; slice.word(1), 5);
+    equal!(rt; slice.len(), 10);
+    equal!(rt; slice.word(0), 1125912791875585);
+    equal!(rt; slice.word(1), 5);
     let bytes = [1u8, 2, 3];
     let slice = <u8 as Sliced>::byte_slice(&bytes);
-    assert_eq!(rt; slice.align(), 1);
-    assert_eq!(rt; slice.word(0), 197121);
+    equal!(rt; slice.align(), 1);
+    equal!(rt; slice.word(0), 197121);
     Ok(())
 }
 
@@ -102,67 +103,67 @@ fn words_are_filled_with_zeros(rt: HostRuntime) -> Result<(), Fail> {
 fn arrays_stand_one_behind_the_other(rt: HostRuntime) -> Result<(), Fail> {
     let items = [[1u16, 2, 3], [4, 5, 6]];
     let slice = <[u16; 3] as Sliced>::byte_slice(&items);
-    assert_eq!(rt; slice.align(), 2);
-    assert_eq!(rt; slice.len(), 12);
-    assert_eq!(rt; slice.word(0), 1125912791875585);
-    assert_eq!(rt; slice.word(1), 393221);
-    assert_eq!(rt; <[u16; 3] as Element>::size(), 6);
-    assert_eq!(rt;
+    equal!(rt; slice.align(), 2);
+    equal!(rt; slice.len(), 12);
+    equal!(rt; slice.word(0), 1125912791875585);
+    equal!(rt; slice.word(1), 393221);
+    equal!(rt; <[u16; 3] as Element>::size(), 6);
+    equal!(rt;
         <[u16; 3] as Element>::from_le_bytes(&[4, 0, 5, 0, 6, 0]),
         [4, 5, 6]
     );
-    assert!(rt; items[0].same(&[1, 2, 3]));
-    assert!(rt; !items[0].same(&[1, 2, 4]));
+    holds!(rt; items[0].same(&[1, 2, 3]));
+    holds!(rt; !items[0].same(&[1, 2, 4]));
     Ok(())
 }
 
 // Each family of numbers makes arrays that go out.
 #[test]
 fn arrays_of_each_number_go_out(rt: HostRuntime) -> Result<(), Fail> {
-    assert_eq!(rt;
+    equal!(rt;
         <[u8; 3] as Sliced>::byte_slice(&[[1, 2, 3]]).word(0),
         197121
     );
-    assert_eq!(rt; <[u32; 1] as Sliced>::byte_slice(&[[7]]).word(0), 7);
-    assert_eq!(rt; <[u64; 1] as Sliced>::byte_slice(&[[7]]).word(0), 7);
-    assert_eq!(rt; <[i8; 2] as Sliced>::byte_slice(&[[1, -1]]).word(0), 65281);
-    assert_eq!(rt; <[i16; 1] as Sliced>::byte_slice(&[[-1]]).word(0), 65535);
-    assert_eq!(rt; <[i32; 1] as Sliced>::byte_slice(&[[7]]).word(0), 7);
-    assert_eq!(rt; <[i64; 1] as Sliced>::byte_slice(&[[7]]).word(0), 7);
+    equal!(rt; <[u32; 1] as Sliced>::byte_slice(&[[7]]).word(0), 7);
+    equal!(rt; <[u64; 1] as Sliced>::byte_slice(&[[7]]).word(0), 7);
+    equal!(rt; <[i8; 2] as Sliced>::byte_slice(&[[1, -1]]).word(0), 65281);
+    equal!(rt; <[i16; 1] as Sliced>::byte_slice(&[[-1]]).word(0), 65535);
+    equal!(rt; <[i32; 1] as Sliced>::byte_slice(&[[7]]).word(0), 7);
+    equal!(rt; <[i64; 1] as Sliced>::byte_slice(&[[7]]).word(0), 7);
     Ok(())
 }
 
 #[test]
 fn arrays_of_wrapping_numbers_go_out(rt: HostRuntime) -> Result<(), Fail> {
-    assert_eq!(rt;
+    equal!(rt;
         <[Wrapping<u8>; 1] as Sliced>::byte_slice(&[[Wrapping(7)]]).word(0),
         7
     );
-    assert_eq!(rt;
+    equal!(rt;
         <[Wrapping<u16>; 1] as Sliced>::byte_slice(&[[Wrapping(7)]]).word(0),
         7
     );
-    assert_eq!(rt;
+    equal!(rt;
         <[Wrapping<u32>; 1] as Sliced>::byte_slice(&[[Wrapping(7)]]).word(0),
         7
     );
-    assert_eq!(rt;
+    equal!(rt;
         <[Wrapping<u64>; 1] as Sliced>::byte_slice(&[[Wrapping(7)]]).word(0),
         7
     );
-    assert_eq!(rt;
+    equal!(rt;
         <[Wrapping<i8>; 1] as Sliced>::byte_slice(&[[Wrapping(7)]]).word(0),
         7
     );
-    assert_eq!(rt;
+    equal!(rt;
         <[Wrapping<i16>; 1] as Sliced>::byte_slice(&[[Wrapping(7)]]).word(0),
         7
     );
-    assert_eq!(rt;
+    equal!(rt;
         <[Wrapping<i32>; 1] as Sliced>::byte_slice(&[[Wrapping(7)]]).word(0),
         7
     );
-    assert_eq!(rt;
+    equal!(rt;
         <[Wrapping<i64>; 1] as Sliced>::byte_slice(&[[Wrapping(7)]]).word(0),
         7
     );

@@ -13,6 +13,7 @@ use columnar_core::words::Words;
 use columnar_primitive::offsets::{Fixeds, Strides};
 use std::test::Fail;
 use test_support::columns::cut;
+use test_support::{equal, holds};
 
 // Pushes through the bound.
 fn pushed<C: Push<u64>>(column: &mut C, item: u64) -> Result<(), GrowError>
@@ -59,25 +60,25 @@ fn copied<'a, C: Container<'a>>(
 #[test]
 fn only_the_next_multiple_is_taken(rt: HostRuntime) -> Result<(), Fail> {
     let mut column = Fixeds::<3, u64>::empty(rt.alloc());
-    assert_eq!(rt; pushed(&mut column, 4), Err(GrowError::Offset));
-    assert_eq!(rt; column.count, 0);
-    assert_eq!(rt; pushed(&mut column, 3), Ok(()));
-    assert_eq!(rt; pushed(&mut column, 6), Ok(()));
-    assert_eq!(rt; column.count, 2);
-    assert_eq!(rt; offset_at(&column, 1), Some(6));
-    assert_eq!(rt; (column.rises_to(6), column.rises_to(3)), (true, false));
+    equal!(rt; pushed(&mut column, 4), Err(GrowError::Offset));
+    equal!(rt; column.count, 0);
+    equal!(rt; pushed(&mut column, 3), Ok(()));
+    equal!(rt; pushed(&mut column, 6), Ok(()));
+    equal!(rt; column.count, 2);
+    equal!(rt; offset_at(&column, 1), Some(6));
+    equal!(rt; (column.rises_to(6), column.rises_to(3)), (true, false));
     let mut other = Fixeds::<3, u64>::empty(rt.alloc());
-    assert_eq!(rt;
+    equal!(rt;
         copied(&mut other, &column, 1, 2),
         Some(Err(GrowError::Offset))
     );
-    assert_eq!(rt; copied(&mut other, &column, 0, 2), Some(Ok(())));
-    assert_eq!(rt; other == column, true);
+    equal!(rt; copied(&mut other, &column, 0, 2), Some(Ok(())));
+    equal!(rt; other == column, true);
     cut(&mut other, 1);
-    assert_eq!(rt; other.count, 1);
-    assert_eq!(rt; copied(&mut other, &column, 1, 2), Some(Ok(())));
+    equal!(rt; other.count, 1);
+    equal!(rt; copied(&mut other, &column, 1, 2), Some(Ok(())));
     other.clear();
-    assert_eq!(rt; other.count, 0);
+    equal!(rt; other.count, 0);
     Ok(())
 }
 
@@ -86,19 +87,19 @@ fn a_full_count_is_refused_and_accepted_in_a_store(rt: HostRuntime) -> Result<()
     let full = Fixeds::<1, View<'_, u64>> {
         count: View::from_slice(&[18446744073709551615]),
     };
-    assert_eq!(rt; full.check(), Ok(()));
+    equal!(rt; full.check(), Ok(()));
     let long = Fixeds::<3, View<'_, u64>> {
         count: View::from_slice(&[6148914691236517206]),
     };
-    assert_eq!(rt; long.check(), Err(StoreFault::Stride(0)));
+    equal!(rt; long.check(), Err(StoreFault::Stride(0)));
     let two = Fixeds::<3, View<'_, u64>> {
         count: View::from_slice(&[1, 2]),
     };
-    assert_eq!(rt; two.check(), Err(StoreFault::HeadSize(0)));
+    equal!(rt; two.check(), Err(StoreFault::HeadSize(0)));
     let bytes = Fixeds::<3, View<'_, u64>> {
         count: View::from_le_bytes(&[1, 0, 0, 0, 0, 0, 0]),
     };
-    assert_eq!(rt; bytes.check(), Err(StoreFault::HeadSize(0)));
+    equal!(rt; bytes.check(), Err(StoreFault::HeadSize(0)));
     Ok(())
 }
 
@@ -135,65 +136,65 @@ fn popped(column: &mut Strides<Vec<u64>, [u64; 2]>)
 #[test]
 fn a_stride_goes_as_far_as_it_goes(rt: HostRuntime) -> Result<(), Fail> {
     let mut column = Strides::<Vec<u64>, [u64; 2]>::empty(rt.alloc());
-    assert_eq!(rt; pushed(&mut column, 3), Ok(()));
-    assert_eq!(rt; pushed(&mut column, 6), Ok(()));
-    assert_eq!(rt; pushed(&mut column, 10), Ok(()));
-    assert_eq!(rt; pushed(&mut column, 13), Ok(()));
-    assert_eq!(rt; column.head, [3, 2]);
-    assert_eq!(rt; column.bounds.as_slice(), [10, 13].as_slice());
-    assert_eq!(rt; list_at(&column, 0), Some((0, 3)));
-    assert_eq!(rt; list_at(&column, 2), Some((6, 10)));
-    assert_eq!(rt; offset_at(&column, 3), Some(13));
-    assert_eq!(rt; column.strided(), None);
+    equal!(rt; pushed(&mut column, 3), Ok(()));
+    equal!(rt; pushed(&mut column, 6), Ok(()));
+    equal!(rt; pushed(&mut column, 10), Ok(()));
+    equal!(rt; pushed(&mut column, 13), Ok(()));
+    equal!(rt; column.head, [3, 2]);
+    equal!(rt; column.bounds.as_slice(), [10, 13].as_slice());
+    equal!(rt; list_at(&column, 0), Some((0, 3)));
+    equal!(rt; list_at(&column, 2), Some((6, 10)));
+    equal!(rt; offset_at(&column, 3), Some(13));
+    equal!(rt; column.strided(), None);
     match column.duplicate(rt.alloc()) {
-        Ok(same) => assert_eq!(rt; same == column, true),
+        Ok(same) => equal!(rt; same == column, true),
         Err(_) => return Err(Fail::new("no memory")),
     }
-    assert_eq!(rt; (column.rises_to(13), column.rises_to(10)), (true, false));
+    equal!(rt; (column.rises_to(13), column.rises_to(10)), (true, false));
     let mut other = Strides::<Vec<u64>, [u64; 2]>::empty(rt.alloc());
-    assert_eq!(rt; copied(&mut other, &column, 1, 4), Some(Ok(())));
-    assert_eq!(rt; other.head, [6, 1]);
-    assert_eq!(rt; other.bounds.as_slice(), [10, 13].as_slice());
+    equal!(rt; copied(&mut other, &column, 1, 4), Some(Ok(())));
+    equal!(rt; other.head, [6, 1]);
+    equal!(rt; other.bounds.as_slice(), [10, 13].as_slice());
     popped(&mut other);
-    assert_eq!(rt; other.bounds.as_slice(), [10].as_slice());
+    equal!(rt; other.bounds.as_slice(), [10].as_slice());
     cut(&mut column, 1);
-    assert_eq!(rt; column.head, [3, 1]);
-    assert_eq!(rt; column.bounds.len(), 0);
-    assert_eq!(rt; column.strided(), Some(3));
+    equal!(rt; column.head, [3, 1]);
+    equal!(rt; column.bounds.len(), 0);
+    equal!(rt; column.strided(), Some(3));
     popped(&mut column);
-    assert_eq!(rt; column.head, [3, 0]);
+    equal!(rt; column.head, [3, 0]);
     other.clear();
-    assert_eq!(rt; other.head, [0, 0]);
+    equal!(rt; other.head, [0, 0]);
     Ok(())
 }
 
 #[test]
 fn a_falling_offset_stands_as_it_is(rt: HostRuntime) -> Result<(), Fail> {
     let mut column = Strides::new(rt.alloc(), 3, 2);
-    assert_eq!(rt; pushed(&mut column, 5), Ok(()));
-    assert_eq!(rt; column.rises_to(5), false);
-    assert_eq!(rt; offset_at(&column, 2), Some(5));
+    equal!(rt; pushed(&mut column, 5), Ok(()));
+    equal!(rt; column.rises_to(5), false);
+    equal!(rt; offset_at(&column, 2), Some(5));
     Ok(())
 }
 
 #[test]
 fn what_a_head_claims_is_reckoned(rt: HostRuntime) -> Result<(), Fail> {
-    assert_eq!(rt;
+    equal!(rt;
         viewed(&[8589934592, 8589934592], &[]).check(),
         Err(StoreFault::Stride(0))
     );
-    assert_eq!(rt;
+    equal!(rt;
         viewed(&[0, 18446744073709551615], &[0]).check(),
         Err(StoreFault::Length(0))
     );
-    assert_eq!(rt; viewed(&[0, 18446744073709551615], &[]).check(), Ok(()));
-    assert_eq!(rt; viewed(&[1, 18446744073709551615], &[]).check(), Ok(()));
-    assert_eq!(rt; viewed(&[0], &[]).check(), Err(StoreFault::HeadSize(0)));
+    equal!(rt; viewed(&[0, 18446744073709551615], &[]).check(), Ok(()));
+    equal!(rt; viewed(&[1, 18446744073709551615], &[]).check(), Ok(()));
+    equal!(rt; viewed(&[0], &[]).check(), Err(StoreFault::HeadSize(0)));
     let odd = Strides {
         head: View::from_slice(&[0, 0]),
         bounds: View::<u64>::from_le_bytes(&[1, 2, 3]),
     };
-    assert_eq!(rt; odd.check(), Err(StoreFault::ElementSize(1)));
+    equal!(rt; odd.check(), Err(StoreFault::ElementSize(1)));
     Ok(())
 }
 
@@ -209,27 +210,27 @@ fn viewed<'a>(head: &'a [u64], bounds: &'a [u64]) -> Strides<View<'a, u64>, View
 fn multiples_are_told_from_others(rt: HostRuntime) -> Result<(), Fail> {
     let alloc = rt.alloc();
     match Fixeds::<3, u64>::try_from(Strides::new(alloc, 3, 100)) {
-        Ok(column) => assert_eq!(rt; column.count, 100),
+        Ok(column) => equal!(rt; column.count, 100),
         Err(_) => return Err(Fail::from("refused")),
     }
     let mut longer = Strides::new(alloc, 3, 100);
-    assert_eq!(rt; pushed(&mut longer, 302), Ok(()));
-    assert_eq!(rt; longer.strided(), None);
+    equal!(rt; pushed(&mut longer, 302), Ok(()));
+    equal!(rt; longer.strided(), None);
     match Fixeds::<3, View<'_, u64>>::try_from(longer.borrow()) {
         Ok(_) => return Err(Fail::from("accepted")),
-        Err(view) => assert_eq!(rt; only(&view.bounds), Some(302)),
+        Err(view) => equal!(rt; only(&view.bounds), Some(302)),
     }
     match Fixeds::<3, u64>::try_from(longer) {
         Ok(_) => return Err(Fail::from("accepted")),
         Err(back) => {
-            assert_eq!(rt; back.head, [3, 100]);
-            assert_eq!(rt; back.bounds.as_slice(), [302].as_slice());
+            equal!(rt; back.head, [3, 100]);
+            equal!(rt; back.bounds.as_slice(), [302].as_slice());
         }
     }
     match Fixeds::<3, View<'_, u64>>::try_from(viewed(&[3, 100], &[])) {
-        Ok(column) => assert_eq!(rt; only(&column.count), Some(100)),
+        Ok(column) => equal!(rt; only(&column.count), Some(100)),
         Err(_) => return Err(Fail::from("refused")),
     }
-    assert!(rt; Fixeds::<3, u64>::try_from(Strides::empty(alloc)).is_err());
+    holds!(rt; Fixeds::<3, u64>::try_from(Strides::empty(alloc)).is_err());
     Ok(())
 }

@@ -11,6 +11,7 @@ use std::hash::{DefaultHasher, Hash, Hasher};
 use std::num::Wrapping;
 use std::test::Fail;
 use std::time::Duration;
+use test_support::{equal, holds};
 
 // The two ends of a range.
 fn ends<S: Column + Drop>(range: Slice<S>) -> (usize, usize) {
@@ -61,15 +62,15 @@ fn rises_as_row<T: OrderedRow>(less: &T, more: &T) -> bool {
 fn ranges_are_cut(rt: HostRuntime) -> Result<(), Fail> {
     let items = [5u64, 6, 7, 8, 9, 10, 11];
     let range = Slice::new(2, 6, View::from_slice(items.as_slice()));
-    assert_eq!(rt; ends(range.slice(0..4)), (2, 4));
-    assert_eq!(rt; ends(range.slice(3..=4)), (3, 5));
-    assert_eq!(rt; ends(range.slice(4..)), (4, 6));
-    assert_eq!(rt; ends(range.slice(..3)), (2, 3));
-    assert_eq!(rt; ends(range.slice(..=9)), (2, 6));
-    assert_eq!(rt; ends(range.slice(..)), (2, 6));
-    assert!(rt; range.slice(3..5).eq_slice(&[8, 9]));
-    assert!(rt; !range.slice(3..5).eq_slice(&[8]));
-    assert!(rt; !range.slice(3..5).eq_slice(&[8, 10]));
+    equal!(rt; ends(range.slice(0..4)), (2, 4));
+    equal!(rt; ends(range.slice(3..=4)), (3, 5));
+    equal!(rt; ends(range.slice(4..)), (4, 6));
+    equal!(rt; ends(range.slice(..3)), (2, 3));
+    equal!(rt; ends(range.slice(..=9)), (2, 6));
+    equal!(rt; ends(range.slice(..)), (2, 6));
+    holds!(rt; range.slice(3..5).eq_slice(&[8, 9]));
+    holds!(rt; !range.slice(3..5).eq_slice(&[8]));
+    holds!(rt; !range.slice(3..5).eq_slice(&[8, 10]));
     Ok(())
 }
 
@@ -79,49 +80,49 @@ fn ranges_are_compared(rt: HostRuntime) -> Result<(), Fail> {
     let column = bytes.as_slice();
     let two = Slice::new(0, 2, column);
     let three = Slice::new(2, 5, column);
-    assert!(rt; rises(&three, &two));
-    assert!(rt; rises(&Slice::new(2, 4, column), &three));
-    assert!(rt; agrees(&three, &Slice::new(5, 8, column)));
-    assert!(rt; rises_as_row(&three, &two));
-    assert_eq!(rt; three.as_slice(), [1, 2, 3].as_slice());
-    assert_eq!(rt; hash_of(&three), hash_of(&three.as_slice()));
+    holds!(rt; rises(&three, &two));
+    holds!(rt; rises(&Slice::new(2, 4, column), &three));
+    holds!(rt; agrees(&three, &Slice::new(5, 8, column)));
+    holds!(rt; rises_as_row(&three, &two));
+    equal!(rt; three.as_slice(), [1, 2, 3].as_slice());
+    equal!(rt; hash_of(&three), hash_of(&three.as_slice()));
     Ok(())
 }
 
 #[test]
 fn rows_are_ordered(rt: HostRuntime) -> Result<(), Fail> {
-    assert!(rt; rises_as_row(&1u8, &2));
-    assert!(rt; rises_as_row(&255u16, &256));
-    assert!(rt; rises_as_row(&255u32, &256));
-    assert!(rt; rises_as_row(&255u64, &256));
-    assert!(rt; rises_as_row(&255u128, &256));
-    assert!(rt; rises_as_row(&255usize, &256));
-    assert!(rt; rises_as_row(&-1i8, &1));
-    assert!(rt; rises_as_row(&-1i16, &1));
-    assert!(rt; rises_as_row(&-1i32, &1));
-    assert!(rt; rises_as_row(&-1i64, &1));
-    assert!(rt; rises_as_row(&-1i128, &1));
-    assert!(rt; rises_as_row(&-1isize, &1));
-    assert!(rt; rises_as_row(&Wrapping(1u8), &Wrapping(2)));
-    assert!(rt; rises_as_row(&&1u8, &&2));
-    assert!(rt; rises_as_row(&'a', &'b'));
-    assert!(rt; rises_as_row(&[1u8, 2], &[1, 3]));
-    assert!(rt; rises_as_row(&[1u8, 2].as_slice(), &[2].as_slice()));
-    assert!(rt; rises_as_row(&Duration::new(1, 9), &Duration::new(2, 0)));
+    holds!(rt; rises_as_row(&1u8, &2));
+    holds!(rt; rises_as_row(&255u16, &256));
+    holds!(rt; rises_as_row(&255u32, &256));
+    holds!(rt; rises_as_row(&255u64, &256));
+    holds!(rt; rises_as_row(&255u128, &256));
+    holds!(rt; rises_as_row(&255usize, &256));
+    holds!(rt; rises_as_row(&-1i8, &1));
+    holds!(rt; rises_as_row(&-1i16, &1));
+    holds!(rt; rises_as_row(&-1i32, &1));
+    holds!(rt; rises_as_row(&-1i64, &1));
+    holds!(rt; rises_as_row(&-1i128, &1));
+    holds!(rt; rises_as_row(&-1isize, &1));
+    holds!(rt; rises_as_row(&Wrapping(1u8), &Wrapping(2)));
+    holds!(rt; rises_as_row(&&1u8, &&2));
+    holds!(rt; rises_as_row(&'a', &'b'));
+    holds!(rt; rises_as_row(&[1u8, 2], &[1, 3]));
+    holds!(rt; rises_as_row(&[1u8, 2].as_slice(), &[2].as_slice()));
+    holds!(rt; rises_as_row(&Duration::new(1, 9), &Duration::new(2, 0)));
     Ok(())
 }
 
 #[test]
 fn rows_of_parts_are_ordered(rt: HostRuntime) -> Result<(), Fail> {
-    assert!(rt; rises_as_row(&(false, 9u8), &(true, 1)));
-    assert!(rt; rises_as_row(&(1u8, ((), 1u8)), &(1, ((), 2))));
-    assert!(rt; rises_as_row(&(1u8,), &(2,)));
-    assert!(rt; rises_as_row(&(1u8, 1u8, 1u8), &(1, 1, 2)));
-    assert!(rt; rises_as_row(&None, &Some(0u8)));
-    assert!(rt; rises_as_row(&Some(1u8), &Some(2)));
-    assert!(rt; rises_as_row(&Ok::<u8, u8>(9), &Err(1)));
-    assert!(rt; rises_as_row(&Err::<u8, u8>(1), &Err(2)));
-    assert!(rt; rises_as_row(&Boxed(1u8), &Boxed(2)));
+    holds!(rt; rises_as_row(&(false, 9u8), &(true, 1)));
+    holds!(rt; rises_as_row(&(1u8, ((), 1u8)), &(1, ((), 2))));
+    holds!(rt; rises_as_row(&(1u8,), &(2,)));
+    holds!(rt; rises_as_row(&(1u8, 1u8, 1u8), &(1, 1, 2)));
+    holds!(rt; rises_as_row(&None, &Some(0u8)));
+    holds!(rt; rises_as_row(&Some(1u8), &Some(2)));
+    holds!(rt; rises_as_row(&Ok::<u8, u8>(9), &Err(1)));
+    holds!(rt; rises_as_row(&Err::<u8, u8>(1), &Err(2)));
+    holds!(rt; rises_as_row(&Boxed(1u8), &Boxed(2)));
     Ok(())
 }
 
@@ -129,10 +130,10 @@ fn rows_of_parts_are_ordered(rt: HostRuntime) -> Result<(), Fail> {
 fn ranges_print_their_rows(rt: HostRuntime) -> Result<(), Fail> {
     let items = [5u64, 6, 7];
     let rows = Slice::whole(View::from_slice(items.as_slice()));
-    assert_eq!(rt; ends(rows), (0, 3));
+    equal!(rt; ends(rows), (0, 3));
     let text = format!(in rt.alloc(); "{rows:?}")?;
-    assert_eq!(rt; text.as_str(), "[5, 6, 7]");
+    equal!(rt; text.as_str(), "[5, 6, 7]");
     let text = format!(in rt.alloc(); "{:?}", Slice::new(1, 1, items.as_slice()))?;
-    assert_eq!(rt; text.as_str(), "[]");
+    equal!(rt; text.as_str(), "[]");
     Ok(())
 }

@@ -3,7 +3,7 @@ ghost use Rattle.std.specs.Prelude.{◌≡◌, IsTrue};
 ghost use Rattle.columnar_base.specs.Format.{representable};
 
 use columnar_core::bytes::{AsBytes, Check, Stored};
-use columnar_core::container::{Borrow, ContainerBytes, ExtendFrom, Reborrow, Storage, Truncate};
+use columnar_core::container::{Borrow, ContainerBytes, ExtendFrom, Reborrow, Storage};
 use columnar_core::fault::{GrowError, StoreFault};
 use columnar_core::traits::{Clear, Len, Push, PushRef};
 use columnar_core::view::View;
@@ -16,7 +16,8 @@ use columnar_primitive::numbers::{Isizes, Usizes};
 use std::marker::PhantomData;
 use std::test::Fail;
 use std::time::Duration;
-use test_support::columns::{copy_all, count, row_at};
+use test_support::columns::{copied, copy_all, count, cut, row_at};
+use test_support::{equal, holds};
 
 type Sizes = Usizes<Vec<u64>>;
 
@@ -45,77 +46,74 @@ fn checked<V: Check>(view: &V) -> Result<(), StoreFault>
 #[test]
 fn sizes_are_rows(rt: HostRuntime) -> Result<(), Fail> {
     let mut column = Sizes::empty(rt.alloc());
-    assert!(rt; column.push(1usize).is_ok());
-    assert!(rt; column.push(&2usize).is_ok());
-    assert!(rt; column.push_ref(&3usize).is_ok());
-    assert!(rt; Push::extend(&mut column, [4usize, 5].iter().copied()).is_ok());
-    assert_eq!(rt; count(&column), 5);
-    assert_eq!(rt; column.values.as_slice(), [1, 2, 3, 4, 5].as_slice());
-    assert_eq!(rt; row_at(&column, 3), Some(4));
-    assert_eq!(rt; row_at(&column.borrow(), 4), Some(5));
-    assert_eq!(rt; row_at(&&column, 2), Some(3));
-    assert!(rt; column.borrow().check().is_ok());
+    holds!(rt; column.push(1usize).is_ok());
+    holds!(rt; column.push(&2usize).is_ok());
+    holds!(rt; column.push_ref(&3usize).is_ok());
+    holds!(rt; Push::extend(&mut column, [4usize, 5].iter().copied()).is_ok());
+    equal!(rt; count(&column), 5);
+    equal!(rt; column.values.as_slice(), [1, 2, 3, 4, 5].as_slice());
+    equal!(rt; row_at(&column, 3), Some(4));
+    equal!(rt; row_at(&column.borrow(), 4), Some(5));
+    equal!(rt; row_at(&&column, 2), Some(3));
+    holds!(rt; column.borrow().check().is_ok());
     let mut copy = Sizes::with_capacity_for(rt.alloc(), [column.borrow()].iter().copied())?;
-    assert!(rt; copy_all(&mut copy, column.borrow()).is_ok());
-    assert!(rt;
-        copy.extend_from_self(column.borrow().reborrow(), 1..3)
-            .is_ok()
-    );
-    assert!(rt; copy.reserve_for([column.borrow()].iter().copied()).is_ok());
-    assert_eq!(rt; copy.values.as_slice(), [1, 2, 3, 4, 5, 2, 3].as_slice());
-    copy.truncate(2);
-    assert_eq!(rt; copy.values.as_slice(), [1, 2].as_slice());
+    holds!(rt; copy_all(&mut copy, column.borrow()).is_ok());
+    holds!(rt; copied(&mut copy, column.borrow().reborrow(), 1, 3));
+    holds!(rt; copy.reserve_for([column.borrow()].iter().copied()).is_ok());
+    equal!(rt; copy.values.as_slice(), [1, 2, 3, 4, 5, 2, 3].as_slice());
+    cut(&mut copy, 2);
+    equal!(rt; copy.values.as_slice(), [1, 2].as_slice());
     let again = copy.duplicate(rt.alloc())?;
-    assert_eq!(rt; again.values.as_slice(), [1, 2].as_slice());
+    equal!(rt; again.values.as_slice(), [1, 2].as_slice());
     copy.clear();
-    assert!(rt; copy.is_empty());
+    holds!(rt; copy.is_empty());
     let mut sizes = Vec::new(rt.alloc());
-    assert!(rt; Sizes::element_sizes(&mut sizes).is_ok());
-    assert_eq!(rt; sizes.as_slice(), [8].as_slice());
-    assert_eq!(rt; column.borrow().get_byte_slice(0).1.len(), 40);
-    assert_eq!(rt; column.byte_slice(0).len(), 40);
+    holds!(rt; Sizes::element_sizes(&mut sizes).is_ok());
+    equal!(rt; sizes.as_slice(), [8].as_slice());
+    equal!(rt; column.borrow().get_byte_slice(0).1.len(), 40);
+    equal!(rt; column.byte_slice(0).len(), 40);
     Ok(())
 }
 
 #[test]
 fn differences_are_rows(rt: HostRuntime) -> Result<(), Fail> {
     let mut column = Differences::empty(rt.alloc());
-    assert!(rt; column.push(-1isize).is_ok());
-    assert!(rt; column.push(&isize::MIN).is_ok());
-    assert_eq!(rt; column.values.as_slice(), [-1, i64::MIN].as_slice());
-    assert_eq!(rt; row_at(&column.borrow(), 0), Some(-1));
-    assert_eq!(rt; row_at(&column.borrow(), 1), Some(isize::MIN));
+    holds!(rt; column.push(-1isize).is_ok());
+    holds!(rt; column.push(&isize::MIN).is_ok());
+    equal!(rt; column.values.as_slice(), [-1, i64::MIN].as_slice());
+    equal!(rt; row_at(&column.borrow(), 0), Some(-1));
+    equal!(rt; row_at(&column.borrow(), 1), Some(isize::MIN));
     Ok(())
 }
 
 #[test]
 fn large_numbers_are_rows(rt: HostRuntime) -> Result<(), Fail> {
     let mut column = Large::empty(rt.alloc());
-    assert!(rt; column.push(1u128).is_ok());
-    assert!(rt; column.push(&u128::MAX).is_ok());
+    holds!(rt; column.push(1u128).is_ok());
+    holds!(rt; column.push(&u128::MAX).is_ok());
     let one = [1, 0, 0, 0, 0, 0, 0, 0, 0, 0, 0, 0, 0, 0, 0, 0];
-    assert_eq!(rt; column.values.as_slice(), [one, [255; 16]].as_slice());
-    assert_eq!(rt; row_at(&column.borrow(), 0), Some(1));
-    assert_eq!(rt; row_at(&column.borrow(), 1), Some(u128::MAX));
+    equal!(rt; column.values.as_slice(), [one, [255; 16]].as_slice());
+    equal!(rt; row_at(&column.borrow(), 0), Some(1));
+    equal!(rt; row_at(&column.borrow(), 1), Some(u128::MAX));
     let mut signed = LargeSigned::empty(rt.alloc());
-    assert!(rt; signed.push(-1i128).is_ok());
-    assert!(rt; signed.push(&i128::MIN).is_ok());
+    holds!(rt; signed.push(-1i128).is_ok());
+    holds!(rt; signed.push(&i128::MIN).is_ok());
     let least = [0, 0, 0, 0, 0, 0, 0, 0, 0, 0, 0, 0, 0, 0, 0, 128];
-    assert_eq!(rt; signed.values.as_slice(), [[255; 16], least].as_slice());
-    assert_eq!(rt; row_at(&signed.borrow(), 0), Some(-1));
-    assert_eq!(rt; row_at(&signed.borrow(), 1), Some(i128::MIN));
+    equal!(rt; signed.values.as_slice(), [[255; 16], least].as_slice());
+    equal!(rt; row_at(&signed.borrow(), 0), Some(-1));
+    equal!(rt; row_at(&signed.borrow(), 1), Some(i128::MIN));
     Ok(())
 }
 
 #[test]
 fn characters_are_rows(rt: HostRuntime) -> Result<(), Fail> {
     let mut column = Characters::empty(rt.alloc());
-    assert!(rt; column.push('a').is_ok());
-    assert!(rt; column.push(&'\u{10FFFF}').is_ok());
-    assert_eq!(rt; column.values.as_slice(), [97, 0x10FFFF].as_slice());
-    assert_eq!(rt; row_at(&column.borrow(), 0), Some('a'));
-    assert_eq!(rt; row_at(&column.borrow(), 1), Some('\u{10FFFF}'));
-    assert_eq!(rt; checked(&column.borrow()), Ok(()));
+    holds!(rt; column.push('a').is_ok());
+    holds!(rt; column.push(&'\u{10FFFF}').is_ok());
+    equal!(rt; column.values.as_slice(), [97, 0x10FFFF].as_slice());
+    equal!(rt; row_at(&column.borrow(), 0), Some('a'));
+    equal!(rt; row_at(&column.borrow(), 1), Some('\u{10FFFF}'));
+    equal!(rt; checked(&column.borrow()), Ok(()));
     for (codes, wanted) in [
         ([0xD7FF, 0xE000], Ok(())),
         ([97, 0xD800], Err(StoreFault::Value(0))),
@@ -126,35 +124,35 @@ fn characters_are_rows(rt: HostRuntime) -> Result<(), Fail> {
             values: View::from_slice(codes.as_slice()),
             of: PhantomData,
         };
-        assert_eq!(rt; checked(&view), wanted);
+        equal!(rt; checked(&view), wanted);
     }
     let short: Chars<View<'_, u32>> = Chars {
         values: View::from_le_bytes([97, 0, 0].as_slice()),
         of: PhantomData,
     };
-    assert_eq!(rt; checked(&short), Err(StoreFault::ElementSize(0)));
+    equal!(rt; checked(&short), Err(StoreFault::ElementSize(0)));
     Ok(())
 }
 
 #[test]
 fn durations_are_rows(rt: HostRuntime) -> Result<(), Fail> {
     let mut column = Times::empty(rt.alloc());
-    assert!(rt; column.push(Duration::new(17, 42)).is_ok());
-    assert!(rt; column.push(&Duration::new(1, 999_999_999)).is_ok());
-    assert!(rt; column.push_ref(&Duration::ZERO).is_ok());
-    assert!(rt; column.push_parts(u64::MAX, 5).is_ok());
-    assert_eq!(rt; count(&column), 4);
-    assert_eq!(rt; column.seconds.as_slice(), [17, 1, 0, u64::MAX].as_slice());
-    assert_eq!(rt;
+    holds!(rt; column.push(Duration::new(17, 42)).is_ok());
+    holds!(rt; column.push(&Duration::new(1, 999_999_999)).is_ok());
+    holds!(rt; column.push_ref(&Duration::ZERO).is_ok());
+    holds!(rt; column.push_parts(u64::MAX, 5).is_ok());
+    equal!(rt; count(&column), 4);
+    equal!(rt; column.seconds.as_slice(), [17, 1, 0, u64::MAX].as_slice());
+    equal!(rt;
         column.nanoseconds.as_slice(),
         [42, 999_999_999, 0, 5].as_slice()
     );
-    assert_eq!(rt;
+    equal!(rt;
         row_at(&column.borrow(), 1),
         Some(Duration::new(1, 999_999_999))
     );
-    assert_eq!(rt; row_at(&&column, 0), Some(Duration::new(17, 42)));
-    assert!(rt; column.borrow().check().is_ok());
+    equal!(rt; row_at(&&column, 0), Some(Duration::new(17, 42)));
+    holds!(rt; column.borrow().check().is_ok());
     Ok(())
 }
 
@@ -164,14 +162,14 @@ fn durations_are_copied_and_cut(rt: HostRuntime) -> Result<(), Fail> {
     column.push(Duration::new(17, 42))?;
     column.push(Duration::new(1, 999_999_999))?;
     let mut copy = Times::with_capacity_for(rt.alloc(), [column.borrow()].iter().copied())?;
-    assert!(rt; copy_all(&mut copy, column.borrow()).is_ok());
-    assert!(rt; copy == column);
-    assert!(rt; copy.extend_from_self(column.borrow(), 1..2).is_ok());
-    assert_eq!(rt; copy.seconds.as_slice(), [17, 1, 1].as_slice());
-    copy.truncate(1);
-    assert_eq!(rt; copy.nanoseconds.as_slice(), [42].as_slice());
+    holds!(rt; copy_all(&mut copy, column.borrow()).is_ok());
+    holds!(rt; copy == column);
+    holds!(rt; copied(&mut copy, column.borrow(), 1, 2));
+    equal!(rt; copy.seconds.as_slice(), [17, 1, 1].as_slice());
+    cut(&mut copy, 1);
+    equal!(rt; copy.nanoseconds.as_slice(), [42].as_slice());
     copy.clear();
-    assert!(rt; copy.is_empty());
+    holds!(rt; copy.is_empty());
     Ok(())
 }
 
@@ -194,34 +192,34 @@ fn parts_of_durations_are_judged(rt: HostRuntime) -> Result<(), Fail> {
             seconds: View::from_slice(seconds.as_slice()),
             nanoseconds: View::from_slice(nanoseconds),
         };
-        assert_eq!(rt; view.check(), wanted);
+        equal!(rt; view.check(), wanted);
     }
     let mut sizes = Vec::new(rt.alloc());
-    assert!(rt; Times::element_sizes(&mut sizes).is_ok());
-    assert_eq!(rt; sizes.as_slice(), [8, 4].as_slice());
+    holds!(rt; Times::element_sizes(&mut sizes).is_ok());
+    equal!(rt; sizes.as_slice(), [8, 4].as_slice());
     Ok(())
 }
 
 #[test]
 fn units_are_counted(rt: HostRuntime) -> Result<(), Fail> {
     let mut column = Units::empty(rt.alloc());
-    assert!(rt; column.push(()).is_ok());
-    assert!(rt; column.push(&()).is_ok());
-    assert!(rt; column.push_ref(&()).is_ok());
-    assert_eq!(rt; count(&column), 3);
-    assert_eq!(rt; column.count.count(), 3);
-    assert_eq!(rt; row_at(&column, 2), Some(()));
-    assert_eq!(rt; row_at(&&column, 2), Some(&()));
-    assert!(rt; column.borrow().check().is_ok());
-    assert_eq!(rt; column.borrow().len(), 3);
+    holds!(rt; column.push(()).is_ok());
+    holds!(rt; column.push(&()).is_ok());
+    holds!(rt; column.push_ref(&()).is_ok());
+    equal!(rt; count(&column), 3);
+    equal!(rt; column.count.count(), 3);
+    equal!(rt; row_at(&column, 2), Some(()));
+    equal!(rt; row_at(&&column, 2), Some(&()));
+    holds!(rt; column.borrow().check().is_ok());
+    equal!(rt; column.borrow().len(), 3);
     let mut copy = Units::empty(rt.alloc());
-    assert!(rt; copy_all(&mut copy, column.borrow()).is_ok());
-    assert!(rt; copy.extend_from_self(column.borrow(), 1..3).is_ok());
-    assert_eq!(rt; copy.count, 5);
-    copy.truncate(4);
-    assert_eq!(rt; copy.count, 4);
+    holds!(rt; copy_all(&mut copy, column.borrow()).is_ok());
+    holds!(rt; copied(&mut copy, column.borrow(), 1, 3));
+    equal!(rt; copy.count, 5);
+    cut(&mut copy, 4);
+    equal!(rt; copy.count, 4);
     copy.clear();
-    assert!(rt; copy.is_empty());
+    holds!(rt; copy.is_empty());
     Ok(())
 }
 
@@ -233,14 +231,14 @@ fn units_are_held_up_to_the_greatest_number(rt: HostRuntime) -> Result<(), Fail>
         count: u64::MAX - 1,
         empty: (),
     };
-    assert_eq!(rt; full.push(()), Ok(()));
-    assert_eq!(rt; full.push(()), Err(GrowError::Length));
-    assert_eq!(rt;
+    equal!(rt; full.push(()), Ok(()));
+    equal!(rt; full.push(()), Err(GrowError::Length));
+    equal!(rt;
         full.extend_from_self(column.borrow(), 0..1),
         Err(GrowError::Length)
     );
-    assert_eq!(rt; full.extend_from_self(column.borrow(), 1..1), Ok(()));
-    assert_eq!(rt; full.count, u64::MAX);
+    equal!(rt; full.extend_from_self(column.borrow(), 1..1), Ok(()));
+    equal!(rt; full.count, u64::MAX);
     Ok(())
 }
 
@@ -250,11 +248,11 @@ fn a_number_of_units_is_one_word(rt: HostRuntime) -> Result<(), Fail> {
         count: View::from_slice([1, 2].as_slice()),
         empty: (),
     };
-    assert_eq!(rt; two.check(), Err(StoreFault::HeadSize(0)));
+    equal!(rt; two.check(), Err(StoreFault::HeadSize(0)));
     let none: Empties<View<'_, u64>> = Empties {
         count: View::from_le_bytes([].as_slice()),
         empty: (),
     };
-    assert_eq!(rt; none.check(), Err(StoreFault::HeadSize(0)));
+    equal!(rt; none.check(), Err(StoreFault::HeadSize(0)));
     Ok(())
 }

@@ -15,6 +15,7 @@ use test_support::stores::front;
 use test_support::trials::{
     Trial, both_pushes_keep, calls_keep, is_lawful, pushes_keep, run_keeps,
 };
+use test_support::{equal, holds};
 
 type Numbers = Vec<u64>;
 
@@ -59,12 +60,12 @@ fn columns_of_numbers(rt: HostRuntime) -> Result<(), Fail> {
         into: NUMBERS.as_slice(),
         with_taken: NUMBERS_AND_ONE.as_slice(),
     };
-    assert!(rt; is_lawful::<Numbers>(alloc, &trial));
+    holds!(rt; is_lawful::<Numbers>(alloc, &trial));
     let Some(source) = opened::<Numbers>(alloc, trial.source) else {
         return Ok(());
     };
-    assert!(rt; pushes_keep::<u64, Numbers>(alloc, &5, &trial));
-    assert!(rt; calls_keep::<_, Numbers>(alloc, source.borrow(), &trial));
+    holds!(rt; pushes_keep::<u64, Numbers>(alloc, &5, &trial));
+    holds!(rt; calls_keep::<_, Numbers>(alloc, source.borrow(), &trial));
     Ok(())
 }
 
@@ -80,12 +81,12 @@ fn columns_of_pairs(rt: HostRuntime) -> Result<(), Fail> {
         into: PAIRS.as_slice(),
         with_taken: PAIRS_AND_ONE.as_slice(),
     };
-    assert!(rt; is_lawful::<Pairs>(alloc, &trial));
+    holds!(rt; is_lawful::<Pairs>(alloc, &trial));
     let Some(source) = opened::<Pairs>(alloc, trial.source) else {
         return Ok(());
     };
-    assert!(rt; pushes_keep::<(u64, u64), Pairs>(alloc, &(5, 50), &trial));
-    assert!(rt; calls_keep::<_, Pairs>(alloc, source.borrow(), &trial));
+    holds!(rt; pushes_keep::<(u64, u64), Pairs>(alloc, &(5, 50), &trial));
+    holds!(rt; calls_keep::<_, Pairs>(alloc, source.borrow(), &trial));
     Ok(())
 }
 
@@ -102,17 +103,17 @@ fn columns_of_lists(rt: HostRuntime) -> Result<(), Fail> {
         into: LISTS.as_slice(),
         with_taken: LISTS_AND_ONE.as_slice(),
     };
-    assert!(rt; is_lawful::<Lists>(alloc, &trial));
+    holds!(rt; is_lawful::<Lists>(alloc, &trial));
     let pairs = (
         View::from_slice(FIRSTS.as_slice()),
         View::from_slice(SECONDS.as_slice()),
     );
-    assert!(rt; pairs.check().is_ok());
+    holds!(rt; pairs.check().is_ok());
     let Some(source) = opened::<Lists>(alloc, trial.source) else {
         return Ok(());
     };
-    assert!(rt; both_pushes_keep::<_, Lists>(alloc, Slice::new(0, 2, pairs), &trial));
-    assert!(rt; calls_keep::<_, Lists>(alloc, source.borrow(), &trial));
+    holds!(rt; both_pushes_keep::<_, Lists>(alloc, Slice::new(0, 2, pairs), &trial));
+    holds!(rt; calls_keep::<_, Lists>(alloc, source.borrow(), &trial));
     Ok(())
 }
 
@@ -131,15 +132,15 @@ fn columns_of_slices(rt: HostRuntime) -> Result<(), Fail> {
         into: before.as_slice(),
         with_taken: before.as_slice(),
     };
-    assert!(rt; is_lawful::<Numbered>(alloc, &trial));
-    assert!(rt; both_pushes_keep::<&[u64], Numbered>(alloc, FIRSTS.as_slice(), &trial));
+    holds!(rt; is_lawful::<Numbered>(alloc, &trial));
+    holds!(rt; both_pushes_keep::<&[u64], Numbered>(alloc, FIRSTS.as_slice(), &trial));
     let Ok(item) = FIRSTS.to_vec(alloc) else {
         return Ok(());
     };
     let Some(mut stash) = opened::<Numbered>(alloc, trial.before) else {
         return Ok(());
     };
-    assert!(rt; push_ref_keeps(&mut stash, &item, trial.before, trial.after));
+    holds!(rt; push_ref_keeps(&mut stash, &item, trial.before, trial.after));
     Ok(())
 }
 
@@ -156,16 +157,16 @@ fn a_second_part_that_is_refused(rt: HostRuntime) -> Result<(), Fail> {
         return Ok(());
     };
     let mut pairs = (first, second);
-    assert!(rt; pairs.borrow().check().is_ok());
+    holds!(rt; pairs.borrow().check().is_ok());
     match pairs.push((5u64, 50u64)) {
         Ok(()) => {
-            assert_eq!(rt; pairs.0.as_slice(), [1, 2, 3, 4, 5].as_slice());
-            assert_eq!(rt; pairs.1.as_slice(), [10, 20, 30, 40, 50].as_slice());
+            equal!(rt; pairs.0.as_slice(), [1, 2, 3, 4, 5].as_slice());
+            equal!(rt; pairs.1.as_slice(), [10, 20, 30, 40, 50].as_slice());
         }
         Err(error) => {
-            assert_eq!(rt; error, GrowError::Memory);
-            assert_eq!(rt; pairs.0.as_slice(), [1, 2, 3, 4].as_slice());
-            assert_eq!(rt; pairs.1.as_slice(), [10, 20, 30, 40].as_slice());
+            equal!(rt; error, GrowError::Memory);
+            equal!(rt; pairs.0.as_slice(), [1, 2, 3, 4].as_slice());
+            equal!(rt; pairs.1.as_slice(), [10, 20, 30, 40].as_slice());
         }
     }
     Ok(())
@@ -174,11 +175,11 @@ fn a_second_part_that_is_refused(rt: HostRuntime) -> Result<(), Fail> {
 #[test]
 fn sizes_of_elements(rt: HostRuntime) -> Result<(), Fail> {
     let mut sizes = Vec::new(rt.alloc());
-    assert!(rt; sizes_keep::<Numbers>(&mut sizes));
-    assert!(rt; sizes_keep::<Pairs>(&mut sizes));
-    assert!(rt; sizes_keep::<Lists>(&mut sizes));
-    assert!(rt; sizes_keep::<Beside>(&mut sizes));
-    assert!(rt; sizes.iter().all(|size| *size == 8));
+    holds!(rt; sizes_keep::<Numbers>(&mut sizes));
+    holds!(rt; sizes_keep::<Pairs>(&mut sizes));
+    holds!(rt; sizes_keep::<Lists>(&mut sizes));
+    holds!(rt; sizes_keep::<Beside>(&mut sizes));
+    holds!(rt; sizes.iter().all(|size| *size == 8));
     Ok(())
 }
 
@@ -190,12 +191,12 @@ fn extensions_of_numbers(rt: HostRuntime) -> Result<(), Fail> {
         return Ok(());
     };
     match Push::extend(&mut stash, [5u64, 6, 7, 8, 9].iter().copied()) {
-        Ok(()) => assert!(rt; has(&stash, rows.as_slice())),
+        Ok(()) => holds!(rt; has(&stash, rows.as_slice())),
         Err(error) => {
-            assert_eq!(rt; error, GrowError::Memory);
+            equal!(rt; error, GrowError::Memory);
             let count = stash.len();
-            assert!(rt; 4 <= count && count < 9);
-            assert!(rt; has(&stash, front(rows.as_slice(), count)));
+            holds!(rt; 4 <= count && count < 9);
+            holds!(rt; has(&stash, front(rows.as_slice(), count)));
         }
     }
     Ok(())
@@ -221,14 +222,14 @@ fn extensions_of_pairs(rt: HostRuntime) -> Result<(), Fail> {
     let done = Push::extend(&mut pairs, items.iter().copied());
     let count = pairs.len();
     match done {
-        Ok(()) => assert_eq!(rt; count, 9),
+        Ok(()) => equal!(rt; count, 9),
         Err(error) => {
-            assert_eq!(rt; error, GrowError::Memory);
-            assert!(rt; count < 9);
+            equal!(rt; error, GrowError::Memory);
+            holds!(rt; count < 9);
         }
     }
-    assert_eq!(rt; pairs.0.as_slice(), front(firsts.as_slice(), count));
-    assert_eq!(rt; pairs.1.as_slice(), front(seconds.as_slice(), count));
+    equal!(rt; pairs.0.as_slice(), front(firsts.as_slice(), count));
+    equal!(rt; pairs.1.as_slice(), front(seconds.as_slice(), count));
     Ok(())
 }
 
@@ -247,7 +248,7 @@ fn runs_over_numbers(rt: HostRuntime) -> Result<(), Fail> {
         let Some(stash) = opened::<Numbers>(rt.alloc(), before) else {
             return Ok(());
         };
-        assert!(rt; run_keeps(rt.alloc(), stash, view, [command].as_slice(), before, after));
+        holds!(rt; run_keeps(rt.alloc(), stash, view, [command].as_slice(), before, after));
     }
     Ok(())
 }
@@ -258,13 +259,13 @@ fn a_run_over_pairs(rt: HostRuntime) -> Result<(), Fail> {
         View::from_slice(FIRSTS.as_slice()),
         View::from_slice(SECONDS.as_slice()),
     );
-    assert!(rt; pairs.check().is_ok());
+    holds!(rt; pairs.check().is_ok());
     let Some(stash) = opened::<Pairs>(rt.alloc(), PAIRS.as_slice()) else {
         return Ok(());
     };
     let commands = [Command::Push((5u64, 50u64))];
     let before = PAIRS.as_slice();
     let after = PAIRS_AND_ONE.as_slice();
-    assert!(rt; run_keeps(rt.alloc(), stash, pairs, commands.as_slice(), before, after));
+    holds!(rt; run_keeps(rt.alloc(), stash, pairs, commands.as_slice(), before, after));
     Ok(())
 }

@@ -9,6 +9,7 @@ use std::test::Fail;
 use test_support::columns::row_at;
 use test_support::stashes::{has, opened, variant, writes};
 use test_support::stores::bytes_of;
+use test_support::{equal, holds};
 
 type Numbers = Stash<Vec<u64>, Vec<u8>>;
 
@@ -34,34 +35,34 @@ fn held<C: Stored, B: ByteStore>(stash: &Stash<C, B>) -> &[u8] {
 fn a_column_grows_and_is_cut(rt: HostRuntime) -> Result<(), Fail> {
     let source = [5, 6, 7];
     let mut stash = Numbers::empty(rt.alloc());
-    assert!(rt; stash.is_empty());
-    assert!(rt; stash.push(1u64).is_ok());
-    assert!(rt; stash.push(&2u64).is_ok());
-    assert!(rt; stash.push_ref(&3u64).is_ok());
-    assert!(rt;
+    holds!(rt; stash.is_empty());
+    holds!(rt; stash.push(1u64).is_ok());
+    holds!(rt; stash.push(&2u64).is_ok());
+    holds!(rt; stash.push_ref(&3u64).is_ok());
+    holds!(rt;
         stash
             .extend_from_self(View::from_slice(source.as_slice()), 1..3)
             .is_ok()
     );
-    assert!(rt; has(&stash, [1, 2, 3, 6, 7].as_slice()));
-    assert_eq!(rt; stash.length_in_bytes(), Some(56));
+    holds!(rt; has(&stash, [1, 2, 3, 6, 7].as_slice()));
+    equal!(rt; stash.length_in_bytes(), Some(56));
     if stash.len() > 1 {
-        assert!(rt; stash.truncate(1).is_ok());
+        holds!(rt; stash.truncate(1).is_ok());
     }
-    assert!(rt; writes(&stash, [16, 24, 1].as_slice()));
+    holds!(rt; writes(&stash, [16, 24, 1].as_slice()));
     stash.clear();
-    assert!(rt; writes(&stash, [16, 16].as_slice()));
-    assert_eq!(rt; variant(&stash), 0);
+    holds!(rt; writes(&stash, [16, 16].as_slice()));
+    equal!(rt; variant(&stash), 0);
     Ok(())
 }
 
 #[test]
 fn opened_bytes_are_given_back_as_they_are(rt: HostRuntime) -> Result<(), Fail> {
     let stash = opened::<Vec<u64>>(rt.alloc(), WORD_BEHIND.as_slice()).expect(&rt, "opened");
-    assert!(rt; has(&stash, [7, 8].as_slice()));
-    assert_eq!(rt; stash.length_in_bytes(), Some(32));
-    assert_eq!(rt; held(&stash).len(), 40);
-    assert!(rt; writes(&stash, WORD_BEHIND.as_slice()));
+    holds!(rt; has(&stash, [7, 8].as_slice()));
+    equal!(rt; stash.length_in_bytes(), Some(32));
+    equal!(rt; held(&stash).len(), 40);
+    holds!(rt; writes(&stash, WORD_BEHIND.as_slice()));
     Ok(())
 }
 
@@ -70,13 +71,13 @@ fn borrowed_bytes_are_opened(rt: HostRuntime) -> Result<(), Fail> {
     let bytes = bytes_of(rt.alloc(), WORD_BEHIND.as_slice())?;
     let Ok(mut stash) = Stash::<Vec<u64>, &[u8]>::try_from_bytes(rt.alloc(), bytes.as_slice())
     else {
-        assert!(rt; false);
+        holds!(rt; false);
         return Ok(());
     };
-    assert!(rt; has(&stash, [7, 8].as_slice()));
-    assert!(rt; writes(&stash, WORD_BEHIND.as_slice()));
+    holds!(rt; has(&stash, [7, 8].as_slice()));
+    holds!(rt; writes(&stash, WORD_BEHIND.as_slice()));
     stash.clear();
-    assert!(rt; has(&stash, [].as_slice()));
+    holds!(rt; has(&stash, [].as_slice()));
     Ok(())
 }
 
@@ -84,13 +85,13 @@ fn borrowed_bytes_are_opened(rt: HostRuntime) -> Result<(), Fail> {
 fn shared_bytes_are_opened(rt: HostRuntime) -> Result<(), Fail> {
     let bytes = RcSlice::from_vec(bytes_of(rt.alloc(), WORD_BEHIND.as_slice())?)?;
     let Ok(mut stash) = Stash::<Vec<u64>, RcSlice<u8>>::try_from_bytes(rt.alloc(), bytes) else {
-        assert!(rt; false);
+        holds!(rt; false);
         return Ok(());
     };
-    assert!(rt; has(&stash, [7, 8].as_slice()));
-    assert!(rt; writes(&stash, WORD_BEHIND.as_slice()));
-    assert!(rt; stash.push(9u64).is_ok());
-    assert!(rt; has(&stash, [7, 8, 9].as_slice()));
+    holds!(rt; has(&stash, [7, 8].as_slice()));
+    holds!(rt; writes(&stash, WORD_BEHIND.as_slice()));
+    holds!(rt; stash.push(9u64).is_ok());
+    holds!(rt; has(&stash, [7, 8, 9].as_slice()));
     Ok(())
 }
 
@@ -105,18 +106,18 @@ fn row_through<'a, S: Borrow<'a>>(stash: &'a S, index: usize) -> Option<S::Ref>
 #[test]
 fn stashes_are_borrowed_through_the_trait(rt: HostRuntime) -> Result<(), Fail> {
     let stash = opened::<Vec<u64>>(rt.alloc(), WORD_BEHIND.as_slice()).expect(&rt, "opened");
-    assert_eq!(rt; row_through(&stash, 1), Some(8));
-    assert_eq!(rt; row_through(&stash, 2), None);
+    equal!(rt; row_through(&stash, 1), Some(8));
+    equal!(rt; row_through(&stash, 2), None);
     let aligned = stash.to_aligned(rt.alloc())?;
-    assert_eq!(rt; row_through(&aligned, 1), Some(8));
+    equal!(rt; row_through(&aligned, 1), Some(8));
     let bytes = bytes_of(rt.alloc(), WORD_BEHIND.as_slice())?;
     match Stash::<Vec<u64>, &[u8]>::try_from_bytes(rt.alloc(), bytes.as_slice()) {
-        Ok(stash) => assert_eq!(rt; row_through(&stash, 1), Some(8)),
-        Err(_) => assert!(rt; false),
+        Ok(stash) => equal!(rt; row_through(&stash, 1), Some(8)),
+        Err(_) => holds!(rt; false),
     }
     match Stash::<Vec<u64>, RcSlice<u8>>::try_from_bytes(rt.alloc(), RcSlice::from_vec(bytes)?) {
-        Ok(stash) => assert_eq!(rt; row_through(&stash, 1), Some(8)),
-        Err(_) => assert!(rt; false),
+        Ok(stash) => equal!(rt; row_through(&stash, 1), Some(8)),
+        Err(_) => holds!(rt; false),
     }
     Ok(())
 }
@@ -125,15 +126,15 @@ fn stashes_are_borrowed_through_the_trait(rt: HostRuntime) -> Result<(), Fail> {
 fn clones_write_what_their_sources_do(rt: HostRuntime) -> Result<(), Fail> {
     let stash = opened::<Vec<u64>>(rt.alloc(), WORD_BEHIND.as_slice()).expect(&rt, "opened");
     let copy = stash.clone()?;
-    assert_eq!(rt; variant(&copy), 1);
-    assert!(rt; writes(&copy, WORD_BEHIND.as_slice()));
+    equal!(rt; variant(&copy), 1);
+    holds!(rt; writes(&copy, WORD_BEHIND.as_slice()));
     let typed = stash.to_typed(rt.alloc())?.clone()?;
-    assert_eq!(rt; variant(&typed), 0);
-    assert!(rt; writes(&typed, SEVEN_EIGHT.as_slice()));
+    equal!(rt; variant(&typed), 0);
+    holds!(rt; writes(&typed, SEVEN_EIGHT.as_slice()));
     let aligned = stash.to_aligned(rt.alloc())?.clone()?;
-    assert_eq!(rt; variant(&aligned), 2);
-    assert!(rt; writes(&aligned, SEVEN_EIGHT.as_slice()));
-    assert!(rt; writes(&stash, WORD_BEHIND.as_slice()));
+    equal!(rt; variant(&aligned), 2);
+    holds!(rt; writes(&aligned, SEVEN_EIGHT.as_slice()));
+    holds!(rt; writes(&stash, WORD_BEHIND.as_slice()));
     Ok(())
 }
 
@@ -141,12 +142,12 @@ fn clones_write_what_their_sources_do(rt: HostRuntime) -> Result<(), Fail> {
 fn borrowed_and_shared_bytes_are_cloned(rt: HostRuntime) -> Result<(), Fail> {
     let bytes = bytes_of(rt.alloc(), WORD_BEHIND.as_slice())?;
     match Stash::<Vec<u64>, &[u8]>::try_from_bytes(rt.alloc(), bytes.as_slice()) {
-        Ok(stash) => assert!(rt; writes(&stash.clone()?, WORD_BEHIND.as_slice())),
-        Err(_) => assert!(rt; false),
+        Ok(stash) => holds!(rt; writes(&stash.clone()?, WORD_BEHIND.as_slice())),
+        Err(_) => holds!(rt; false),
     }
     match Stash::<Vec<u64>, RcSlice<u8>>::try_from_bytes(rt.alloc(), RcSlice::from_vec(bytes)?) {
-        Ok(stash) => assert!(rt; writes(&stash.clone()?, WORD_BEHIND.as_slice())),
-        Err(_) => assert!(rt; false),
+        Ok(stash) => holds!(rt; writes(&stash.clone()?, WORD_BEHIND.as_slice())),
+        Err(_) => holds!(rt; false),
     }
     Ok(())
 }
@@ -155,29 +156,29 @@ fn borrowed_and_shared_bytes_are_cloned(rt: HostRuntime) -> Result<(), Fail> {
 fn duplicates_have_the_same_rows(rt: HostRuntime) -> Result<(), Fail> {
     let mut stash = opened::<Vec<u64>>(rt.alloc(), WORD_BEHIND.as_slice()).expect(&rt, "opened");
     let mut copy = stash.duplicate(rt.alloc())?;
-    assert_eq!(rt; variant(&copy), 1);
-    assert!(rt; copy.push(9u64).is_ok());
+    equal!(rt; variant(&copy), 1);
+    holds!(rt; copy.push(9u64).is_ok());
     let again = copy.duplicate(rt.alloc())?;
-    assert_eq!(rt; variant(&again), 0);
-    assert!(rt; has(&again, [7, 8, 9].as_slice()));
-    assert!(rt; stash.make_aligned(rt.alloc()).is_ok());
+    equal!(rt; variant(&again), 0);
+    holds!(rt; has(&again, [7, 8, 9].as_slice()));
+    holds!(rt; stash.make_aligned(rt.alloc()).is_ok());
     let aligned = stash.duplicate(rt.alloc())?;
-    assert_eq!(rt; variant(&aligned), 2);
-    assert!(rt; has(&aligned, [7, 8].as_slice()));
+    equal!(rt; variant(&aligned), 2);
+    holds!(rt; has(&aligned, [7, 8].as_slice()));
     Ok(())
 }
 
 #[test]
 fn a_push_makes_a_column_of_bytes(rt: HostRuntime) -> Result<(), Fail> {
     let mut stash = opened::<Vec<u64>>(rt.alloc(), WORD_BEHIND.as_slice()).expect(&rt, "opened");
-    assert_eq!(rt; variant(&stash), 1);
-    assert!(rt; stash.push(1u64).is_ok());
-    assert_eq!(rt; variant(&stash), 0);
-    assert!(rt; stash.make_aligned(rt.alloc()).is_ok());
-    assert_eq!(rt; variant(&stash), 2);
-    assert!(rt; stash.push_ref(&2u64).is_ok());
-    assert_eq!(rt; variant(&stash), 0);
-    assert!(rt; has(&stash, [7, 8, 1, 2].as_slice()));
+    equal!(rt; variant(&stash), 1);
+    holds!(rt; stash.push(1u64).is_ok());
+    equal!(rt; variant(&stash), 0);
+    holds!(rt; stash.make_aligned(rt.alloc()).is_ok());
+    equal!(rt; variant(&stash), 2);
+    holds!(rt; stash.push_ref(&2u64).is_ok());
+    equal!(rt; variant(&stash), 0);
+    holds!(rt; has(&stash, [7, 8, 1, 2].as_slice()));
     Ok(())
 }
 
@@ -186,12 +187,12 @@ fn a_copy_makes_a_column_of_bytes(rt: HostRuntime) -> Result<(), Fail> {
     let source = [5, 6, 7];
     let view = View::from_slice(source.as_slice());
     let mut stash = opened::<Vec<u64>>(rt.alloc(), WORD_BEHIND.as_slice()).expect(&rt, "opened");
-    assert!(rt; stash.extend_from_self(view, 0..2).is_ok());
-    assert_eq!(rt; variant(&stash), 0);
-    assert!(rt; stash.make_aligned(rt.alloc()).is_ok());
-    assert!(rt; stash.extend_from_self(view, 3..3).is_ok());
-    assert_eq!(rt; variant(&stash), 0);
-    assert!(rt; has(&stash, [7, 8, 5, 6].as_slice()));
+    holds!(rt; stash.extend_from_self(view, 0..2).is_ok());
+    equal!(rt; variant(&stash), 0);
+    holds!(rt; stash.make_aligned(rt.alloc()).is_ok());
+    holds!(rt; stash.extend_from_self(view, 3..3).is_ok());
+    equal!(rt; variant(&stash), 0);
+    holds!(rt; has(&stash, [7, 8, 5, 6].as_slice()));
     Ok(())
 }
 
@@ -199,14 +200,14 @@ fn a_copy_makes_a_column_of_bytes(rt: HostRuntime) -> Result<(), Fail> {
 fn a_cut_and_a_clear_make_a_column_of_bytes(rt: HostRuntime) -> Result<(), Fail> {
     let mut stash = opened::<Vec<u64>>(rt.alloc(), WORD_BEHIND.as_slice()).expect(&rt, "opened");
     if stash.len() > 1 {
-        assert!(rt; stash.truncate(1).is_ok());
+        holds!(rt; stash.truncate(1).is_ok());
     }
-    assert_eq!(rt; variant(&stash), 0);
-    assert!(rt; has(&stash, [7].as_slice()));
-    assert!(rt; stash.make_aligned(rt.alloc()).is_ok());
+    equal!(rt; variant(&stash), 0);
+    holds!(rt; has(&stash, [7].as_slice()));
+    holds!(rt; stash.make_aligned(rt.alloc()).is_ok());
     stash.clear();
-    assert_eq!(rt; variant(&stash), 0);
-    assert!(rt; stash.is_empty());
+    equal!(rt; variant(&stash), 0);
+    holds!(rt; stash.is_empty());
     Ok(())
 }
 
@@ -215,13 +216,13 @@ fn room_is_made(rt: HostRuntime) -> Result<(), Fail> {
     let source = [5, 6, 7];
     let view = View::from_slice(source.as_slice());
     let mut stash = opened::<Vec<u64>>(rt.alloc(), WORD_BEHIND.as_slice()).expect(&rt, "opened");
-    assert!(rt; stash.reserve_for([view, view].iter().copied()).is_ok());
-    assert_eq!(rt; variant(&stash), 0);
-    assert!(rt; has(&stash, [7, 8].as_slice()));
+    holds!(rt; stash.reserve_for([view, view].iter().copied()).is_ok());
+    equal!(rt; variant(&stash), 0);
+    holds!(rt; has(&stash, [7, 8].as_slice()));
     let mut roomy = Numbers::with_capacity_for(rt.alloc(), [view].iter().copied())?;
-    assert!(rt; roomy.is_empty());
-    assert!(rt; roomy.reserve_for([view].iter().copied()).is_ok());
-    assert_eq!(rt; variant(&roomy), 0);
+    holds!(rt; roomy.is_empty());
+    holds!(rt; roomy.reserve_for([view].iter().copied()).is_ok());
+    equal!(rt; variant(&roomy), 0);
     Ok(())
 }
 
@@ -229,13 +230,13 @@ fn room_is_made(rt: HostRuntime) -> Result<(), Fail> {
 fn to_typed_leaves_the_bytes(rt: HostRuntime) -> Result<(), Fail> {
     let stash = opened::<Vec<u64>>(rt.alloc(), WORD_BEHIND.as_slice()).expect(&rt, "opened");
     let typed = stash.to_typed(rt.alloc())?;
-    assert_eq!(rt; variant(&typed), 0);
-    assert!(rt; has(&typed, [7, 8].as_slice()));
-    assert!(rt; writes(&typed, SEVEN_EIGHT.as_slice()));
+    equal!(rt; variant(&typed), 0);
+    holds!(rt; has(&typed, [7, 8].as_slice()));
+    holds!(rt; writes(&typed, SEVEN_EIGHT.as_slice()));
     let again = typed.to_typed(rt.alloc())?;
-    assert!(rt; has(&again, [7, 8].as_slice()));
-    assert_eq!(rt; variant(&stash), 1);
-    assert!(rt; has(&stash, [7, 8].as_slice()));
+    holds!(rt; has(&again, [7, 8].as_slice()));
+    equal!(rt; variant(&stash), 1);
+    holds!(rt; has(&stash, [7, 8].as_slice()));
     Ok(())
 }
 
@@ -243,11 +244,11 @@ fn to_typed_leaves_the_bytes(rt: HostRuntime) -> Result<(), Fail> {
 fn make_typed_lends_the_column(rt: HostRuntime) -> Result<(), Fail> {
     let mut stash = opened::<Vec<u64>>(rt.alloc(), WORD_BEHIND.as_slice()).expect(&rt, "opened");
     match stash.make_typed() {
-        Ok(column) => assert!(rt; Push::push(column, 9u64).is_ok()),
-        Err(_) => assert!(rt; false),
+        Ok(column) => holds!(rt; Push::push(column, 9u64).is_ok()),
+        Err(_) => holds!(rt; false),
     }
-    assert_eq!(rt; variant(&stash), 0);
-    assert!(rt; writes(&stash, [16, 40, 7, 8, 9].as_slice()));
+    equal!(rt; variant(&stash), 0);
+    holds!(rt; writes(&stash, [16, 40, 7, 8, 9].as_slice()));
     Ok(())
 }
 
@@ -255,13 +256,13 @@ fn make_typed_lends_the_column(rt: HostRuntime) -> Result<(), Fail> {
 fn aligned_bytes_end_with_the_last_slice(rt: HostRuntime) -> Result<(), Fail> {
     let stash = opened::<Vec<u64>>(rt.alloc(), WORD_BEHIND.as_slice()).expect(&rt, "opened");
     let aligned = stash.to_aligned(rt.alloc())?;
-    assert_eq!(rt; variant(&aligned), 2);
-    assert_eq!(rt; held(&aligned).len(), 32);
-    assert!(rt; has(&aligned, [7, 8].as_slice()));
-    assert_eq!(rt; aligned.length_in_bytes(), Some(32));
-    assert!(rt; writes(&aligned, SEVEN_EIGHT.as_slice()));
+    equal!(rt; variant(&aligned), 2);
+    equal!(rt; held(&aligned).len(), 32);
+    holds!(rt; has(&aligned, [7, 8].as_slice()));
+    equal!(rt; aligned.length_in_bytes(), Some(32));
+    holds!(rt; writes(&aligned, SEVEN_EIGHT.as_slice()));
     let typed = aligned.to_typed(rt.alloc())?;
-    assert!(rt; has(&typed, [7, 8].as_slice()));
+    holds!(rt; has(&typed, [7, 8].as_slice()));
     Ok(())
 }
 
@@ -271,11 +272,11 @@ fn aligned_bytes_are_a_store_of_their_own(rt: HostRuntime) -> Result<(), Fail> {
     match stash.to_aligned(rt.alloc())? {
         Stash::Align(checked) => {
             let moved = Stash::<Vec<u64>, AlignedBytes>::Bytes(checked);
-            assert_eq!(rt; variant(&moved), 1);
-            assert!(rt; has(&moved, [7, 8].as_slice()));
-            assert!(rt; writes(&moved.clone()?, SEVEN_EIGHT.as_slice()));
+            equal!(rt; variant(&moved), 1);
+            holds!(rt; has(&moved, [7, 8].as_slice()));
+            holds!(rt; writes(&moved.clone()?, SEVEN_EIGHT.as_slice()));
         }
-        _ => assert!(rt; false),
+        _ => holds!(rt; false),
     }
     Ok(())
 }
@@ -283,11 +284,11 @@ fn aligned_bytes_are_a_store_of_their_own(rt: HostRuntime) -> Result<(), Fail> {
 #[test]
 fn make_aligned_keeps_the_rows(rt: HostRuntime) -> Result<(), Fail> {
     let mut stash = opened::<Vec<u64>>(rt.alloc(), WORD_BEHIND.as_slice()).expect(&rt, "opened");
-    assert!(rt; stash.make_aligned(rt.alloc()).is_ok());
-    assert!(rt; stash.make_aligned(rt.alloc()).is_ok());
-    assert_eq!(rt; variant(&stash), 2);
-    assert!(rt; has(&stash, [7, 8].as_slice()));
-    assert!(rt; writes(&stash, SEVEN_EIGHT.as_slice()));
+    holds!(rt; stash.make_aligned(rt.alloc()).is_ok());
+    holds!(rt; stash.make_aligned(rt.alloc()).is_ok());
+    equal!(rt; variant(&stash), 2);
+    holds!(rt; has(&stash, [7, 8].as_slice()));
+    holds!(rt; writes(&stash, SEVEN_EIGHT.as_slice()));
     Ok(())
 }
 
@@ -312,12 +313,12 @@ fn a_run_answers_each_command(rt: HostRuntime) -> Result<(), Fail> {
         View::from_slice(source.as_slice()),
         commands.as_slice(),
     );
-    assert_eq!(rt;
+    equal!(rt;
         replies?.as_slice(),
         [DONE, DONE, RANGE, DONE, DONE, RANGE].as_slice()
     );
-    assert_eq!(rt; variant(&stash), 0);
-    assert!(rt; has(&stash, [1, 6].as_slice()));
+    equal!(rt; variant(&stash), 0);
+    holds!(rt; has(&stash, [1, 6].as_slice()));
     Ok(())
 }
 
@@ -339,12 +340,12 @@ fn a_run_changes_the_variant(rt: HostRuntime) -> Result<(), Fail> {
         View::from_slice(source.as_slice()),
         commands.as_slice(),
     );
-    assert_eq!(rt;
+    equal!(rt;
         replies?.as_slice(),
         [DONE, RANGE, DONE, DONE, DONE, DONE, DONE].as_slice()
     );
-    assert_eq!(rt; variant(&stash), 2);
-    assert!(rt; has(&stash, source.as_slice()));
+    equal!(rt; variant(&stash), 2);
+    holds!(rt; has(&stash, source.as_slice()));
     Ok(())
 }
 
@@ -356,7 +357,7 @@ fn a_run_over_pairs(rt: HostRuntime) -> Result<(), Fail> {
         View::from_slice(firsts.as_slice()),
         View::from_slice(seconds.as_slice()),
     );
-    assert!(rt; source.check().is_ok());
+    holds!(rt; source.check().is_ok());
     let commands = [
         Command::Push((1u64, 10u64)),
         Command::Reopen,
@@ -371,12 +372,12 @@ fn a_run_over_pairs(rt: HostRuntime) -> Result<(), Fail> {
         source,
         commands.as_slice(),
     );
-    assert_eq!(rt;
+    equal!(rt;
         replies?.as_slice(),
         [DONE, DONE, DONE, RANGE, DONE, DONE].as_slice()
     );
-    assert_eq!(rt; variant(&stash), 1);
-    assert!(rt; writes(&stash, [24, 40, 56, 1, 6, 10, 60].as_slice()));
+    equal!(rt; variant(&stash), 1);
+    holds!(rt; writes(&stash, [24, 40, 56, 1, 6, 10, 60].as_slice()));
     Ok(())
 }
 
@@ -399,9 +400,9 @@ fn a_run_over_rows_with_lists(rt: HostRuntime) -> Result<(), Fail> {
         source.borrow(),
         commands.as_slice(),
     );
-    assert_eq!(rt; replies?.as_slice(), [DONE, RANGE, DONE].as_slice());
+    equal!(rt; replies?.as_slice(), [DONE, RANGE, DONE].as_slice());
     // The words of the slices: 7; no count, the bit 1 in a tail of one, 12; the end 2, and 3 and 5.
     let words = [64, 72, 72, 72, 88, 92, 104, 108, 7, 1, 1, 12, 2, 327683];
-    assert!(rt; writes(&stash, words.as_slice()));
+    holds!(rt; writes(&stash, words.as_slice()));
     Ok(())
 }

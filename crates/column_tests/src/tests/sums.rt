@@ -17,6 +17,7 @@ use std::test::Fail;
 use test_support::columns::{copied, cut, row_at};
 use test_support::stashes::{has, opened, row_of, variant, writes};
 use test_support::stores::bytes_of;
+use test_support::{equal, holds};
 
 type Outcomes = Results<Vec<u64>, Vec<u64>>;
 
@@ -40,13 +41,13 @@ fn fault_of<C: Stored>(alloc: Global, words: &[u64]) -> Result<Option<StoreFault
 fn stores_of_outcomes(rt: HostRuntime) -> Result<(), Fail> {
     let alloc = rt.alloc();
     let words = [48, 48, 48, 64, 72, 80, 1, 2, 5, 6];
-    assert_eq!(rt; fault_of::<Outcomes>(alloc, words.as_slice())?, None);
+    equal!(rt; fault_of::<Outcomes>(alloc, words.as_slice())?, None);
     let stash = opened::<Outcomes>(alloc, words.as_slice()).expect(&rt, "opened");
-    assert!(rt; has(&stash, &[Ok(5), Err(6)]));
+    holds!(rt; has(&stash, &[Ok(5), Err(6)]));
     let one_ok_too_few = [48, 48, 48, 64, 72, 80, 1, 3, 5, 6];
     let two_set = [48, 48, 48, 64, 72, 80, 3, 2, 5, 6];
     for words in [one_ok_too_few, two_set] {
-        assert_eq!(rt;
+        equal!(rt;
             fault_of::<Outcomes>(alloc, words.as_slice())?,
             Some(StoreFault::Parts(0))
         );
@@ -57,22 +58,22 @@ fn stores_of_outcomes(rt: HostRuntime) -> Result<(), Fail> {
 #[test]
 fn outcomes_are_pushed_and_cut(rt: HostRuntime) -> Result<(), Fail> {
     let mut column = Outcomes::empty(rt.alloc());
-    assert!(rt; column.push(Ok::<u64, u64>(5)).is_ok());
-    assert!(rt; column.push(&Err::<u64, u64>(6)).is_ok());
-    assert!(rt; column.push_ref(&Err::<u64, u64>(7)).is_ok());
-    assert_eq!(rt; row_at(&column, 0), Some(Ok(5)));
-    assert_eq!(rt; row_at(&&column, 2), Some(Err(&7)));
-    assert_eq!(rt; row_at(&column.borrow(), 1), Some(Err(6)));
-    assert_eq!(rt; column.oks.as_slice(), [5].as_slice());
-    assert_eq!(rt; column.errs.as_slice(), [6, 7].as_slice());
-    assert!(rt; column.clone()? == column);
+    holds!(rt; column.push(Ok::<u64, u64>(5)).is_ok());
+    holds!(rt; column.push(&Err::<u64, u64>(6)).is_ok());
+    holds!(rt; column.push_ref(&Err::<u64, u64>(7)).is_ok());
+    equal!(rt; row_at(&column, 0), Some(Ok(5)));
+    equal!(rt; row_at(&&column, 2), Some(Err(&7)));
+    equal!(rt; row_at(&column.borrow(), 1), Some(Err(6)));
+    equal!(rt; column.oks.as_slice(), [5].as_slice());
+    equal!(rt; column.errs.as_slice(), [6, 7].as_slice());
+    holds!(rt; column.clone()? == column);
     cut(&mut column, 2);
-    assert_eq!(rt; column.errs.as_slice(), [6].as_slice());
-    assert!(rt; column.borrow().check().is_ok());
-    assert!(rt; column.duplicate(rt.alloc())?.try_unwrap().is_none());
+    equal!(rt; column.errs.as_slice(), [6].as_slice());
+    holds!(rt; column.borrow().check().is_ok());
+    holds!(rt; column.duplicate(rt.alloc())?.try_unwrap().is_none());
     column.clear();
-    assert!(rt; column.is_empty());
-    assert!(rt; column.unwrap().is_empty());
+    holds!(rt; column.is_empty());
+    holds!(rt; column.unwrap().is_empty());
     Ok(())
 }
 
@@ -90,11 +91,11 @@ fn ranges_of_outcomes_are_copied(rt: HostRuntime) -> Result<(), Fail> {
     let rows = [Ok(1), Err(2), Err(3), Ok(4), Err(5)];
     let source = outcomes(rt.alloc(), rows.as_slice())?;
     let mut column = outcomes(rt.alloc(), [Ok(9)].as_slice())?;
-    assert!(rt; copied(&mut column, source.borrow(), 1, 4));
-    assert_eq!(rt; column.oks.as_slice(), [9, 4].as_slice());
-    assert_eq!(rt; column.errs.as_slice(), [2, 3].as_slice());
-    assert_eq!(rt; row_at(&column, 2), Some(Err(3)));
-    assert_eq!(rt; row_at(&column, 3), Some(Ok(4)));
+    holds!(rt; copied(&mut column, source.borrow(), 1, 4));
+    equal!(rt; column.oks.as_slice(), [9, 4].as_slice());
+    equal!(rt; column.errs.as_slice(), [2, 3].as_slice());
+    equal!(rt; row_at(&column, 2), Some(Err(3)));
+    equal!(rt; row_at(&column, 3), Some(Ok(4)));
     Ok(())
 }
 
@@ -103,24 +104,24 @@ fn ranges_of_outcomes_are_copied(rt: HostRuntime) -> Result<(), Fail> {
 fn outcomes_of_one_kind_are_unwrapped(rt: HostRuntime) -> Result<(), Fail> {
     let alloc = rt.alloc();
     match outcomes(alloc, [Ok(1), Ok(2)].as_slice())?.try_unwrap() {
-        Some(values) => assert_eq!(rt; values.as_slice(), [1, 2].as_slice()),
-        None => assert!(rt; false),
+        Some(values) => equal!(rt; values.as_slice(), [1, 2].as_slice()),
+        None => holds!(rt; false),
     }
     match outcomes(alloc, [Err(3), Err(4)].as_slice())?.try_unwrap_err() {
-        Some(errors) => assert_eq!(rt; errors.as_slice(), [3, 4].as_slice()),
-        None => assert!(rt; false),
+        Some(errors) => equal!(rt; errors.as_slice(), [3, 4].as_slice()),
+        None => holds!(rt; false),
     }
-    assert!(rt;
+    holds!(rt;
         outcomes(alloc, [Ok(1), Err(2)].as_slice())?
             .try_unwrap()
             .is_none()
     );
-    assert!(rt;
+    holds!(rt;
         outcomes(alloc, [Err(1), Ok(2)].as_slice())?
             .try_unwrap_err()
             .is_none()
     );
-    assert!(rt; Outcomes::empty(alloc).unwrap_err().is_empty());
+    holds!(rt; Outcomes::empty(alloc).unwrap_err().is_empty());
     Ok(())
 }
 
@@ -143,9 +144,9 @@ static OTHER_EVENTS: [u64; 16] = [
 fn events_are_pushed(rt: HostRuntime) -> Result<(), Fail> {
     let mut stash = Stash::<Events, Vec<u8>>::empty(rt.alloc());
     let marks = Vec::from_slice(rt.alloc(), &[3u16, 5])?;
-    assert!(rt; stash.push(Ok::<(u64, bool), &[u16]>((7, true))).is_ok());
-    assert!(rt; stash.push_ref(&Err::<(u64, bool), Vec<u16>>(marks)).is_ok());
-    assert!(rt; writes(&stash, EVENTS.as_slice()));
+    holds!(rt; stash.push(Ok::<(u64, bool), &[u16]>((7, true))).is_ok());
+    holds!(rt; stash.push_ref(&Err::<(u64, bool), Vec<u16>>(marks)).is_ok());
+    holds!(rt; writes(&stash, EVENTS.as_slice()));
     Ok(())
 }
 
@@ -167,12 +168,12 @@ fn a_run_over_events(rt: HostRuntime) -> Result<(), Fail> {
         source.borrow(),
         commands.as_slice(),
     );
-    assert_eq!(rt;
+    equal!(rt;
         replies?.as_slice(),
         [DONE, DONE, RANGE, DONE, DONE, DONE].as_slice()
     );
-    assert_eq!(rt; variant(&stash), 0);
-    assert!(rt; writes(&stash, OTHER_EVENTS.as_slice()));
+    equal!(rt; variant(&stash), 0);
+    holds!(rt; writes(&stash, OTHER_EVENTS.as_slice()));
     Ok(())
 }
 
@@ -182,17 +183,17 @@ fn stores_of_variants(rt: HostRuntime) -> Result<(), Fail> {
     let stash = opened::<Kinds>(alloc, [24, 27, 56, 65536, 0, 1, 0].as_slice()).expect(
         &rt, "opened",
     );
-    assert!(rt; has(&stash, &[(0, 0), (0, 1), (1, 0)]));
-    assert!(rt; stash.borrow().is_heterogeneous());
+    holds!(rt; has(&stash, &[(0, 0), (0, 1), (1, 0)]));
+    holds!(rt; stash.borrow().is_heterogeneous());
     let most = opened::<Kinds>(alloc, [24, 24, 40, 1, u64::MAX].as_slice()).expect(&rt, "opened");
-    assert_eq!(rt; most.len(), usize::MAX);
-    assert_eq!(rt; row_of(&most, usize::MAX - 1), Some((0, u64::MAX - 1)));
-    assert_eq!(rt; most.borrow().homogeneous(), Some(0));
+    equal!(rt; most.len(), usize::MAX);
+    equal!(rt; row_of(&most, usize::MAX - 1), Some((0, u64::MAX - 1)));
+    equal!(rt; most.borrow().homogeneous(), Some(0));
     let last = opened::<Kinds>(alloc, [24, 24, 40, 256, 2].as_slice()).expect(&rt, "opened");
-    assert_eq!(rt; row_of(&last, 1), Some((255, 1)));
+    equal!(rt; row_of(&last, 1), Some((255, 1)));
     let none = opened::<Kinds>(alloc, [24, 24, 24].as_slice()).expect(&rt, "opened");
-    assert!(rt; none.is_empty());
-    assert_eq!(rt; none.borrow().homogeneous(), None);
+    holds!(rt; none.is_empty());
+    equal!(rt; none.borrow().homogeneous(), None);
     Ok(())
 }
 
@@ -212,12 +213,12 @@ fn stores_of_variants_that_are_refused(rt: HostRuntime) -> Result<(), Fail> {
         [24, 24, 32, 1].as_slice(),
         [24, 26, 40, 256, 0].as_slice(),
     ] {
-        assert_eq!(rt;
+        equal!(rt;
             fault_of::<Kinds>(rt.alloc(), words)?,
             Some(StoreFault::Variant(0))
         );
     }
-    assert_eq!(rt;
+    equal!(rt;
         fault_of::<Kinds>(rt.alloc(), [24, 24, 36, 1, 1].as_slice())?,
         Some(StoreFault::ElementSize(1))
     );
@@ -239,12 +240,12 @@ fn no_head_wraps(rt: HostRuntime) -> Result<(), Fail> {
         variant: Vec::new(rt.alloc()),
         offset: Vec::from_slice(rt.alloc(), &[8, u64::MAX - 1])?,
     };
-    assert!(rt; kinds.borrow().check().is_ok());
-    assert_eq!(rt; push_again(&mut kinds), Some(Ok(())));
-    assert_eq!(rt; kinds.offset.as_slice(), [8, u64::MAX].as_slice());
-    assert!(rt; kinds.borrow().check().is_ok());
-    assert_eq!(rt; push_again(&mut kinds), Some(Err(GrowError::Length)));
-    assert_eq!(rt; kinds.offset.as_slice(), [8, u64::MAX].as_slice());
+    holds!(rt; kinds.borrow().check().is_ok());
+    equal!(rt; push_again(&mut kinds), Some(Ok(())));
+    equal!(rt; kinds.offset.as_slice(), [8, u64::MAX].as_slice());
+    holds!(rt; kinds.borrow().check().is_ok());
+    equal!(rt; push_again(&mut kinds), Some(Err(GrowError::Length)));
+    equal!(rt; kinds.offset.as_slice(), [8, u64::MAX].as_slice());
     Ok(())
 }
 
@@ -263,25 +264,25 @@ fn three(alloc: Global) -> Result<Kinds, GrowError>
 #[test]
 fn variants_are_pushed_and_cut(rt: HostRuntime) -> Result<(), Fail> {
     let mut kinds = three(rt.alloc())?;
-    assert_eq!(rt; kinds.variant.as_slice(), [0, 0, 1].as_slice());
-    assert_eq!(rt; kinds.offset.as_slice(), [0, 1, 0].as_slice());
-    assert!(rt; kinds.is_heterogeneous());
-    assert_eq!(rt; kinds.homogeneous(), None);
-    assert_eq!(rt; row_at(&kinds, 2), Some((1, 0)));
-    assert!(rt; kinds.borrow().check().is_ok());
+    equal!(rt; kinds.variant.as_slice(), [0, 0, 1].as_slice());
+    equal!(rt; kinds.offset.as_slice(), [0, 1, 0].as_slice());
+    holds!(rt; kinds.is_heterogeneous());
+    equal!(rt; kinds.homogeneous(), None);
+    equal!(rt; row_at(&kinds, 2), Some((1, 0)));
+    holds!(rt; kinds.borrow().check().is_ok());
     let other = three(rt.alloc())?;
-    assert!(rt; kinds.reserve_for([other.borrow()].iter().copied()).is_ok());
-    assert!(rt; kinds.clone()? == kinds);
+    holds!(rt; kinds.reserve_for([other.borrow()].iter().copied()).is_ok());
+    holds!(rt; kinds.clone()? == kinds);
     cut(&mut kinds, 2);
-    assert!(rt; kinds.variant.is_empty());
-    assert_eq!(rt; kinds.offset.as_slice(), [1, 2].as_slice());
-    assert_eq!(rt; kinds.homogeneous(), Some(0));
-    assert_eq!(rt; row_at(&kinds, 1), Some((0, 1)));
+    holds!(rt; kinds.variant.is_empty());
+    equal!(rt; kinds.offset.as_slice(), [1, 2].as_slice());
+    equal!(rt; kinds.homogeneous(), Some(0));
+    equal!(rt; row_at(&kinds, 1), Some((0, 1)));
     cut(&mut kinds, 0);
-    assert!(rt; kinds.offset.is_empty());
-    assert!(rt; kinds.is_empty());
+    holds!(rt; kinds.offset.is_empty());
+    holds!(rt; kinds.is_empty());
     let mut again = three(rt.alloc())?.duplicate(rt.alloc())?;
     again.clear();
-    assert!(rt; again.variant.is_empty() && again.offset.is_empty());
+    holds!(rt; again.variant.is_empty() && again.offset.is_empty());
     Ok(())
 }

@@ -130,9 +130,8 @@ impl<
             return self.inner.extend_from_self(view.inner, start..end);
         }
         for i in start..end {
-            match Push::<V::Ref>::push(self, view.get(i)) {
-                Ok(()) => {}
-                Err(error) => return Err(taken_back(self, before, error)),
+            if let Err(error) = Push::<V::Ref>::push(self, view.get(i)) {
+                return Err(taken_back(self, before, error));
             }
         }
         Ok(())

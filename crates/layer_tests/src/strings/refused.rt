@@ -10,6 +10,7 @@ use columnar_core::container::{Borrow, ExtendFrom, Storage};
 use columnar_core::traits::{Column, Index, Len, Push};
 use std::alloc::Global;
 use std::test::Fail;
+use test_support::{equal, holds};
 
 type Rows = (Vec<u64>, Texts);
 
@@ -42,7 +43,7 @@ fn pushes_of_strings(rt: HostRuntime) -> Result<(), Fail> {
         return Ok(());
     };
     let done = texts.push("defghijklmnop");
-    assert!(rt;
+    holds!(rt;
         keeps(
             done,
             &texts,
@@ -59,7 +60,7 @@ fn texts_of_values(rt: HostRuntime) -> Result<(), Fail> {
         return Ok(());
     };
     let done = texts.push_display(&1234567890123u64);
-    assert!(rt;
+    holds!(rt;
         keeps(
             done,
             &texts,
@@ -81,7 +82,7 @@ fn copies_of_strings(rt: HostRuntime) -> Result<(), Fail> {
     let Some(done) = texts.extend_checked(source.borrow(), 0..2) else {
         return Ok(());
     };
-    assert!(rt; keeps(done, &texts, [2, 3, 5, 6].as_slice(), b"abcabc".as_slice()));
+    holds!(rt; keeps(done, &texts, [2, 3, 5, 6].as_slice(), b"abcabc".as_slice()));
     Ok(())
 }
 
@@ -92,22 +93,22 @@ fn rows_with_a_string(rt: HostRuntime) -> Result<(), Fail> {
         return Ok(());
     };
     let Ok(mut stash) = Stash::<Rows, Vec<u8>>::try_from_bytes(rt.alloc(), bytes) else {
-        assert!(rt; false);
+        holds!(rt; false);
         return Ok(());
     };
     match stash.push((2u64, "ab")) {
-        Ok(()) => assert_eq!(rt; stash.len(), 3),
+        Ok(()) => equal!(rt; stash.len(), 3),
         Err(error) => {
-            assert_eq!(rt; error, GrowError::Memory);
+            equal!(rt; error, GrowError::Memory);
             match &stash {
-                Stash::Bytes(checked) => assert_eq!(rt; checked.bytes(), HELLO.as_slice()),
-                _ => assert!(rt; false),
+                Stash::Bytes(checked) => equal!(rt; checked.bytes(), HELLO.as_slice()),
+                _ => holds!(rt; false),
             }
-            assert_eq!(rt; stash.len(), 2);
+            equal!(rt; stash.len(), 2);
         }
     }
     let view = stash.borrow();
-    assert_eq!(rt; view.get_checked(0), Some((0, b"hello".as_slice())));
-    assert_eq!(rt; view.get_checked(1), Some((1, b"world".as_slice())));
+    equal!(rt; view.get_checked(0), Some((0, b"hello".as_slice())));
+    equal!(rt; view.get_checked(1), Some((1, b"world".as_slice())));
     Ok(())
 }

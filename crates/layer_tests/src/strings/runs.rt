@@ -14,6 +14,7 @@ use std::alloc::Global;
 use std::io::Error;
 use std::iter::once;
 use std::test::Fail;
+use test_support::{equal, holds};
 
 // Are all commands done, from no rows on, and is then written what the words are?
 fn runs<T: Item, V: Len + Copy, C: ContainerBytes + Storage + PushRef<T> + ExtendFrom<V>>(
@@ -63,7 +64,7 @@ fn a_run_over_lists_of_strings(rt: HostRuntime) -> Result<(), Fail> {
         commands.as_slice(),
         words.as_slice(),
     )?;
-    assert!(rt; done);
+    holds!(rt; done);
     Ok(())
 }
 
@@ -77,7 +78,7 @@ fn a_run_over_options_of_strings(rt: HostRuntime) -> Result<(), Fail> {
     ];
     let source = Options::<Texts>::empty(rt.alloc());
     let words = [48, 48, 48, 64, 72, 74, 1, 2, 2, 25185];
-    assert!(rt;
+    holds!(rt;
         runs::<_, _, Options<Texts>>(
             rt.alloc(),
             source.borrow(),
@@ -106,7 +107,7 @@ fn a_run_over_records(rt: HostRuntime) -> Result<(), Fail> {
     let words = [
         64, 80, 96, 99, 104, 104, 120, 124, 5, 6, 2, 3, 6513249, 1, 2, 7,
     ];
-    assert!(rt;
+    holds!(rt;
         runs::<_, _, Records>(
             rt.alloc(),
             source.borrow(),
@@ -163,7 +164,7 @@ fn each_call_over_lists_of_lists_of_strings(rt: HostRuntime) -> Result<(), Fail>
     let written = each_call::<_, _, Vecs<Vecs<Texts>>>(rt.alloc(), &lists, source.borrow())?;
     let mut wanted = Vec::new(rt.alloc());
     ByteSlice::of_words([40, 48, 56, 72, 75, 1, 2, 2, 3, 6513249].as_slice()).write(&mut wanted)?;
-    assert_eq!(rt;
+    equal!(rt;
         written.expect(&rt, "each call is done").as_slice(),
         wanted.as_slice()
     );

@@ -12,6 +12,7 @@ use std::boxed::BoxedStr;
 use std::fmt::{self, Display, Formatter, Write};
 use std::test::Fail;
 use test_support::columns::{copied, row_at, takes, takes_ref};
+use test_support::{equal, holds};
 
 pub(super) type Texts = Strings<Vec<u64>, Vec<u8>>;
 
@@ -37,12 +38,12 @@ fn ends_with<'a>(column: &'a Texts, bytes: &[u8]) -> bool
 #[test]
 fn three_strings_are_seven_words(rt: HostRuntime) -> Result<(), Fail> {
     let mut texts = Texts::empty(rt.alloc());
-    assert!(rt; takes(&mut texts, "ab"));
-    assert!(rt; takes(&mut texts, ""));
-    assert!(rt; takes(&mut texts, "c"));
+    holds!(rt; takes(&mut texts, "ab"));
+    holds!(rt; takes(&mut texts, ""));
+    holds!(rt; takes(&mut texts, "c"));
     let mut words = Vec::new(rt.alloc());
-    assert!(rt; encode(&mut words, &texts.borrow()).is_ok());
-    assert_eq!(rt; words.as_slice(), [24, 48, 51, 2, 2, 3, 6513249].as_slice());
+    holds!(rt; encode(&mut words, &texts.borrow()).is_ok());
+    equal!(rt; words.as_slice(), [24, 48, 51, 2, 2, 3, 6513249].as_slice());
     Ok(())
 }
 
@@ -56,8 +57,8 @@ fn bounds_end_at_the_bytes(rt: HostRuntime) -> Result<(), Fail> {
         ([24, 32, 34, 2, 25185].as_slice(), Ok(())),
     ] {
         let mut bytes = Vec::new(rt.alloc());
-        assert!(rt; ByteSlice::of_words(words).write(&mut bytes).is_ok());
-        assert_eq!(rt; validate::<Texts>(bytes.as_slice()), judged);
+        holds!(rt; ByteSlice::of_words(words).write(&mut bytes).is_ok());
+        equal!(rt; validate::<Texts>(bytes.as_slice()), judged);
     }
     Ok(())
 }
@@ -68,35 +69,35 @@ fn strings_are_pushed_from_texts_and_bytes(rt: HostRuntime) -> Result<(), Fail> 
     let boxed = BoxedStr::from_str(rt.alloc(), "f")?;
     let bytes = [0xffu8];
     let mut texts = Texts::empty(rt.alloc());
-    assert!(rt; takes(&mut texts, "ab"));
-    assert!(rt; takes(&mut texts, bytes.as_slice()));
-    assert!(rt; takes(&mut texts, &owned));
-    assert!(rt; takes(&mut texts, &boxed));
-    assert!(rt; takes_ref(&mut texts, &"g"));
-    assert!(rt; takes_ref(&mut texts, &bytes.as_slice()));
-    assert!(rt; takes_ref(&mut texts, &owned));
-    assert!(rt; takes_ref(&mut texts, &boxed));
-    assert!(rt; takes(&mut texts, owned));
-    assert_eq!(rt;
+    holds!(rt; takes(&mut texts, "ab"));
+    holds!(rt; takes(&mut texts, bytes.as_slice()));
+    holds!(rt; takes(&mut texts, &owned));
+    holds!(rt; takes(&mut texts, &boxed));
+    holds!(rt; takes_ref(&mut texts, &"g"));
+    holds!(rt; takes_ref(&mut texts, &bytes.as_slice()));
+    holds!(rt; takes_ref(&mut texts, &owned));
+    holds!(rt; takes_ref(&mut texts, &boxed));
+    holds!(rt; takes(&mut texts, owned));
+    equal!(rt;
         texts.bounds.as_slice(),
         [2, 3, 5, 6, 7, 8, 10, 11, 13].as_slice()
     );
-    assert_eq!(rt; texts.values.as_slice(), b"ab\xffdefg\xffdefde".as_slice());
+    equal!(rt; texts.values.as_slice(), b"ab\xffdefg\xffdefde".as_slice());
     Ok(())
 }
 
 #[test]
 fn strings_are_read_where_they_stand(rt: HostRuntime) -> Result<(), Fail> {
     let mut texts = Texts::empty(rt.alloc());
-    assert!(rt; takes(&mut texts, "ab"));
-    assert!(rt; takes(&mut texts, [0xffu8].as_slice()));
-    assert_eq!(rt; row_at(&texts.borrow(), 0), Some(b"ab".as_slice()));
-    assert!(rt; ends_with(&texts, b"\xff".as_slice()));
-    assert_eq!(rt; row_at(&texts.borrow(), 2), None);
+    holds!(rt; takes(&mut texts, "ab"));
+    holds!(rt; takes(&mut texts, [0xffu8].as_slice()));
+    equal!(rt; row_at(&texts.borrow(), 0), Some(b"ab".as_slice()));
+    holds!(rt; ends_with(&texts, b"\xff".as_slice()));
+    equal!(rt; row_at(&texts.borrow(), 2), None);
     let view = texts.borrow();
     if view.len() == 2 {
-        assert_eq!(rt; view.get_str(0), Ok("ab"));
-        assert_eq!(rt; view.get_str(1), Err(OwnError::Utf8));
+        equal!(rt; view.get_str(0), Ok("ab"));
+        equal!(rt; view.get_str(1), Err(OwnError::Utf8));
     }
     Ok(())
 }
@@ -104,15 +105,15 @@ fn strings_are_read_where_they_stand(rt: HostRuntime) -> Result<(), Fail> {
 #[test]
 fn a_copy_moves_the_bounds(rt: HostRuntime) -> Result<(), Fail> {
     let mut source = Texts::empty(rt.alloc());
-    assert!(rt; takes(&mut source, "ab"));
-    assert!(rt; takes(&mut source, "c"));
-    assert!(rt; takes(&mut source, "de"));
+    holds!(rt; takes(&mut source, "ab"));
+    holds!(rt; takes(&mut source, "c"));
+    holds!(rt; takes(&mut source, "de"));
     let mut texts = Texts::empty(rt.alloc());
-    assert!(rt; takes(&mut texts, "x"));
-    assert!(rt; copied(&mut texts, source.borrow(), 1, 3));
-    assert_eq!(rt; texts.bounds.as_slice(), [1, 2, 4].as_slice());
-    assert_eq!(rt; texts.values.as_slice(), b"xcde".as_slice());
-    assert!(rt; texts.clone()? == texts);
+    holds!(rt; takes(&mut texts, "x"));
+    holds!(rt; copied(&mut texts, source.borrow(), 1, 3));
+    equal!(rt; texts.bounds.as_slice(), [1, 2, 4].as_slice());
+    equal!(rt; texts.values.as_slice(), b"xcde".as_slice());
+    holds!(rt; texts.clone()? == texts);
     Ok(())
 }
 
@@ -129,11 +130,11 @@ impl Display for Broken {
 #[test]
 fn a_value_that_fails_leaves_nothing(rt: HostRuntime) -> Result<(), Fail> {
     let mut texts = Texts::empty(rt.alloc());
-    assert_eq!(rt; texts.push_display(&42u64), Ok(()));
-    assert_eq!(rt; texts.push_display(&Broken), Err(GrowError::Format));
-    assert_eq!(rt; texts.push_display(&"ab"), Ok(()));
-    assert_eq!(rt; texts.bounds.as_slice(), [2, 4].as_slice());
-    assert_eq!(rt; texts.values.as_slice(), b"42ab".as_slice());
+    equal!(rt; texts.push_display(&42u64), Ok(()));
+    equal!(rt; texts.push_display(&Broken), Err(GrowError::Format));
+    equal!(rt; texts.push_display(&"ab"), Ok(()));
+    equal!(rt; texts.bounds.as_slice(), [2, 4].as_slice());
+    equal!(rt; texts.values.as_slice(), b"42ab".as_slice());
     Ok(())
 }
 
@@ -142,10 +143,10 @@ fn rows_with_a_string_are_eighty_bytes(rt: HostRuntime) -> Result<(), Fail> {
     let hello = String::from_str(rt.alloc(), "hello")?;
     let world = String::from_str(rt.alloc(), "world")?;
     let mut stash = Stash::<Rows, Vec<u8>>::empty(rt.alloc());
-    assert!(rt; stash.push_ref(&(0u64, hello)).is_ok());
-    assert!(rt; stash.push_ref(&(1u64, world)).is_ok());
+    holds!(rt; stash.push_ref(&(0u64, hello)).is_ok());
+    holds!(rt; stash.push_ref(&(1u64, world)).is_ok());
     let mut bytes = Vec::new(rt.alloc());
-    assert!(rt; stash.write_bytes(&mut bytes).is_ok());
-    assert_eq!(rt; bytes.as_slice(), HELLO.as_slice());
+    holds!(rt; stash.write_bytes(&mut bytes).is_ok());
+    equal!(rt; bytes.as_slice(), HELLO.as_slice());
     Ok(())
 }

@@ -10,6 +10,7 @@ use columnar_nested::trees::{Trees, TreesRef};
 use std::alloc::Global;
 use std::test::Fail;
 use test_support::columns::row_at;
+use test_support::{equal, holds};
 
 type Node<'a> = TreesRef<View<'a, u64>, View<'a, u64>>;
 
@@ -119,11 +120,11 @@ fn all_small_forests(rt: HostRuntime) -> Result<(), Fail> {
                 break;
             }
             if let Some(trees) = forest(rt.alloc(), code, nodes)? {
-                assert!(rt; are_read_back(rt.alloc(), trees.as_slice())?);
+                holds!(rt; are_read_back(rt.alloc(), trees.as_slice())?);
                 found = found.saturating_add(1);
             }
         }
-        assert_eq!(rt; found, FORESTS[nodes]);
+        equal!(rt; found, FORESTS[nodes]);
     }
     Ok(())
 }

@@ -6,6 +6,7 @@ use columnar_core::view::View;
 use columnar_nested::trees::Trees;
 use std::alloc::{AllocError, Global};
 use std::test::Fail;
+use test_support::equal;
 
 // The lowest digits of a number
 fn digits(out: &mut Vec<u64>, number: u64, base: u64, count: u32) -> Result<(), AllocError> {
@@ -70,7 +71,7 @@ fn accepted(alloc: Global, nodes: u32) -> Result<Option<usize>, Fail> {
 #[test]
 fn all_small_layouts(rt: HostRuntime) -> Result<(), Fail> {
     for nodes in 0..6 {
-        assert_eq!(rt; accepted(rt.alloc(), nodes)?, Some(FORESTS[nodes as usize]));
+        equal!(rt; accepted(rt.alloc(), nodes)?, Some(FORESTS[nodes as usize]));
     }
     Ok(())
 }
@@ -90,7 +91,7 @@ fn other_lengths(rt: HostRuntime) -> Result<(), Fail> {
                     (2, 4, 3) => Ok(()),
                     _ => Err(StoreFault::Tree(0)),
                 };
-                assert_eq!(rt; judged(&groups[..g], &bounds[..b], &values[..v]), wanted);
+                equal!(rt; judged(&groups[..g], &bounds[..b], &values[..v]), wanted);
             }
         }
     }

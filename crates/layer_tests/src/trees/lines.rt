@@ -5,6 +5,7 @@ use columnar_nested::tree::Tree;
 use columnar_nested::trees::{NodeBounds, TreesRef};
 use std::alloc::{AllocError, Global};
 use std::test::Fail;
+use test_support::{equal, holds};
 
 const MILLION: usize = 1_000_000;
 
@@ -51,18 +52,18 @@ fn walked<V: Column + Copy, B: NodeBounds + Copy>(root: TreesRef<V, B>, most: us
 fn a_line_of_a_million_nodes(rt: HostRuntime) -> Result<(), Fail> {
     let alloc = rt.alloc();
     let numbers = line(alloc, 3usize, MILLION)?;
-    assert_eq!(rt; numbers.sum(), Ok(3 * MILLION));
+    equal!(rt; numbers.sum(), Ok(3 * MILLION));
     let copy = numbers.clone()?;
     drop(numbers);
-    assert_eq!(rt; copy.sum(), Ok(3 * MILLION));
+    equal!(rt; copy.sum(), Ok(3 * MILLION));
     let mut grove = Grove::<Vec<u64>>::new(alloc)?;
     grove.push(line(alloc, 7u64, MILLION)?)?;
-    assert_eq!(rt; grove.trees.groups.as_slice(), [0, 1_000_000].as_slice());
-    assert_eq!(rt; grove.trees.bounds.len(), MILLION + 1);
-    assert_eq!(rt; grove.trees.values.len(), MILLION);
+    equal!(rt; grove.trees.groups.as_slice(), [0, 1_000_000].as_slice());
+    equal!(rt; grove.trees.bounds.len(), MILLION + 1);
+    equal!(rt; grove.trees.values.len(), MILLION);
     match grove.root(0) {
-        Some(root) => assert_eq!(rt; walked(root, 2 * MILLION), MILLION),
-        None => assert!(rt; false),
+        Some(root) => equal!(rt; walked(root, 2 * MILLION), MILLION),
+        None => holds!(rt; false),
     }
     Ok(())
 }
@@ -71,18 +72,18 @@ fn a_line_of_a_million_nodes(rt: HostRuntime) -> Result<(), Fail> {
 fn a_million_kids(rt: HostRuntime) -> Result<(), Fail> {
     let alloc = rt.alloc();
     let numbers = broad(alloc, 3usize, MILLION - 1)?;
-    assert_eq!(rt; numbers.sum(), Ok(3 * MILLION));
+    equal!(rt; numbers.sum(), Ok(3 * MILLION));
     let copy = numbers.clone()?;
     drop(numbers);
-    assert_eq!(rt; copy.sum(), Ok(3 * MILLION));
+    equal!(rt; copy.sum(), Ok(3 * MILLION));
     let mut grove = Grove::<Vec<u64>>::new(alloc)?;
     grove.push(broad(alloc, 7u64, MILLION - 1)?)?;
     let root = grove.root(0);
-    assert_eq!(rt; node_of(root), Some((7, MILLION - 1)));
-    assert_eq!(rt; node_of(kid_of(root, MILLION - 2)), Some((7, 0)));
+    equal!(rt; node_of(root), Some((7, MILLION - 1)));
+    equal!(rt; node_of(kid_of(root, MILLION - 2)), Some((7, 0)));
     let copy = grove.trees.clone()?;
-    assert_eq!(rt; copy.groups.as_slice(), grove.trees.groups.as_slice());
-    assert_eq!(rt; copy.bounds.as_slice(), grove.trees.bounds.as_slice());
-    assert_eq!(rt; copy.values.as_slice(), grove.trees.values.as_slice());
+    equal!(rt; copy.groups.as_slice(), grove.trees.groups.as_slice());
+    equal!(rt; copy.bounds.as_slice(), grove.trees.bounds.as_slice());
+    equal!(rt; copy.values.as_slice(), grove.trees.values.as_slice());
     Ok(())
 }

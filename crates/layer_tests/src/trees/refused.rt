@@ -19,6 +19,7 @@ use std::alloc::Global;
 use std::test::Fail;
 use test_support::keeps::{encoding_keeps, loading_keeps};
 use test_support::stores::{bytes_of, is_written};
+use test_support::{equal, holds};
 
 type Column = Trees<Vec<u64>>;
 
@@ -53,15 +54,15 @@ fn pushed_trees(rt: HostRuntime) -> Result<(), Fail> {
     let (Ok(mut grove), Ok(once), Ok(again)) = (three(alloc), ten(alloc), ten(alloc)) else {
         return Ok(());
     };
-    assert!(rt; push_keeps(&mut grove, once, again));
+    holds!(rt; push_keeps(&mut grove, once, again));
     Ok(())
 }
 
 #[test]
 fn new_columns(rt: HostRuntime) -> Result<(), Fail> {
     match Column::new(rt.alloc()) {
-        Ok(trees) => assert!(rt; trees.is_empty()),
-        Err(error) => assert_eq!(rt; error, GrowError::Memory),
+        Ok(trees) => holds!(rt; trees.is_empty()),
+        Err(error) => equal!(rt; error, GrowError::Memory),
     }
     Ok(())
 }
@@ -73,12 +74,12 @@ fn copies(rt: HostRuntime) -> Result<(), Fail> {
         return Ok(());
     };
     if let Ok(copy) = tree.clone() {
-        assert!(rt; same_trees(&copy, &tree, 4));
+        holds!(rt; same_trees(&copy, &tree, 4));
     }
     if let Ok(copy) = grove.trees.clone() {
-        assert!(rt; is_written(&copy, THREE.as_slice()));
+        holds!(rt; is_written(&copy, THREE.as_slice()));
     }
-    assert!(rt; grove.writes(THREE.as_slice()));
+    holds!(rt; grove.writes(THREE.as_slice()));
     Ok(())
 }
 
@@ -92,7 +93,7 @@ fn sums_and_drops(rt: HostRuntime) -> Result<(), Fail> {
     let Ok(both) = tree(alloc, 1, [long, wide]) else {
         return Ok(());
     };
-    assert_eq!(rt; both.sum(), Ok(111));
+    equal!(rt; both.sum(), Ok(111));
     drop(both);
     Ok(())
 }
@@ -104,7 +105,7 @@ fn loads(rt: HostRuntime) -> Result<(), Fail> {
         return Ok(());
     };
     let mut stash = Stash::<Column, Vec<u8>>::try_from_bytes(alloc, bytes).expect(&rt, "trees");
-    assert!(rt; loading_keeps(&mut stash, THREE.as_slice()));
+    holds!(rt; loading_keeps(&mut stash, THREE.as_slice()));
     Ok(())
 }
 
@@ -125,7 +126,7 @@ fn encodings_and_sizes(rt: HostRuntime) -> Result<(), Fail> {
     let Ok(grove) = three(alloc) else {
         return Ok(());
     };
-    assert!(rt; encoding_keeps(alloc, &Owned(&grove.trees), THREE.as_slice()));
-    assert!(rt; sizes_are::<Column>(alloc, [8, 8, 8].as_slice()));
+    holds!(rt; encoding_keeps(alloc, &Owned(&grove.trees), THREE.as_slice()));
+    holds!(rt; sizes_are::<Column>(alloc, [8, 8, 8].as_slice()));
     Ok(())
 }

@@ -3,6 +3,7 @@ use super::grove::{Grove, kid_of, node_of, tree};
 use columnar_strings::string::Strings;
 use std::test::Fail;
 use test_support::stashes::row_of;
+use test_support::{equal, holds};
 
 #[test]
 fn trees_of_numbers_and_texts(rt: HostRuntime) -> Result<(), Fail> {
@@ -31,11 +32,11 @@ fn trees_of_numbers_and_texts(rt: HostRuntime) -> Result<(), Fail> {
         6,
         122558844595823,
     ];
-    assert!(rt; grove.writes(words.as_slice()));
+    holds!(rt; grove.writes(words.as_slice()));
     let opened = grove.reopened(alloc).expect(&rt, "accepted");
     let root = row_of(&opened, 0);
-    assert_eq!(rt; node_of(root), Some(((1, "one".as_bytes()), 2)));
-    assert_eq!(rt; node_of(kid_of(root, 0)), Some(((2, "two".as_bytes()), 0)));
-    assert_eq!(rt; node_of(kid_of(root, 1)), Some(((3, "".as_bytes()), 0)));
+    equal!(rt; node_of(root), Some(((1, "one".as_bytes()), 2)));
+    equal!(rt; node_of(kid_of(root, 0)), Some(((2, "two".as_bytes()), 0)));
+    equal!(rt; node_of(kid_of(root, 1)), Some(((3, "".as_bytes()), 0)));
     Ok(())
 }

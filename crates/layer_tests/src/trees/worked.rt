@@ -8,6 +8,7 @@ use std::test::Fail;
 use test_support::columns::row_at;
 use test_support::stashes::row_of;
 use test_support::stores::refusal;
+use test_support::{equal, holds};
 
 type Column = Trees<Vec<u64>>;
 
@@ -16,12 +17,12 @@ fn one_tree(rt: HostRuntime) -> Result<(), Fail> {
     let alloc = rt.alloc();
     let mut grove = Grove::<Vec<u64>>::new(alloc)?;
     grove.push(ten(alloc)?)?;
-    assert_eq!(rt; grove.trees.groups.as_slice(), [0, 4].as_slice());
-    assert_eq!(rt; grove.trees.bounds.as_slice(), [0, 3, 4, 4, 4].as_slice());
-    assert_eq!(rt; grove.trees.values.as_slice(), [10, 20, 30, 40].as_slice());
+    equal!(rt; grove.trees.groups.as_slice(), [0, 4].as_slice());
+    equal!(rt; grove.trees.bounds.as_slice(), [0, 3, 4, 4, 4].as_slice());
+    equal!(rt; grove.trees.values.as_slice(), [10, 20, 30, 40].as_slice());
     let words = [32, 48, 88, 120, 0, 4, 0, 3, 4, 4, 4, 10, 20, 30, 40];
-    assert!(rt; grove.writes(words.as_slice()));
-    assert_eq!(rt; refusal::<Column>(alloc, words.as_slice())?, (0, 0));
+    holds!(rt; grove.writes(words.as_slice()));
+    equal!(rt; refusal::<Column>(alloc, words.as_slice())?, (0, 0));
     Ok(())
 }
 
@@ -72,7 +73,7 @@ fn stores_that_are_no_trees(rt: HostRuntime) -> Result<(), Fail> {
             (18, 0),
         ),
     ] {
-        assert_eq!(rt; refusal::<Column>(alloc, words.as_slice())?, wanted);
+        equal!(rt; refusal::<Column>(alloc, words.as_slice())?, wanted);
     }
     Ok(())
 }
@@ -81,22 +82,22 @@ fn stores_that_are_no_trees(rt: HostRuntime) -> Result<(), Fail> {
 fn three_trees(rt: HostRuntime) -> Result<(), Fail> {
     let alloc = rt.alloc();
     let grove = three(alloc)?;
-    assert_eq!(rt; grove.trees.groups.as_slice(), [0, 3, 4, 6].as_slice());
-    assert_eq!(rt;
+    equal!(rt; grove.trees.groups.as_slice(), [0, 3, 4, 6].as_slice());
+    equal!(rt;
         grove.trees.bounds.as_slice(),
         [0, 3, 3, 3, 4, 6, 6].as_slice()
     );
-    assert_eq!(rt;
+    equal!(rt;
         grove.trees.values.as_slice(),
         [1, 2, 3, 100, 200, 300].as_slice()
     );
-    assert_eq!(rt; grove.trees.len(), 3);
+    equal!(rt; grove.trees.len(), 3);
     let root = grove.root(0);
-    assert_eq!(rt; node_of(root), Some((1, 2)));
-    assert_eq!(rt; node_of(kid_of(root, 0)), Some((2, 0)));
-    assert_eq!(rt; node_of(kid_of(root, 1)), Some((3, 0)));
-    assert_eq!(rt; node_of(grove.root(1)), Some((100, 0)));
-    assert_eq!(rt; node_of(kid_of(grove.root(2), 0)), Some((300, 0)));
+    equal!(rt; node_of(root), Some((1, 2)));
+    equal!(rt; node_of(kid_of(root, 0)), Some((2, 0)));
+    equal!(rt; node_of(kid_of(root, 1)), Some((3, 0)));
+    equal!(rt; node_of(grove.root(1)), Some((100, 0)));
+    equal!(rt; node_of(kid_of(grove.root(2), 0)), Some((300, 0)));
     Ok(())
 }
 
@@ -105,17 +106,17 @@ fn no_trees(rt: HostRuntime) -> Result<(), Fail> {
     let alloc = rt.alloc();
     let empty = [32, 40, 48, 48, 0, 0];
     let mut grove = Grove::<Vec<u64>>::new(alloc)?;
-    assert!(rt; grove.writes(empty.as_slice()));
-    assert_eq!(rt; refusal::<Column>(alloc, empty.as_slice())?, (0, 0));
+    holds!(rt; grove.writes(empty.as_slice()));
+    equal!(rt; refusal::<Column>(alloc, empty.as_slice())?, (0, 0));
     grove.push(ten(alloc)?)?;
     grove.clear();
-    assert!(rt; grove.writes(empty.as_slice()));
-    assert!(rt; grove.trees.is_empty());
+    holds!(rt; grove.writes(empty.as_slice()));
+    holds!(rt; grove.trees.is_empty());
     let opened = grove.reopened(alloc).expect(&rt, "accepted");
-    assert!(rt; row_of(&opened, 0).is_none());
+    holds!(rt; row_of(&opened, 0).is_none());
     grove.push(tree(alloc, 7, [])?)?;
     let words = [32, 48, 64, 72, 0, 1, 0, 1, 7];
-    assert!(rt; grove.writes(words.as_slice()));
+    holds!(rt; grove.writes(words.as_slice()));
     Ok(())
 }
 
@@ -123,12 +124,12 @@ fn no_trees(rt: HostRuntime) -> Result<(), Fail> {
 fn sums(rt: HostRuntime) -> Result<(), Fail> {
     let alloc = rt.alloc();
     let most = tree(alloc, usize::MAX - 1, [tree(alloc, 1, [])?])?;
-    assert_eq!(rt; most.sum(), Ok(usize::MAX));
+    equal!(rt; most.sum(), Ok(usize::MAX));
     let past = tree(alloc, usize::MAX, [tree(alloc, 1, [])?])?;
-    assert_eq!(rt; past.sum(), Err(SumError::Overflow));
+    equal!(rt; past.sum(), Err(SumError::Overflow));
     let below = tree(alloc, 20, [tree(alloc, 40, [])?])?;
     let kids = [below, tree(alloc, 30, [])?];
-    assert_eq!(rt; tree(alloc, 10, kids)?.sum(), Ok(100));
+    equal!(rt; tree(alloc, 10, kids)?.sum(), Ok(100));
     Ok(())
 }
 
@@ -138,18 +139,18 @@ fn a_refused_value(rt: HostRuntime) -> Result<(), Fail> {
     let alloc = rt.alloc();
     let mut grove = Grove::<Fixeds<3>>::new(alloc)?;
     let kids = [tree(alloc, 6, [])?, tree(alloc, 10, [])?];
-    assert_eq!(rt;
+    equal!(rt;
         grove.push(tree(alloc, 3u64, kids)?),
         Err(GrowError::Offset)
     );
-    assert_eq!(rt; grove.trees.groups.as_slice(), [0].as_slice());
-    assert_eq!(rt; grove.trees.bounds.as_slice(), [0].as_slice());
-    assert_eq!(rt; grove.trees.values.len(), 0);
+    equal!(rt; grove.trees.groups.as_slice(), [0].as_slice());
+    equal!(rt; grove.trees.bounds.as_slice(), [0].as_slice());
+    equal!(rt; grove.trees.values.len(), 0);
     let below = tree(alloc, 6, [tree(alloc, 12, [])?])?;
     let kids = [below, tree(alloc, 9, [])?];
     grove.push(tree(alloc, 3, kids)?)?;
-    assert_eq!(rt; grove.trees.bounds.as_slice(), [0, 3, 4, 4, 4].as_slice());
-    assert_eq!(rt; grove.trees.values.len(), 4);
+    equal!(rt; grove.trees.bounds.as_slice(), [0, 3, 4, 4, 4].as_slice());
+    equal!(rt; grove.trees.values.len(), 4);
     Ok(())
 }
 
@@ -158,7 +159,7 @@ fn trees_by_reference(rt: HostRuntime) -> Result<(), Fail> {
     let grove = three(rt.alloc())?;
     let column = &grove.trees;
     let root = row_at(&column, 0);
-    assert_eq!(rt; node_of(root), Some((&1, 2)));
-    assert_eq!(rt; node_of(kid_of(root, 1)), Some((&3, 0)));
+    equal!(rt; node_of(root), Some((&1, 2)));
+    equal!(rt; node_of(kid_of(root, 1)), Some((&3, 0)));
     Ok(())
 }

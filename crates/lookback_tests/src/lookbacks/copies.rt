@@ -8,6 +8,7 @@ use columnar_core::traits::Len;
 use std::test::Fail;
 use test_support::columns::{copied, copy_all};
 use test_support::stashes::opened;
+use test_support::{equal, holds};
 
 // The rows 7, 7, 7, of which the first two are both stored
 static TWO_SEVENS: [u64; 11] = [48, 48, 48, 64, 80, 81, 3, 3, 7, 7, 0];
@@ -16,14 +17,14 @@ static TWO_SEVENS: [u64; 11] = [48, 48, 48, 64, 80, 81, 3, 3, 7, 7, 0];
 fn a_front_is_copied_as_it_stands(rt: HostRuntime) -> Result<(), Fail> {
     let source = numbers::<Far>(rt.alloc(), RETURNS.as_slice())?;
     let mut copy = Far::with_capacity_for(rt.alloc(), [source.borrow()].iter().copied())?;
-    assert!(rt; copied(&mut copy, source.borrow(), 0, 4));
-    assert!(rt; reads(&copy, [10, 20, 10, 30].as_slice()));
-    assert!(rt; keeps(&copy, [10, 20, 30].as_slice(), [1].as_slice()));
+    holds!(rt; copied(&mut copy, source.borrow(), 0, 4));
+    holds!(rt; reads(&copy, [10, 20, 10, 30].as_slice()));
+    holds!(rt; keeps(&copy, [10, 20, 30].as_slice(), [1].as_slice()));
     let stash = opened::<Far>(rt.alloc(), TWO_SEVENS.as_slice()).expect(&rt, "opened");
     let mut sevens = Far::empty(rt.alloc());
-    assert!(rt; copied(&mut sevens, stash.borrow(), 0, 3));
-    assert!(rt; reads(&sevens, [7, 7, 7].as_slice()));
-    assert!(rt; keeps(&sevens, [7, 7].as_slice(), [0].as_slice()));
+    holds!(rt; copied(&mut sevens, stash.borrow(), 0, 3));
+    holds!(rt; reads(&sevens, [7, 7, 7].as_slice()));
+    holds!(rt; keeps(&sevens, [7, 7].as_slice(), [0].as_slice()));
     Ok(())
 }
 
@@ -31,9 +32,9 @@ fn a_front_is_copied_as_it_stands(rt: HostRuntime) -> Result<(), Fail> {
 fn a_whole_column_is_copied(rt: HostRuntime) -> Result<(), Fail> {
     let source = numbers::<Far>(rt.alloc(), RETURNS.as_slice())?;
     let mut copy = Far::empty(rt.alloc());
-    assert!(rt; copy.reserve_for([source.borrow()].iter().copied()).is_ok());
-    assert!(rt; copy_all(&mut copy, source.borrow()).is_ok());
-    assert!(rt; copy == source);
+    holds!(rt; copy.reserve_for([source.borrow()].iter().copied()).is_ok());
+    holds!(rt; copy_all(&mut copy, source.borrow()).is_ok());
+    holds!(rt; copy == source);
     Ok(())
 }
 
@@ -41,13 +42,13 @@ fn a_whole_column_is_copied(rt: HostRuntime) -> Result<(), Fail> {
 fn a_range_brings_its_own_values(rt: HostRuntime) -> Result<(), Fail> {
     let source = numbers::<Far>(rt.alloc(), RETURNS.as_slice())?;
     let mut copy = Far::empty(rt.alloc());
-    assert!(rt; copied(&mut copy, source.borrow(), 2, 5));
-    assert!(rt; reads(&copy, [10, 30, 20].as_slice()));
-    assert!(rt; keeps(&copy, [10, 30, 20].as_slice(), [].as_slice()));
+    holds!(rt; copied(&mut copy, source.borrow(), 2, 5));
+    holds!(rt; reads(&copy, [10, 30, 20].as_slice()));
+    holds!(rt; keeps(&copy, [10, 30, 20].as_slice(), [].as_slice()));
     let mut last = Far::empty(rt.alloc());
-    assert!(rt; copied(&mut last, source.borrow(), 4, 5));
-    assert!(rt; reads(&last, [20].as_slice()));
-    assert!(rt; keeps(&last, [20].as_slice(), [].as_slice()));
+    holds!(rt; copied(&mut last, source.borrow(), 4, 5));
+    holds!(rt; reads(&last, [20].as_slice()));
+    holds!(rt; keeps(&last, [20].as_slice(), [].as_slice()));
     Ok(())
 }
 
@@ -55,13 +56,13 @@ fn a_range_brings_its_own_values(rt: HostRuntime) -> Result<(), Fail> {
 fn empty_ranges_are_copied(rt: HostRuntime) -> Result<(), Fail> {
     let source = numbers::<Far>(rt.alloc(), RETURNS.as_slice())?;
     let mut copy = Far::empty(rt.alloc());
-    assert!(rt; copied(&mut copy, source.borrow(), 0, 0));
-    assert!(rt; copied(&mut copy, source.borrow(), 3, 3));
-    assert!(rt; copied(&mut copy, source.borrow(), 5, 5));
-    assert!(rt; copy.is_empty());
+    holds!(rt; copied(&mut copy, source.borrow(), 0, 0));
+    holds!(rt; copied(&mut copy, source.borrow(), 3, 3));
+    holds!(rt; copied(&mut copy, source.borrow(), 5, 5));
+    holds!(rt; copy.is_empty());
     let mut more = numbers::<Far>(rt.alloc(), [4].as_slice())?;
-    assert!(rt; copied(&mut more, source.borrow(), 3, 3));
-    assert!(rt; reads(&more, [4].as_slice()));
+    holds!(rt; copied(&mut more, source.borrow(), 3, 3));
+    holds!(rt; reads(&more, [4].as_slice()));
     Ok(())
 }
 
@@ -69,9 +70,9 @@ fn empty_ranges_are_copied(rt: HostRuntime) -> Result<(), Fail> {
 fn rows_are_copied_behind_the_same_values(rt: HostRuntime) -> Result<(), Fail> {
     let source = numbers::<Far>(rt.alloc(), RETURNS.as_slice())?;
     let mut column = numbers::<Far>(rt.alloc(), [30, 20].as_slice())?;
-    assert!(rt; copied(&mut column, source.borrow(), 0, 5));
-    assert!(rt; reads(&column, [30, 20, 10, 20, 10, 30, 20].as_slice()));
-    assert!(rt; keeps(&column, [30, 20, 10].as_slice(), [1, 0, 2, 1].as_slice()));
+    holds!(rt; copied(&mut column, source.borrow(), 0, 5));
+    holds!(rt; reads(&column, [30, 20, 10, 20, 10, 30, 20].as_slice()));
+    holds!(rt; keeps(&column, [30, 20, 10].as_slice(), [1, 0, 2, 1].as_slice()));
     Ok(())
 }
 
@@ -79,10 +80,10 @@ fn rows_are_copied_behind_the_same_values(rt: HostRuntime) -> Result<(), Fail> {
 #[test]
 fn rows_are_copied_no_further_back(rt: HostRuntime) -> Result<(), Fail> {
     let source = numbers::<Two>(rt.alloc(), [10, 20, 10, 30, 10].as_slice())?;
-    assert!(rt; keeps(&source, [10, 20, 30, 10].as_slice(), [1].as_slice()));
+    holds!(rt; keeps(&source, [10, 20, 30, 10].as_slice(), [1].as_slice()));
     let mut column = numbers::<Two>(rt.alloc(), [30].as_slice())?;
-    assert!(rt; copied(&mut column, source.borrow(), 1, 5));
-    assert!(rt; reads(&column, [30, 20, 10, 30, 10].as_slice()));
-    assert!(rt; keeps(&column, [30, 20, 10, 30].as_slice(), [1].as_slice()));
+    holds!(rt; copied(&mut column, source.borrow(), 1, 5));
+    holds!(rt; reads(&column, [30, 20, 10, 30, 10].as_slice()));
+    holds!(rt; keeps(&column, [30, 20, 10, 30].as_slice(), [1].as_slice()));
     Ok(())
 }

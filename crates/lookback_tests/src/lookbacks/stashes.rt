@@ -11,6 +11,7 @@ use columnar_core::traits::{Clear, Item, Len, Push, PushRef};
 use std::alloc::Global;
 use std::test::Fail;
 use test_support::stashes::{has, opened, variant, writes};
+use test_support::{equal, holds};
 
 // The rows 7, 9, 7: the bits 1, 1, 0, the values 7, 9 and the distance 1
 static SEVEN_AGAIN: [u64; 11] = [48, 48, 48, 64, 80, 81, 3, 3, 7, 9, 1];
@@ -19,23 +20,23 @@ static SEVEN_AGAIN: [u64; 11] = [48, 48, 48, 64, 80, 81, 3, 3, 7, 9, 1];
 fn a_stash_grows_and_is_cut(rt: HostRuntime) -> Result<(), Fail> {
     let source = numbers::<Far>(rt.alloc(), RETURNS.as_slice())?;
     let mut stash = Stash::<Far, Vec<u8>>::empty(rt.alloc());
-    assert!(rt; stash.push(7u64).is_ok());
-    assert!(rt; stash.push(&9u64).is_ok());
-    assert!(rt; stash.push_ref(&7u64).is_ok());
-    assert!(rt; writes(&stash, SEVEN_AGAIN.as_slice()));
+    holds!(rt; stash.push(7u64).is_ok());
+    holds!(rt; stash.push(&9u64).is_ok());
+    holds!(rt; stash.push_ref(&7u64).is_ok());
+    holds!(rt; writes(&stash, SEVEN_AGAIN.as_slice()));
     let view = source.borrow();
     if view.len() < 3 {
         return Err(Fail::from("too few"));
     }
-    assert!(rt; stash.extend_from_self(view, 1..3).is_ok());
-    assert!(rt; has(&stash, [7, 9, 7, 20, 10].as_slice()));
-    assert_eq!(rt; stash.length_in_bytes(), Some(104));
+    holds!(rt; stash.extend_from_self(view, 1..3).is_ok());
+    holds!(rt; has(&stash, [7, 9, 7, 20, 10].as_slice()));
+    equal!(rt; stash.length_in_bytes(), Some(104));
     if stash.len() > 2 {
-        assert!(rt; stash.truncate(2).is_ok());
+        holds!(rt; stash.truncate(2).is_ok());
     }
-    assert!(rt; writes(&stash, [48, 48, 48, 64, 80, 80, 3, 2, 7, 9].as_slice()));
+    holds!(rt; writes(&stash, [48, 48, 48, 64, 80, 80, 3, 2, 7, 9].as_slice()));
     stash.clear();
-    assert!(rt; writes(&stash, [48, 48, 48, 64, 64, 64, 0, 0].as_slice()));
+    holds!(rt; writes(&stash, [48, 48, 48, 64, 64, 64, 0, 0].as_slice()));
     Ok(())
 }
 
@@ -45,15 +46,15 @@ static NINE_AGAIN: [u64; 11] = [48, 48, 48, 64, 80, 82, 3, 4, 7, 9, 1];
 #[test]
 fn opened_bytes_grow(rt: HostRuntime) -> Result<(), Fail> {
     let mut stash = opened::<Far>(rt.alloc(), SEVEN_AGAIN.as_slice()).expect(&rt, "opened");
-    assert_eq!(rt; variant(&stash), 1);
-    assert!(rt; stash.make_aligned(rt.alloc()).is_ok());
-    assert_eq!(rt; variant(&stash), 2);
-    assert!(rt; has(&stash, [7, 9, 7].as_slice()));
-    assert!(rt; stash.push(9u64).is_ok());
-    assert_eq!(rt; variant(&stash), 0);
-    assert!(rt; has(&stash, [7, 9, 7, 9].as_slice()));
-    assert!(rt; writes(&stash, NINE_AGAIN.as_slice()));
-    assert!(rt; writes(&stash.clone()?, NINE_AGAIN.as_slice()));
+    equal!(rt; variant(&stash), 1);
+    holds!(rt; stash.make_aligned(rt.alloc()).is_ok());
+    equal!(rt; variant(&stash), 2);
+    holds!(rt; has(&stash, [7, 9, 7].as_slice()));
+    holds!(rt; stash.push(9u64).is_ok());
+    equal!(rt; variant(&stash), 0);
+    holds!(rt; has(&stash, [7, 9, 7, 9].as_slice()));
+    holds!(rt; writes(&stash, NINE_AGAIN.as_slice()));
+    holds!(rt; writes(&stash.clone()?, NINE_AGAIN.as_slice()));
     Ok(())
 }
 
@@ -96,7 +97,7 @@ fn a_list_of_commands(rt: HostRuntime) -> Result<(), Fail> {
     ];
     let wanted = [DONE, DONE, DONE, RANGE, DONE, DONE, DONE, DONE];
     let after = [48, 48, 48, 64, 80, 82, 3, 4, 10, 20, 1];
-    assert!(rt;
+    holds!(rt;
         tells::<_, _, Far>(
             rt.alloc(),
             source.borrow(),

@@ -16,6 +16,7 @@ use columnar_sums::result::Results;
 use std::test::Fail;
 use test_support::stashes::{has, opened, reopened, variant, writes};
 use test_support::stores::{is_written, refusal};
+use test_support::{equal, holds};
 
 type Viewed<'a> = Lookbacks<
     View<'a, u64>,
@@ -31,17 +32,17 @@ static RETURNS_STORED: [u64; 12] = [48, 48, 48, 64, 88, 90, 11, 5, 10, 20, 30, 2
 
 #[test]
 fn a_store_that_is_accepted(rt: HostRuntime) -> Result<(), Fail> {
-    assert_eq!(rt;
+    equal!(rt;
         refusal::<Far>(rt.alloc(), RETURNS_STORED.as_slice())?,
         (0, 0)
     );
     let stash = opened::<Far>(rt.alloc(), RETURNS_STORED.as_slice()).expect(&rt, "opened");
-    assert_eq!(rt; variant(&stash), 1);
-    assert!(rt; has(&stash, RETURNS.as_slice()));
+    equal!(rt; variant(&stash), 1);
+    holds!(rt; has(&stash, RETURNS.as_slice()));
     let none = [48, 48, 48, 64, 64, 64, 0, 0];
-    assert_eq!(rt; refusal::<Far>(rt.alloc(), none.as_slice())?, (0, 0));
+    equal!(rt; refusal::<Far>(rt.alloc(), none.as_slice())?, (0, 0));
     let stash = opened::<Far>(rt.alloc(), none.as_slice()).expect(&rt, "opened");
-    assert!(rt; stash.is_empty());
+    holds!(rt; stash.is_empty());
     Ok(())
 }
 
@@ -49,13 +50,13 @@ fn a_store_that_is_accepted(rt: HostRuntime) -> Result<(), Fail> {
 fn each_distance_is_below_the_values_before_it(rt: HostRuntime) -> Result<(), Fail> {
     let alloc = rt.alloc();
     let first_too_far = [48, 48, 48, 64, 88, 90, 11, 5, 10, 20, 30, 258];
-    assert_eq!(rt; refusal::<Far>(alloc, first_too_far.as_slice())?, (15, 0));
+    equal!(rt; refusal::<Far>(alloc, first_too_far.as_slice())?, (15, 0));
     let last_too_far = [48, 48, 48, 64, 88, 90, 11, 5, 10, 20, 30, 769];
-    assert_eq!(rt; refusal::<Far>(alloc, last_too_far.as_slice())?, (15, 0));
+    equal!(rt; refusal::<Far>(alloc, last_too_far.as_slice())?, (15, 0));
     let no_value = [48, 48, 48, 64, 64, 65, 0, 1, 0];
-    assert_eq!(rt; refusal::<Far>(alloc, no_value.as_slice())?, (15, 0));
+    equal!(rt; refusal::<Far>(alloc, no_value.as_slice())?, (15, 0));
     let behind_one = [56, 64, 64, 64, 80, 80, 81, 5, 0, 1, 0];
-    assert_eq!(rt;
+    equal!(rt;
         refusal::<(Vec<u64>, Far)>(alloc, behind_one.as_slice())?,
         (15, 1)
     );
@@ -68,12 +69,12 @@ fn a_distance_may_be_further_than_a_push_looks(rt: HostRuntime) -> Result<(), Fa
     let alloc = rt.alloc();
     let words = [48, 48, 48, 64, 88, 90, 11, 5, 10, 20, 30, 513];
     let rows = [10, 20, 10, 30, 10];
-    assert_eq!(rt; refusal::<Far>(alloc, words.as_slice())?, (0, 0));
+    equal!(rt; refusal::<Far>(alloc, words.as_slice())?, (0, 0));
     let far = opened::<Far>(alloc, words.as_slice()).expect(&rt, "opened");
-    assert!(rt; has(&far, rows.as_slice()));
-    assert_eq!(rt; refusal::<Two>(alloc, words.as_slice())?, (0, 0));
+    holds!(rt; has(&far, rows.as_slice()));
+    equal!(rt; refusal::<Two>(alloc, words.as_slice())?, (0, 0));
     let two = opened::<Two>(alloc, words.as_slice()).expect(&rt, "opened");
-    assert!(rt; has(&two, rows.as_slice()));
+    holds!(rt; has(&two, rows.as_slice()));
     Ok(())
 }
 
@@ -82,9 +83,9 @@ fn a_distance_may_be_further_than_a_push_looks(rt: HostRuntime) -> Result<(), Fa
 fn the_least_distance_is_kept(rt: HostRuntime) -> Result<(), Fail> {
     let words = [48, 48, 48, 64, 88, 88, 7, 3, 7, 7, 9];
     let mut stash = opened::<Far>(rt.alloc(), words.as_slice()).expect(&rt, "opened");
-    assert!(rt; stash.push(7u64).is_ok());
-    assert!(rt; has(&stash, [7, 7, 9, 7].as_slice()));
-    assert!(rt;
+    holds!(rt; stash.push(7u64).is_ok());
+    holds!(rt; has(&stash, [7, 7, 9, 7].as_slice()));
+    holds!(rt;
         writes(
             &stash,
             [48, 48, 48, 64, 88, 89, 7, 4, 7, 7, 9, 1].as_slice()
@@ -97,15 +98,15 @@ fn the_least_distance_is_kept(rt: HostRuntime) -> Result<(), Fail> {
 fn as_many_values_and_distances_as_bits(rt: HostRuntime) -> Result<(), Fail> {
     let alloc = rt.alloc();
     let one_value_more = [48, 48, 48, 64, 96, 98, 11, 5, 10, 20, 30, 40, 257];
-    assert_eq!(rt; refusal::<Far>(alloc, one_value_more.as_slice())?, (10, 0));
+    equal!(rt; refusal::<Far>(alloc, one_value_more.as_slice())?, (10, 0));
     let one_distance_less = [48, 48, 48, 64, 88, 89, 11, 5, 10, 20, 30, 1];
-    assert_eq!(rt;
+    equal!(rt;
         refusal::<Far>(alloc, one_distance_less.as_slice())?,
         (10, 0)
     );
     // (this rule comes before that of the distances)
     let no_bit = [48, 48, 48, 64, 72, 73, 0, 1, 7, 1];
-    assert_eq!(rt; refusal::<Far>(alloc, no_bit.as_slice())?, (10, 0));
+    equal!(rt; refusal::<Far>(alloc, no_bit.as_slice())?, (10, 0));
     Ok(())
 }
 
@@ -146,7 +147,7 @@ fn a_view_tests_itself(rt: HostRuntime) -> Result<(), Fail> {
                 errs: distances,
             },
         };
-        assert_eq!(rt; view.check(), wanted);
+        equal!(rt; view.check(), wanted);
     }
     Ok(())
 }
@@ -154,14 +155,14 @@ fn a_view_tests_itself(rt: HostRuntime) -> Result<(), Fail> {
 #[test]
 fn distances_are_written_tested_and_opened(rt: HostRuntime) -> Result<(), Fail> {
     let column = numbers::<Far>(rt.alloc(), RETURNS.as_slice())?;
-    assert!(rt; is_written(&column, RETURNS_STORED.as_slice()));
+    holds!(rt; is_written(&column, RETURNS_STORED.as_slice()));
     let mut words = Vec::new(rt.alloc());
-    assert!(rt; encode(&mut words, &column.borrow()).is_ok());
-    assert_eq!(rt; words.as_slice(), RETURNS_STORED.as_slice());
+    holds!(rt; encode(&mut words, &column.borrow()).is_ok());
+    equal!(rt; words.as_slice(), RETURNS_STORED.as_slice());
     let stash = reopened(rt.alloc(), &Stash::<_, Vec<u8>>::Typed(column)).expect(&rt, "reopened");
-    assert_eq!(rt; variant(&stash), 1);
-    assert!(rt; has(&stash, RETURNS.as_slice()));
-    assert!(rt; writes(&stash, RETURNS_STORED.as_slice()));
+    equal!(rt; variant(&stash), 1);
+    holds!(rt; has(&stash, RETURNS.as_slice()));
+    holds!(rt; writes(&stash, RETURNS_STORED.as_slice()));
     Ok(())
 }
 
@@ -172,20 +173,20 @@ fn a_store_is_loaded_as_it_stands(rt: HostRuntime) -> Result<(), Fail> {
     let Stash::Typed(column) = stash.to_typed(rt.alloc())? else {
         return Err(Fail::from("not a column"));
     };
-    assert!(rt; keeps(&column, [7, 7].as_slice(), [1].as_slice()));
-    assert!(rt; is_written(&column, two_sevens.as_slice()));
+    holds!(rt; keeps(&column, [7, 7].as_slice(), [1].as_slice()));
+    holds!(rt; is_written(&column, two_sevens.as_slice()));
     Ok(())
 }
 
 #[test]
 fn slices_of_distances(rt: HostRuntime) -> Result<(), Fail> {
     let mut sizes = Vec::new(rt.alloc());
-    assert_eq!(rt; Far::slice_count(), 5);
-    assert!(rt; Far::element_sizes(&mut sizes).is_ok());
-    assert_eq!(rt; sizes.as_slice(), [8, 8, 8, 8, 1].as_slice());
+    equal!(rt; Far::slice_count(), 5);
+    holds!(rt; Far::element_sizes(&mut sizes).is_ok());
+    equal!(rt; sizes.as_slice(), [8, 8, 8, 8, 1].as_slice());
     let column = numbers::<Far>(rt.alloc(), RETURNS.as_slice())?;
-    assert_eq!(rt; column.byte_slice(2).len(), 16);
-    assert_eq!(rt; column.byte_slice(3).len(), 24);
-    assert_eq!(rt; column.borrow().get_byte_slice(4).1.len(), 2);
+    equal!(rt; column.byte_slice(2).len(), 16);
+    equal!(rt; column.byte_slice(3).len(), 24);
+    equal!(rt; column.borrow().get_byte_slice(4).1.len(), 2);
     Ok(())
 }

@@ -9,6 +9,7 @@ use columnar_strings::string::Strings;
 use std::alloc::Global;
 use std::test::Fail;
 use test_support::columns::row_at;
+use test_support::equal;
 
 // As many names, all different, and then each once more, in the same order or in reverse
 fn names(alloc: Global, count: u64, is_reversed: bool) -> Result<Vec<String>, Fail> {
@@ -63,8 +64,8 @@ fn stored<const N: u8>(alloc: Global, rows: &[String]) -> Result<Option<usize>, 
 #[test]
 fn names_that_come_again_in_their_order(rt: HostRuntime) -> Result<(), Fail> {
     let rows = names(rt.alloc(), 300, false)?;
-    assert_eq!(rt; stored::<255>(rt.alloc(), rows.as_slice())?, Some(600));
-    assert_eq!(rt; stored::<3>(rt.alloc(), rows.as_slice())?, Some(600));
+    equal!(rt; stored::<255>(rt.alloc(), rows.as_slice())?, Some(600));
+    equal!(rt; stored::<3>(rt.alloc(), rows.as_slice())?, Some(600));
     Ok(())
 }
 
@@ -72,15 +73,15 @@ fn names_that_come_again_in_their_order(rt: HostRuntime) -> Result<(), Fail> {
 #[test]
 fn names_that_come_again_in_reverse(rt: HostRuntime) -> Result<(), Fail> {
     let rows = names(rt.alloc(), 300, true)?;
-    assert_eq!(rt; stored::<255>(rt.alloc(), rows.as_slice())?, Some(345));
-    assert_eq!(rt; stored::<3>(rt.alloc(), rows.as_slice())?, Some(597));
+    equal!(rt; stored::<255>(rt.alloc(), rows.as_slice())?, Some(345));
+    equal!(rt; stored::<3>(rt.alloc(), rows.as_slice())?, Some(597));
     Ok(())
 }
 
 #[test]
 fn names_that_are_all_among_the_last(rt: HostRuntime) -> Result<(), Fail> {
     let rows = names(rt.alloc(), 255, false)?;
-    assert_eq!(rt; stored::<255>(rt.alloc(), rows.as_slice())?, Some(255));
-    assert_eq!(rt; stored::<254>(rt.alloc(), rows.as_slice())?, Some(510));
+    equal!(rt; stored::<255>(rt.alloc(), rows.as_slice())?, Some(255));
+    equal!(rt; stored::<254>(rt.alloc(), rows.as_slice())?, Some(510));
     Ok(())
 }

@@ -5,6 +5,7 @@ use columnar_lookback::lookbacks::Lookbacks;
 use columnar_strings::string::Strings;
 use columnar_sums::option::Options;
 use std::test::Fail;
+use test_support::holds;
 use test_support::stashes::opened;
 use test_support::trials::{
     Trial, both_pushes_keep, calls_keep, copies_keep, is_lawful, pushes_keep,
@@ -32,12 +33,12 @@ fn a_new_value(rt: HostRuntime) -> Result<(), Fail> {
         into: SEVENS_AND_NINE.as_slice(),
         with_taken: [48, 48, 48, 64, 88, 91, 37, 6, 7, 9, 8, 0].as_slice(),
     };
-    assert!(rt; is_lawful::<Far>(alloc, &trial));
+    holds!(rt; is_lawful::<Far>(alloc, &trial));
     let Some(source) = opened::<Far>(alloc, trial.source) else {
         return Ok(());
     };
-    assert!(rt; pushes_keep::<u64, Far>(alloc, &8, &trial));
-    assert!(rt; calls_keep::<_, Far>(alloc, source.borrow(), &trial));
+    holds!(rt; pushes_keep::<u64, Far>(alloc, &8, &trial));
+    holds!(rt; calls_keep::<_, Far>(alloc, source.borrow(), &trial));
     Ok(())
 }
 
@@ -54,12 +55,12 @@ fn a_distance(rt: HostRuntime) -> Result<(), Fail> {
         into: SEVENS_AND_NINE.as_slice(),
         with_taken: [48, 48, 48, 64, 128, 129, 509, 9, 7, 9, 1, 2, 3, 4, 5, 6, 0].as_slice(),
     };
-    assert!(rt; is_lawful::<Far>(alloc, &trial));
+    holds!(rt; is_lawful::<Far>(alloc, &trial));
     let Some(source) = opened::<Far>(alloc, trial.source) else {
         return Ok(());
     };
-    assert!(rt; pushes_keep::<u64, Far>(alloc, &7, &trial));
-    assert!(rt; calls_keep::<_, Far>(alloc, source.borrow(), &trial));
+    holds!(rt; pushes_keep::<u64, Far>(alloc, &7, &trial));
+    holds!(rt; calls_keep::<_, Far>(alloc, source.borrow(), &trial));
     Ok(())
 }
 
@@ -101,12 +102,12 @@ fn the_last_bit_of_a_word(rt: HostRuntime) -> Result<(), Fail> {
         into: before.as_slice(),
         with_taken: with_taken.as_slice(),
     };
-    assert!(rt; is_lawful::<Far>(alloc, &trial));
+    holds!(rt; is_lawful::<Far>(alloc, &trial));
     let Some(source) = opened::<Far>(alloc, trial.source) else {
         return Ok(());
     };
-    assert!(rt; pushes_keep::<u64, Far>(alloc, &8, &trial));
-    assert!(rt; calls_keep::<_, Far>(alloc, source.borrow(), &trial));
+    holds!(rt; pushes_keep::<u64, Far>(alloc, &8, &trial));
+    holds!(rt; calls_keep::<_, Far>(alloc, source.borrow(), &trial));
     Ok(())
 }
 
@@ -125,12 +126,12 @@ fn pairs_that_come_again(rt: HostRuntime) -> Result<(), Fail> {
         into: before.as_slice(),
         with_taken: after.as_slice(),
     };
-    assert!(rt; is_lawful::<Pairs>(alloc, &trial));
+    holds!(rt; is_lawful::<Pairs>(alloc, &trial));
     let Some(source) = opened::<Pairs>(alloc, trial.source) else {
         return Ok(());
     };
-    assert!(rt; both_pushes_keep::<(u64, u64), Pairs>(alloc, (3, 30), &trial));
-    assert!(rt; calls_keep::<_, Pairs>(alloc, source.borrow(), &trial));
+    holds!(rt; both_pushes_keep::<(u64, u64), Pairs>(alloc, (3, 30), &trial));
+    holds!(rt; calls_keep::<_, Pairs>(alloc, source.borrow(), &trial));
     Ok(())
 }
 
@@ -156,11 +157,11 @@ fn numbers_with_texts_that_may_be_absent(rt: HostRuntime) -> Result<(), Fail> {
         into: before.as_slice(),
         with_taken: after.as_slice(),
     };
-    assert!(rt; is_lawful::<Named>(alloc, &trial));
+    holds!(rt; is_lawful::<Named>(alloc, &trial));
     let Some(source) = opened::<Named>(alloc, trial.source) else {
         return Ok(());
     };
-    assert!(rt; both_pushes_keep::<Option<(u64, &str)>, Named>(alloc, Some((2, "cd")), &trial));
-    assert!(rt; copies_keep::<_, Named>(alloc, source.borrow(), &trial));
+    holds!(rt; both_pushes_keep::<Option<(u64, &str)>, Named>(alloc, Some((2, "cd")), &trial));
+    holds!(rt; copies_keep::<_, Named>(alloc, source.borrow(), &trial));
     Ok(())
 }

@@ -11,6 +11,7 @@ use columnar_lookback::lookbacks::Lookbacks;
 use std::test::Fail;
 use test_support::columns::{item_of, takes};
 use test_support::stashes::{opened, row_of, variant, writes};
+use test_support::{equal, holds};
 
 pub(super) type Held = Lookbacks<Tens<Vec<u64>>, 255>;
 
@@ -25,12 +26,12 @@ static TWO_LISTS: [u64; 13] = [56, 72, 72, 72, 88, 104, 104, 1, 2, 3, 2, 13, 23]
 #[test]
 fn the_same_digit_is_kept_as_its_distance(rt: HostRuntime) -> Result<(), Fail> {
     let column = numbers::<Held>(rt.alloc(), [13, 27, 23].as_slice())?;
-    assert!(rt; reads(&column, [13, 27, 13].as_slice()));
-    assert_eq!(rt; column.inner.oks.numbers.as_slice(), [13, 27].as_slice());
-    assert_eq!(rt; column.inner.errs.as_slice(), [1].as_slice());
-    assert_eq!(rt; column.distance_to(&107u64), Some(0));
-    assert_eq!(rt; column.distance_to(&3u64), Some(1));
-    assert_eq!(rt; column.distance_to(&31u64), None);
+    holds!(rt; reads(&column, [13, 27, 13].as_slice()));
+    equal!(rt; column.inner.oks.numbers.as_slice(), [13, 27].as_slice());
+    equal!(rt; column.inner.errs.as_slice(), [1].as_slice());
+    equal!(rt; column.distance_to(&107u64), Some(0));
+    equal!(rt; column.distance_to(&3u64), Some(1));
+    equal!(rt; column.distance_to(&31u64), None);
     Ok(())
 }
 
@@ -39,13 +40,13 @@ fn bytes_with_one_digit_twice_are_pushed_to(rt: HostRuntime) -> Result<(), Fail>
     let mut stash = opened::<Held>(rt.alloc(), BOTH_STORED.as_slice()).expect(&rt, "opened");
     match stash.make_typed() {
         Ok(column) => {
-            assert!(rt; takes(column, 33u64));
-            assert!(rt; reads(&*column, [13, 23, 23].as_slice()));
+            holds!(rt; takes(column, 33u64));
+            holds!(rt; reads(&*column, [13, 23, 23].as_slice()));
         }
-        Err(_) => assert!(rt; false),
+        Err(_) => holds!(rt; false),
     }
-    assert_eq!(rt; variant(&stash), 0);
-    assert!(rt; writes(&stash, [48, 48, 48, 64, 80, 81, 3, 3, 13, 23, 0].as_slice()));
+    equal!(rt; variant(&stash), 0);
+    holds!(rt; writes(&stash, [48, 48, 48, 64, 80, 81, 3, 3, 13, 23, 0].as_slice()));
     Ok(())
 }
 
@@ -62,10 +63,10 @@ fn has_both_lists<'a>(stash: &'a Stash<Lists, Vec<u8>>) -> bool
 #[test]
 fn lists_of_digits_are_opened_and_loaded(rt: HostRuntime) -> Result<(), Fail> {
     let stash = opened::<Lists>(rt.alloc(), TWO_LISTS.as_slice()).expect(&rt, "opened");
-    assert_eq!(rt; variant(&stash), 1);
-    assert!(rt; has_both_lists(&stash));
+    equal!(rt; variant(&stash), 1);
+    holds!(rt; has_both_lists(&stash));
     let typed = stash.to_typed(rt.alloc())?;
-    assert_eq!(rt; variant(&typed), 0);
-    assert!(rt; has_both_lists(&typed));
+    equal!(rt; variant(&typed), 0);
+    holds!(rt; has_both_lists(&typed));
     Ok(())
 }

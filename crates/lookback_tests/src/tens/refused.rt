@@ -7,24 +7,25 @@ use columnar_core::traits::Push;
 use std::test::Fail;
 use test_support::stashes::{has, opened, variant, writes};
 use test_support::trials::is_refused;
+use test_support::{equal, holds};
 
 #[test]
 fn a_push_to_opened_bytes(rt: HostRuntime) -> Result<(), Fail> {
     let alloc = rt.alloc();
-    assert!(rt; !is_refused::<Held>(alloc, BOTH_STORED.as_slice()));
+    holds!(rt; !is_refused::<Held>(alloc, BOTH_STORED.as_slice()));
     let Some(mut stash) = opened::<Held>(alloc, BOTH_STORED.as_slice()) else {
         return Ok(());
     };
     match stash.push(33u64) {
         Ok(()) => {
-            assert_eq!(rt; variant(&stash), 0);
-            assert!(rt; has(&stash, [13, 23, 23].as_slice()));
+            equal!(rt; variant(&stash), 0);
+            holds!(rt; has(&stash, [13, 23, 23].as_slice()));
         }
         Err(error) => {
-            assert_eq!(rt; error, GrowError::Memory);
-            assert_eq!(rt; variant(&stash), 1);
-            assert!(rt; has(&stash, [13, 23].as_slice()));
-            assert!(rt; writes(&stash, BOTH_STORED.as_slice()));
+            equal!(rt; error, GrowError::Memory);
+            equal!(rt; variant(&stash), 1);
+            holds!(rt; has(&stash, [13, 23].as_slice()));
+            holds!(rt; writes(&stash, BOTH_STORED.as_slice()));
         }
     }
     Ok(())

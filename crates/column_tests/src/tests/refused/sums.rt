@@ -10,6 +10,7 @@ use std::test::Fail;
 use test_support::keeps::{encoding_keeps, sizes_keep};
 use test_support::stashes::opened;
 use test_support::trials::{Trial, calls_keep, is_lawful, pushes_keep, turns_and_clones_keep};
+use test_support::{equal, holds};
 
 type Oks = Results<Vec<u64>, Empties>;
 
@@ -90,12 +91,12 @@ fn columns_of_oks(rt: HostRuntime) -> Result<(), Fail> {
         into: OKS.as_slice(),
         with_taken: OKS_AND_ONE.as_slice(),
     };
-    assert!(rt; is_lawful::<Oks>(alloc, &trial));
+    holds!(rt; is_lawful::<Oks>(alloc, &trial));
     let Some(source) = opened::<Oks>(alloc, trial.source) else {
         return Ok(());
     };
-    assert!(rt; pushes_keep::<Result<u64, ()>, Oks>(alloc, &Ok(5), &trial));
-    assert!(rt; calls_keep::<_, Oks>(alloc, source.borrow(), &trial));
+    holds!(rt; pushes_keep::<Result<u64, ()>, Oks>(alloc, &Ok(5), &trial));
+    holds!(rt; calls_keep::<_, Oks>(alloc, source.borrow(), &trial));
     Ok(())
 }
 
@@ -111,12 +112,12 @@ fn columns_of_errs(rt: HostRuntime) -> Result<(), Fail> {
         into: ERRS.as_slice(),
         with_taken: ERRS_AND_ONE.as_slice(),
     };
-    assert!(rt; is_lawful::<Errs>(alloc, &trial));
+    holds!(rt; is_lawful::<Errs>(alloc, &trial));
     let Some(source) = opened::<Errs>(alloc, trial.source) else {
         return Ok(());
     };
-    assert!(rt; pushes_keep::<Result<(), u64>, Errs>(alloc, &Err(5), &trial));
-    assert!(rt; calls_keep::<_, Errs>(alloc, source.borrow(), &trial));
+    holds!(rt; pushes_keep::<Result<(), u64>, Errs>(alloc, &Err(5), &trial));
+    holds!(rt; calls_keep::<_, Errs>(alloc, source.borrow(), &trial));
     Ok(())
 }
 
@@ -145,20 +146,20 @@ fn pushes_of_variants(rt: HostRuntime) -> Result<(), Fail> {
     if !push_of_kind_keeps(&mut kinds, 7, 0) {
         return Err(Fail::from("the first"));
     }
-    assert_eq!(rt; kinds.offset.as_slice(), [8, 1].as_slice());
+    equal!(rt; kinds.offset.as_slice(), [8, 1].as_slice());
     if kinds.push(7, 1).is_err() {
         return Err(Fail::from("the same variant"));
     }
-    assert_eq!(rt; kinds.offset.as_slice(), [8, 2].as_slice());
+    equal!(rt; kinds.offset.as_slice(), [8, 2].as_slice());
     if !push_of_kind_keeps(&mut kinds, 5, 0) {
         return Err(Fail::from("another variant"));
     }
-    assert_eq!(rt; kinds.offset.as_slice(), [0, 1, 0].as_slice());
+    equal!(rt; kinds.offset.as_slice(), [0, 1, 0].as_slice());
     if !push_of_kind_keeps(&mut kinds, 7, 2) {
         return Err(Fail::from("the first variant again"));
     }
-    assert_eq!(rt; kinds.variant.as_slice(), [7, 7, 5, 7].as_slice());
-    assert_eq!(rt; kinds.offset.as_slice(), [0, 1, 0, 2].as_slice());
+    equal!(rt; kinds.variant.as_slice(), [7, 7, 5, 7].as_slice());
+    equal!(rt; kinds.offset.as_slice(), [0, 1, 0, 2].as_slice());
     Ok(())
 }
 
@@ -174,26 +175,26 @@ fn columns_of_variants(rt: HostRuntime) -> Result<(), Fail> {
         into: TWO.as_slice(),
         with_taken: TWO.as_slice(),
     };
-    assert!(rt; is_lawful::<Kinds>(alloc, &trial));
-    assert!(rt; turns_and_clones_keep::<Kinds>(alloc, &trial));
+    holds!(rt; is_lawful::<Kinds>(alloc, &trial));
+    holds!(rt; turns_and_clones_keep::<Kinds>(alloc, &trial));
     let Some(source) = opened::<Kinds>(alloc, THREE.as_slice()) else {
         return Ok(());
     };
-    assert!(rt; encoding_keeps(alloc, &source.borrow(), THREE.as_slice()));
+    holds!(rt; encoding_keeps(alloc, &source.borrow(), THREE.as_slice()));
     let mut kinds = Kinds::empty(alloc);
     match kinds.reserve_for([source.borrow()].iter().copied()) {
         Ok(()) => {}
-        Err(error) => assert_eq!(rt; error, GrowError::Memory),
+        Err(error) => equal!(rt; error, GrowError::Memory),
     }
-    assert!(rt; kinds.is_empty());
+    holds!(rt; kinds.is_empty());
     Ok(())
 }
 
 #[test]
 fn sizes_of_elements(rt: HostRuntime) -> Result<(), Fail> {
     let mut sizes = Vec::new(rt.alloc());
-    assert!(rt; sizes_keep::<Oks>(&mut sizes));
-    assert!(rt; sizes_keep::<Errs>(&mut sizes));
-    assert!(rt; sizes_keep::<Kinds>(&mut sizes));
+    holds!(rt; sizes_keep::<Oks>(&mut sizes));
+    holds!(rt; sizes_keep::<Errs>(&mut sizes));
+    holds!(rt; sizes_keep::<Kinds>(&mut sizes));
     Ok(())
 }

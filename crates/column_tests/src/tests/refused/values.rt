@@ -10,6 +10,7 @@ use std::time::Duration;
 use test_support::keeps::sizes_keep;
 use test_support::stashes::opened;
 use test_support::trials::{Trial, calls_keep, copies_keep, is_lawful, pushes_keep};
+use test_support::{equal, holds};
 
 type Sizes = Usizes;
 
@@ -119,12 +120,12 @@ fn columns_of_sizes(rt: HostRuntime) -> Result<(), Fail> {
         into: NUMBERS.as_slice(),
         with_taken: NUMBERS_AND_ONE.as_slice(),
     };
-    assert!(rt; is_lawful::<Sizes>(alloc, &trial));
+    holds!(rt; is_lawful::<Sizes>(alloc, &trial));
     let Some(source) = opened::<Sizes>(alloc, trial.source) else {
         return Ok(());
     };
-    assert!(rt; pushes_keep::<usize, Sizes>(alloc, &5, &trial));
-    assert!(rt; calls_keep::<_, Sizes>(alloc, source.borrow(), &trial));
+    holds!(rt; pushes_keep::<usize, Sizes>(alloc, &5, &trial));
+    holds!(rt; calls_keep::<_, Sizes>(alloc, source.borrow(), &trial));
     Ok(())
 }
 
@@ -140,12 +141,12 @@ fn columns_of_differences(rt: HostRuntime) -> Result<(), Fail> {
         into: NUMBERS.as_slice(),
         with_taken: NUMBERS_AND_ONE.as_slice(),
     };
-    assert!(rt; is_lawful::<Differences>(alloc, &trial));
+    holds!(rt; is_lawful::<Differences>(alloc, &trial));
     let Some(source) = opened::<Differences>(alloc, trial.source) else {
         return Ok(());
     };
-    assert!(rt; pushes_keep::<isize, Differences>(alloc, &5, &trial));
-    assert!(rt; calls_keep::<_, Differences>(alloc, source.borrow(), &trial));
+    holds!(rt; pushes_keep::<isize, Differences>(alloc, &5, &trial));
+    holds!(rt; calls_keep::<_, Differences>(alloc, source.borrow(), &trial));
     Ok(())
 }
 
@@ -161,12 +162,12 @@ fn columns_of_characters(rt: HostRuntime) -> Result<(), Fail> {
         into: CHARACTERS.as_slice(),
         with_taken: CHARACTERS_AND_ONE.as_slice(),
     };
-    assert!(rt; is_lawful::<Characters>(alloc, &trial));
+    holds!(rt; is_lawful::<Characters>(alloc, &trial));
     let Some(source) = opened::<Characters>(alloc, trial.source) else {
         return Ok(());
     };
-    assert!(rt; pushes_keep::<char, Characters>(alloc, &'e', &trial));
-    assert!(rt; calls_keep::<_, Characters>(alloc, source.borrow(), &trial));
+    holds!(rt; pushes_keep::<char, Characters>(alloc, &'e', &trial));
+    holds!(rt; calls_keep::<_, Characters>(alloc, source.borrow(), &trial));
     Ok(())
 }
 
@@ -182,12 +183,12 @@ fn columns_of_large_numbers(rt: HostRuntime) -> Result<(), Fail> {
         into: LARGE.as_slice(),
         with_taken: LARGE_AND_ONE.as_slice(),
     };
-    assert!(rt; is_lawful::<Large>(alloc, &trial));
+    holds!(rt; is_lawful::<Large>(alloc, &trial));
     let Some(source) = opened::<Large>(alloc, trial.source) else {
         return Ok(());
     };
-    assert!(rt; pushes_keep::<u128, Large>(alloc, &5, &trial));
-    assert!(rt; calls_keep::<_, Large>(alloc, source.borrow(), &trial));
+    holds!(rt; pushes_keep::<u128, Large>(alloc, &5, &trial));
+    holds!(rt; calls_keep::<_, Large>(alloc, source.borrow(), &trial));
     Ok(())
 }
 
@@ -203,12 +204,12 @@ fn columns_of_large_signed_numbers(rt: HostRuntime) -> Result<(), Fail> {
         into: LARGE.as_slice(),
         with_taken: LARGE_AND_MINUS.as_slice(),
     };
-    assert!(rt; is_lawful::<LargeSigned>(alloc, &trial));
+    holds!(rt; is_lawful::<LargeSigned>(alloc, &trial));
     let Some(source) = opened::<LargeSigned>(alloc, trial.source) else {
         return Ok(());
     };
-    assert!(rt; pushes_keep::<i128, LargeSigned>(alloc, &-5, &trial));
-    assert!(rt; calls_keep::<_, LargeSigned>(alloc, source.borrow(), &trial));
+    holds!(rt; pushes_keep::<i128, LargeSigned>(alloc, &-5, &trial));
+    holds!(rt; calls_keep::<_, LargeSigned>(alloc, source.borrow(), &trial));
     Ok(())
 }
 
@@ -224,12 +225,12 @@ fn columns_of_durations(rt: HostRuntime) -> Result<(), Fail> {
         into: TIMES.as_slice(),
         with_taken: TIMES_AND_ONE.as_slice(),
     };
-    assert!(rt; is_lawful::<Times>(alloc, &trial));
+    holds!(rt; is_lawful::<Times>(alloc, &trial));
     let Some(source) = opened::<Times>(alloc, trial.source) else {
         return Ok(());
     };
-    assert!(rt; pushes_keep::<Duration, Times>(alloc, &Duration::new(5, 50), &trial));
-    assert!(rt; calls_keep::<_, Times>(alloc, source.borrow(), &trial));
+    holds!(rt; pushes_keep::<Duration, Times>(alloc, &Duration::new(5, 50), &trial));
+    holds!(rt; calls_keep::<_, Times>(alloc, source.borrow(), &trial));
     Ok(())
 }
 
@@ -249,16 +250,16 @@ fn nanoseconds_that_are_refused(rt: HostRuntime) -> Result<(), Fail> {
         seconds,
         nanoseconds,
     };
-    assert!(rt; times.borrow().check().is_ok());
+    holds!(rt; times.borrow().check().is_ok());
     match times.push_parts(3, 30) {
         Ok(()) => {
-            assert_eq!(rt; times.seconds.as_slice(), [1, 2, 3].as_slice());
-            assert_eq!(rt; times.nanoseconds.as_slice(), [10, 20, 30].as_slice());
+            equal!(rt; times.seconds.as_slice(), [1, 2, 3].as_slice());
+            equal!(rt; times.nanoseconds.as_slice(), [10, 20, 30].as_slice());
         }
         Err(error) => {
-            assert_eq!(rt; error, GrowError::Memory);
-            assert_eq!(rt; times.seconds.as_slice(), [1, 2].as_slice());
-            assert_eq!(rt; times.nanoseconds.as_slice(), [10, 20].as_slice());
+            equal!(rt; error, GrowError::Memory);
+            equal!(rt; times.seconds.as_slice(), [1, 2].as_slice());
+            equal!(rt; times.nanoseconds.as_slice(), [10, 20].as_slice());
         }
     }
     Ok(())
@@ -276,12 +277,12 @@ fn columns_of_units(rt: HostRuntime) -> Result<(), Fail> {
         into: [16, 24, 4].as_slice(),
         with_taken: [16, 24, 5].as_slice(),
     };
-    assert!(rt; is_lawful::<Units>(alloc, &trial));
+    holds!(rt; is_lawful::<Units>(alloc, &trial));
     let Some(source) = opened::<Units>(alloc, trial.source) else {
         return Ok(());
     };
-    assert!(rt; pushes_keep::<(), Units>(alloc, &(), &trial));
-    assert!(rt; calls_keep::<_, Units>(alloc, source.borrow(), &trial));
+    holds!(rt; pushes_keep::<(), Units>(alloc, &(), &trial));
+    holds!(rt; calls_keep::<_, Units>(alloc, source.borrow(), &trial));
     Ok(())
 }
 
@@ -297,12 +298,12 @@ fn columns_of_offsets(rt: HostRuntime) -> Result<(), Fail> {
         into: STEPS.as_slice(),
         with_taken: STEPS_AND_FOUR.as_slice(),
     };
-    assert!(rt; is_lawful::<Steps>(alloc, &trial));
+    holds!(rt; is_lawful::<Steps>(alloc, &trial));
     let Some(source) = opened::<Steps>(alloc, trial.source) else {
         return Ok(());
     };
-    assert!(rt; pushes_keep::<u64, Steps>(alloc, &17, &trial));
-    assert!(rt; calls_keep::<_, Steps>(alloc, source.borrow(), &trial));
+    holds!(rt; pushes_keep::<u64, Steps>(alloc, &17, &trial));
+    holds!(rt; calls_keep::<_, Steps>(alloc, source.borrow(), &trial));
     Ok(())
 }
 
@@ -319,11 +320,11 @@ fn a_head_that_had_grown(rt: HostRuntime) -> Result<(), Fail> {
         into: MULTIPLES.as_slice(),
         with_taken: MULTIPLES_AND_TWO.as_slice(),
     };
-    assert!(rt; is_lawful::<Steps>(alloc, &trial));
+    holds!(rt; is_lawful::<Steps>(alloc, &trial));
     let Some(source) = opened::<Steps>(alloc, trial.source) else {
         return Ok(());
     };
-    assert!(rt; copies_keep::<_, Steps>(alloc, source.borrow(), &trial));
+    holds!(rt; copies_keep::<_, Steps>(alloc, source.borrow(), &trial));
     Ok(())
 }
 
@@ -339,12 +340,12 @@ fn columns_of_multiples(rt: HostRuntime) -> Result<(), Fail> {
         into: [16, 24, 0].as_slice(),
         with_taken: [16, 24, 3].as_slice(),
     };
-    assert!(rt; is_lawful::<Threes>(alloc, &trial));
+    holds!(rt; is_lawful::<Threes>(alloc, &trial));
     let Some(source) = opened::<Threes>(alloc, trial.source) else {
         return Ok(());
     };
-    assert!(rt; pushes_keep::<u64, Threes>(alloc, &9, &trial));
-    assert!(rt; calls_keep::<_, Threes>(alloc, source.borrow(), &trial));
+    holds!(rt; pushes_keep::<u64, Threes>(alloc, &9, &trial));
+    holds!(rt; calls_keep::<_, Threes>(alloc, source.borrow(), &trial));
     Ok(())
 }
 
@@ -360,12 +361,12 @@ fn columns_of_bits(rt: HostRuntime) -> Result<(), Fail> {
         into: BITS.as_slice(),
         with_taken: BITS_AND_MORE.as_slice(),
     };
-    assert!(rt; is_lawful::<Bits>(alloc, &trial));
+    holds!(rt; is_lawful::<Bits>(alloc, &trial));
     let Some(source) = opened::<Bits>(alloc, trial.source) else {
         return Ok(());
     };
-    assert!(rt; pushes_keep::<bool, Bits>(alloc, &true, &trial));
-    assert!(rt; calls_keep::<_, Bits>(alloc, source.borrow(), &trial));
+    holds!(rt; pushes_keep::<bool, Bits>(alloc, &true, &trial));
+    holds!(rt; calls_keep::<_, Bits>(alloc, source.borrow(), &trial));
     Ok(())
 }
 
@@ -373,17 +374,17 @@ fn columns_of_bits(rt: HostRuntime) -> Result<(), Fail> {
 #[test]
 fn bits_at_once(rt: HostRuntime) -> Result<(), Fail> {
     let mut bits = Bits::empty(rt.alloc());
-    assert_eq!(rt; bits.push_bits(MOST, 63), Ok(()));
+    equal!(rt; bits.push_bits(MOST, 63), Ok(()));
     match bits.push_bits(ONES, 64) {
         Ok(()) => {
-            assert_eq!(rt; bits.values.as_slice(), [ONES].as_slice());
+            equal!(rt; bits.values.as_slice(), [ONES].as_slice());
         }
         Err(error) => {
-            assert_eq!(rt; error, GrowError::Memory);
-            assert!(rt; bits.values.is_empty());
+            equal!(rt; error, GrowError::Memory);
+            holds!(rt; bits.values.is_empty());
         }
     }
-    assert_eq!(rt; bits.tail, [MOST, 63]);
+    equal!(rt; bits.tail, [MOST, 63]);
     Ok(())
 }
 
@@ -400,12 +401,12 @@ fn columns_of_counted_bits(rt: HostRuntime) -> Result<(), Fail> {
         into: RANKS.as_slice(),
         with_taken: RANKS_AND_ONE.as_slice(),
     };
-    assert!(rt; is_lawful::<Ranks>(alloc, &trial));
+    holds!(rt; is_lawful::<Ranks>(alloc, &trial));
     let Some(source) = opened::<Ranks>(alloc, trial.source) else {
         return Ok(());
     };
-    assert!(rt; pushes_keep::<bool, Ranks>(alloc, &true, &trial));
-    assert!(rt; calls_keep::<_, Ranks>(alloc, source.borrow(), &trial));
+    holds!(rt; pushes_keep::<bool, Ranks>(alloc, &true, &trial));
+    holds!(rt; calls_keep::<_, Ranks>(alloc, source.borrow(), &trial));
     Ok(())
 }
 
@@ -421,27 +422,27 @@ fn columns_of_options(rt: HostRuntime) -> Result<(), Fail> {
         into: FEW.as_slice(),
         with_taken: FEW_AND_ONE.as_slice(),
     };
-    assert!(rt; is_lawful::<Perhaps>(alloc, &trial));
+    holds!(rt; is_lawful::<Perhaps>(alloc, &trial));
     let Some(source) = opened::<Perhaps>(alloc, trial.source) else {
         return Ok(());
     };
-    assert!(rt; pushes_keep::<Option<u64>, Perhaps>(alloc, &Some(5), &trial));
-    assert!(rt; calls_keep::<_, Perhaps>(alloc, source.borrow(), &trial));
+    holds!(rt; pushes_keep::<Option<u64>, Perhaps>(alloc, &Some(5), &trial));
+    holds!(rt; calls_keep::<_, Perhaps>(alloc, source.borrow(), &trial));
     Ok(())
 }
 
 #[test]
 fn sizes_of_elements(rt: HostRuntime) -> Result<(), Fail> {
     let mut sizes = Vec::new(rt.alloc());
-    assert!(rt; sizes_keep::<Sizes>(&mut sizes));
-    assert!(rt; sizes_keep::<Characters>(&mut sizes));
-    assert!(rt; sizes_keep::<Large>(&mut sizes));
-    assert!(rt; sizes_keep::<Times>(&mut sizes));
-    assert!(rt; sizes_keep::<Units>(&mut sizes));
-    assert!(rt; sizes_keep::<Steps>(&mut sizes));
-    assert!(rt; sizes_keep::<Threes>(&mut sizes));
-    assert!(rt; sizes_keep::<Bits>(&mut sizes));
-    assert!(rt; sizes_keep::<Ranks>(&mut sizes));
-    assert!(rt; sizes_keep::<Perhaps>(&mut sizes));
+    holds!(rt; sizes_keep::<Sizes>(&mut sizes));
+    holds!(rt; sizes_keep::<Characters>(&mut sizes));
+    holds!(rt; sizes_keep::<Large>(&mut sizes));
+    holds!(rt; sizes_keep::<Times>(&mut sizes));
+    holds!(rt; sizes_keep::<Units>(&mut sizes));
+    holds!(rt; sizes_keep::<Steps>(&mut sizes));
+    holds!(rt; sizes_keep::<Threes>(&mut sizes));
+    holds!(rt; sizes_keep::<Bits>(&mut sizes));
+    holds!(rt; sizes_keep::<Ranks>(&mut sizes));
+    holds!(rt; sizes_keep::<Perhaps>(&mut sizes));
     Ok(())
 }

@@ -46,4 +46,4 @@ pub loop-i-init : goal.loop-i-init
 loop-i-init g c = took_no_row (recall lookbacks_code [] (weave_results (ranks_bits (ranks_content view_bytes view_bytes view_bytes c.args.view.inner.indexes)) (g.V.Column.format.rows (g.V.Column.content c.args.view.inner.oks)) (bytes_format.rows (elements (to_le_bytes w8) c.args.view.inner.errs.now)))) c.args.range.start c.requires.sound
 
 pub loop-i-preserved : goal.loop-i-preserved
-loop-i-preserved g c = took_more (recall lookbacks_code [] (weave_results (ranks_bits (ranks_content view_bytes view_bytes view_bytes c.args.view.inner.indexes)) (g.V.Column.format.rows (g.V.Column.content c.args.view.inner.oks)) (bytes_format.rows (elements (to_le_bytes w8) c.args.view.inner.errs.now)))) c.args.range.start c.loop-i.i _ c.loop-i.auto.i c.get.ensures.row c.loop-i.invariant c.in-Ok.ensures.ok
+loop-i-preserved g c = took_more (recall lookbacks_code [] (weave_results (ranks_bits (ranks_content view_bytes view_bytes view_bytes c.args.view.inner.indexes)) (g.V.Column.format.rows (g.V.Column.content c.args.view.inner.oks)) (bytes_format.rows (elements (to_le_bytes w8) c.args.view.inner.errs.now)))) c.args.range.start c.loop-i.i _ c.loop-i.auto.i c.get.ensures.row c.loop-i.invariant c.in_default.ensures.ok

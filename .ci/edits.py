@@ -1,17 +1,17 @@
 #!/usr/bin/env python3
 """Tries the edits crates/NAME/edits/*.edit: each is a wrong body, and the prover must refuse the function that it is in.
 
-An edit has lines 'file: src/..', 'old: TEXT' (standing once in that file) and 'new: TEXT', as those of must-fail/ have.
-Many are tried in one check, which proves their functions alone: no two of a group are in one function, and a function is
-proved from the contracts of what it calls alone, so what one edit breaks is not blamed on another. An edit passes where a
-goal of its own function is not proved; those in functions of one name and one file pass where as many functions are not
-proved. One of which that can't be said is tried alone: it passes where a goal of any function or a lemma is not proved. One that is refused for a name that it took away, or for
-no goal, fails. An edit that is in no function, of a constant or a definition, say, has a line 'of: FUNCTION ..' that names
-those of its file whose proofs need it, and these alone are proved.
+An edit has lines 'file: src/..', 'old: TEXT' (standing once in that file) and 'new: TEXT', as those of must-fail/ have, and
+a line 'of: PATH', the function that must be refused, by its path below the crate as a check prints it. Many are tried in
+one check, which proves their functions alone: no two of a group are of one function, and a function is proved from the
+contracts of what it calls alone, so what one edit breaks is not blamed on another. An edit passes where a goal of its own
+function is not proved. One that is refused for a name that it took away, or for no goal, fails. An edit of a definition in
+specs/ is tried alone, and passes where a lemma is not proved, too.
 
 usage: .ci/edits.py [--jobs N] [CRATE ..]      after the crates' libraries were built, as by rt ci or rt all check
-       .ci/edits.py --behind LOG               beside the rt ci that writes LOG: the edits of a crate begin once it is
-                                               proved. A line 'ended' in LOG says that no more comes
+       .ci/edits.py --behind LOG               beside the rt ci that writes LOG: the edits of a crate begin once the
+                                               libraries that it stands on are proved, and fail where it is not proved
+                                               itself. A line 'ended' in LOG says that no more comes
 """
 import os
 import re
@@ -39,32 +39,13 @@ def crates():
     return found
 
 
-def within(file, name):
-    """A function by its module and its name, as the groups have it: src/a/b.rt has a::b::NAME."""
-    return "::".join([it for it in file[len("src/") : -len(".rt")].split("/") if it != "lib"] + [name])
-
-
-def placed(path):
-    """The same of a function's path: without the crate's name, and without the type's, which begins with a capital."""
-    _, *above, name = path.split("::")
-    return "::".join([it for it in above if not it[:1].isupper()] + [name])
-
-
-def meet(one, other):
-    """May two places be those of one function? A type's own functions are placed where the type is, whichever file below
-    it they stand in."""
-    one, other = one.split("::"), other.split("::")
-    short, long = sorted((one[:-1], other[:-1]), key=len)
-    return one[-1] == other[-1] and long[: len(short)] == short
-
-
 class Edit:
-    """What an edit file says: which texts of which files stand for which others."""
+    """What an edit file says: which texts of which files stand for which others, and which function must be refused."""
 
     def __init__(self, path):
         self.name = os.path.basename(path)
         self.pairs = []
-        self.of = []
+        self.of = ""
         file = old = None
         with open(path, encoding="utf-8") as it:
             for line in it.read().split("\n"):
@@ -75,13 +56,15 @@ class Edit:
                 elif line.startswith("new:") and file and old:
                     self.pairs.append((file, old, line[4:].removeprefix(" ")))
                     old = None
-                elif line.startswith("of: ") and file:
-                    self.of += [within(file, it) for it in line[4:].split()]
+                elif line.startswith("of: "):
+                    self.of = line[4:].strip()
 
     def made(self, texts, folder):
         """Makes the edit in the texts, by file; says why it can't be made."""
         if not self.pairs:
             return "it has no 'old:' and 'new:' pair"
+        if not self.of:
+            return "it has no line 'of:'"
         for file, old, new in self.pairs:
             if file not in texts:
                 if not os.path.isfile(f"{folder}/{file}"):
@@ -93,28 +76,8 @@ class Edit:
             texts[file] = texts[file].replace(old, new)
         return None
 
-    def functions(self, folder):
-        """The functions that it is in, by module and name, as far as the first pair of each file tells."""
-        return {within(file, name) for file, _, name in self.heads(folder)}
-
-    def heads(self, folder):
-        """The same, each by its file, its line and its name."""
-        found = set()
-        for file, old, _ in self.pairs:
-            with open(f"{folder}/{file}", encoding="utf-8") as it:
-                text = it.read()
-            if not file.endswith(".rt") or text.count(old) != 1:
-                continue
-            above = text[: text.index(old) + len(old)].split("\n")
-            depth = len(above[-1]) - len(above[-1].lstrip())
-            for number, line in reversed(list(enumerate(above))):
-                head = re.match(r"( *)(?:pub(?:\([a-z]+\))? )?(?:final )?(?:const )?fn (\w+)", line)
-                if head:
-                    found.add((file, number, head[2]))
-                    break
-                if re.match(r"\S", line) and not re.match(r"[>){}]|where\b|//|#|for ", line) and depth > 0:
-                    break
-        return found
+    def is_of_code(self):
+        return all(file.endswith(".rt") for file, _, _ in self.pairs)
 
 
 def guard():
@@ -135,16 +98,10 @@ class Crate:
         self.name, self.needs, self.libraries, self.jobs = name, needs, libraries, jobs
         self.folder = f"{ROOT}/crates/{name}"
         self.kept = None
-        # its functions, where they are known
-        self.paths = []
 
-    def only(self, names):
-        """The flags that ask for the functions of these places alone."""
-        return [word for it in self.paths if any(meet(placed(it), name) for name in names) for word in ("--only", it)]
-
-    def check(self, texts, names=None):
-        """What the prover says of a copy of the crate with these texts in place of its own: of the functions of these
-        places, or of all."""
+    def check(self, texts, edits=()):
+        """What the prover says of a copy of the crate with these texts in place of its own: of the functions of these edits,
+        or of all."""
         words = [f"{KIT}/bin/rattle", "check", "--crate-name", self.name]
         words += ["src/main.rt" if os.path.isfile(f"{self.folder}/src/main.rt") else "src/lib.rt"]
         own = crates()
@@ -160,7 +117,7 @@ class Crate:
             words += ["-L", f"dependency={self.libraries(it)}"]
         words += ["--antt-project", f"{KIT}/rattle/logic/antt-project.json", "--logic-built", f"{KIT}/logic_built"]
         words += ["--links", f"{self.name}=", "--jobs", str(self.jobs()), "--incremental", self.kept]
-        words += self.only(names) if names else []
+        words += [word for edit in edits for word in ("--only", f"{self.name}::{edit.of}")]
         with tempfile.TemporaryDirectory(prefix="edits-") as room:
             for part in ("src", "specs", "proofs"):
                 if os.path.isdir(f"{self.folder}/{part}"):
@@ -183,18 +140,18 @@ GONE = r"has no field|is not in scope|has no `|was not admitted|has no function"
 
 
 def judged(said):
-    """By place of a function, the goals that the check does not prove of it, and what a proof file is refused for that
-    names what the edit took away."""
+    """By path of a function, the goals that the check does not prove of it, and what a proof file is refused for that names
+    what the edit took away."""
     open_goals, gone = {}, {}
     for line in said.split("\n"):
-        at = re.match(r"fn (\S+): (?:no proof|not proved)", line)
+        at = re.match(r"fn \w+::(\S+): (?:no proof|not proved)", line)
         search = at and re.search(r"`search` did not prove ((?:`[^`]*`(?:, )?)+)", line)
         if search:
-            open_goals.setdefault(placed(at[1]), []).extend(re.findall(r"`([^`]*)`", search[1]))
+            open_goals.setdefault(at[1], []).extend(re.findall(r"`([^`]*)`", search[1]))
         at = re.match(r"(?:\./)?proofs/(\S+)/[A-Za-z]+\.antt:\d+:\d+: error: (?:`([^`]*)`: )?(.*)", line)
         if at:
             kind = gone if re.search(GONE, at[3]) else open_goals
-            kind.setdefault(placed("::".join(["", *at[1].replace("/+", "/").split("/")])), []).append(at[2] or at[3][:60])
+            kind.setdefault(at[1].replace("/+", "/").replace("/", "::"), []).append(at[2] or at[3][:60])
     return open_goals, gone
 
 
@@ -214,23 +171,12 @@ def lemmas(said, texts, folder):
     return found
 
 
-def unproved(said, names):
-    """How many functions of these places the check does not prove."""
-    paths = set(re.findall(r"(?m)^fn (\S+): (?:no proof|not proved)", said))
-    return sum(any(meet(placed(path), name) for name in names) for path in paths)
-
-
-def verdict(edit, names, said, beside=0):
-    """Whether the edit is refused for what its function has to show, and what to say, where so many other edits of the
-    check are in functions of its places."""
+def verdict(edit, said):
+    """Whether the edit is refused for what its function has to show, and what to say."""
     open_goals, gone = judged(said)
-    if beside and unproved(said, names) <= beside:
-        return False, "NOT REFUSED"
-    goals = [goal for place in open_goals for goal in open_goals[place] if any(meet(place, name) for name in names)]
-    if goals:
-        return True, "refused: " + ", ".join(dict.fromkeys(goals))
-    names_gone = [goal for place in gone for goal in gone[place] if any(meet(place, name) for name in names)]
-    return False, f"REFUSED FOR A NAME ALONE: {', '.join(names_gone)}" if names_gone else "NOT REFUSED"
+    if edit.of in open_goals:
+        return True, "refused: " + ", ".join(dict.fromkeys(open_goals[edit.of]))
+    return False, f"REFUSED FOR A NAME ALONE: {', '.join(gone[edit.of])}" if edit.of in gone else "NOT REFUSED"
 
 
 # The most edits in one check: what a check holds in memory grows with what it refuses.
@@ -238,61 +184,37 @@ MOST = 40
 
 
 def grouped(edits, folder):
-    """Groups of edits, no two of one group in one function or in one text; and those that are in none."""
-    groups, alone = [], []
+    """The edits in groups: no two of a group are of one function or in one text, and one of a definition is alone."""
+    groups = []
     for edit in edits:
-        names, heads = edit.functions(folder), edit.heads(folder)
-        if edit.of or not names or any(not file.endswith(".rt") for file, _, _ in edit.pairs):
-            alone.append(edit)
-            continue
-        for group in groups:
-            fits = len(group["edits"]) < MOST and not heads & group["heads"]
-            # (those of several functions would not be told apart)
-            fits = fits and (len(heads) == 1 or not beside(names, group["edits"]))
+        for group in groups if edit.is_of_code() else ():
+            fits = len(group["edits"]) < MOST and all(it.is_of_code() and it.of != edit.of for it in group["edits"])
             if fits and edit.made(dict(group["texts"]), folder) is None:
                 break
         else:
-            group = {"names": set(), "heads": set(), "texts": {}, "edits": []}
+            group = {"texts": {}, "edits": []}
             groups.append(group)
         edit.made(group["texts"], folder)
-        group["names"] |= names
-        group["heads"] |= heads
-        group["edits"].append((edit, names))
-    return groups, alone
-
-
-def beside(names, edits):
-    """How many of these edits are in functions of these places."""
-    return sum(any(meet(one, other) for one in names for other in others) for _, others in edits)
-
-
-def in_its_function(edit, names, crate):
-    """The verdict of an edit whose functions alone are proved."""
-    texts = {}
-    edit.made(texts, crate.folder)
-    status, said = crate.check(texts, names)
-    return verdict(edit, names, said) if status == 1 and reached(said) else (False, "")
+        group["edits"].append(edit)
+    return groups
 
 
 def by_itself(edit, crate):
-    """The verdict of an edit that is tried alone: over the functions that it names, or else over the whole crate."""
-    texts, names = {}, set(edit.of)
+    """The verdict of an edit that is tried alone."""
+    texts = {}
     edit.made(texts, crate.folder)
-    status, said = crate.check(texts, names)
+    status, said = crate.check(texts, [edit])
     if status == 0:
-        return False, f"NOT REFUSED: {'what it names' if names else 'the crate'} is still proved"
+        return False, "NOT REFUSED: its function is still proved"
     if not reached(said):
         errors = [line for line in said.split("\n") if ": error" in line]
         return False, f"BAD EDIT: it did not reach the prover: {errors[0][:200] if errors else said[-200:]}"
-    well, text = verdict(edit, names | edit.functions(crate.folder), said)
-    if well:
-        return True, text
-    open_goals, gone = judged(said)
+    well, text = verdict(edit, said)
+    if well or edit.is_of_code():
+        return well, text
+    open_goals, _ = judged(said)
     goals = [goal for found in open_goals.values() for goal in found] + lemmas(said, texts, crate.folder)
-    if goals:
-        return True, "refused: " + ", ".join(dict.fromkeys(goals))
-    reasons = [line for line in said.split("\n") if ": error" in line or re.match(r"fn \S+: (?:no proof|not proved)", line)]
-    return False, f"REFUSED FOR {'A NAME ALONE' if gone else 'NO GOAL'}: {reasons[0][:300] if reasons else said[-300:]}"
+    return bool(goals), "refused: " + ", ".join(dict.fromkeys(goals)) if goals else f"REFUSED FOR NO GOAL: {said[-300:]}"
 
 
 def reached(said):
@@ -329,7 +251,6 @@ def tried(crate, is_proved):
             tell(edit, False, f"BAD EDIT: {why}")
         else:
             edits.append(edit)
-    groups, alone = grouped(edits, crate.folder)
     with tempfile.TemporaryDirectory(prefix="edits-kept-") as room:
         crate.kept = f"{room}/kept"
         if not is_proved:
@@ -339,41 +260,28 @@ def tried(crate, is_proved):
             if status != 0:
                 say(f"edits of {crate.name}: the crate itself is not proved\n{said[-2000:]}")
                 return passed, failed + len(edits)
-            crate.paths = re.findall(r"(?m)^fn (\S+): proved\b", said)
-        for group in groups:
-            status, said = crate.check(group["texts"], group["names"])
-            for edit, names in group["edits"]:
-                well, text = verdict(edit, names, said, beside(names, group["edits"]) - 1) if reached(said) else (False, "")
-                if not well and len(group["edits"]) > 1:
-                    well, text = in_its_function(edit, names, crate)
-                if not well:
-                    well, text = by_itself(edit, crate)
-                tell(edit, well, text)
-        for edit in alone:
-            tell(edit, *by_itself(edit, crate))
+        for group in grouped(edits, crate.folder):
+            is_one = len(group["edits"]) == 1
+            said = "" if is_one else crate.check(group["texts"], group["edits"])[1]
+            for edit in group["edits"]:
+                well, text = verdict(edit, said) if said and reached(said) else (False, "")
+                tell(edit, *((well, text) if well else by_itself(edit, crate)))
     return passed, failed
 
 
 class Log:
-    """What rt ci has written so far: which crates are proved and which are not, and their functions."""
+    """What rt ci has written so far: which crates are proved and which are not."""
 
     def __init__(self, path):
         self.lines = open(path, encoding="utf-8", errors="replace")
         self.rest = ""
-        self.proved, self.paths, self.has_ended = {}, {}, False
-        # is this a crate's own part, and not that of its tests?
-        self.is_own = False
+        self.proved, self.has_ended = {}, False
 
     def read(self):
         *lines, self.rest = (self.rest + self.lines.read()).split("\n")
         for line in lines:
-            function = re.fullmatch(r"fn ((\w+)::\S+): proved(, .*)?", line)
             crate = re.fullmatch(r"rt: (\w+) (NOT PROVED|proved)(:.*)?", line)
-            if line.startswith("== "):
-                self.is_own = ":" not in line
-            elif function and self.is_own:
-                self.paths.setdefault(function[2], []).append(function[1])
-            elif crate:
+            if crate:
                 self.proved[crate[1]] = crate[2] == "proved"
             self.has_ended = self.has_ended or line == "ended"
 
@@ -384,12 +292,15 @@ class Times:
     def __init__(self):
         self.started = time.time()
         self.seen = {}
+        # how many processes of checks ran, when they were looked at last
+        self.checks = []
 
     def note(self, name, what):
         now = time.time() - self.started
         self.seen[name, what] = self.seen.get((name, what), (now, now))[0], now
 
     def look(self):
+        checks = 0
         for pid in filter(str.isdigit, os.listdir("/proc")):
             try:
                 with open(f"/proc/{pid}/cmdline", encoding="utf-8", errors="replace") as it:
@@ -398,8 +309,15 @@ class Times:
                     name = words[words.index("--crate-name") + 1]
                     if os.readlink(f"/proc/{pid}/cwd") == f"{ROOT}/crates/{name}":
                         self.note(name, "tests" if "--test" in words else "proofs")
+                        with open(f"/proc/{pid}/stat", encoding="utf-8") as it:
+                            checks += it.read().rpartition(")")[2].split()[0] == "R"
             except OSError:
                 pass
+        self.checks = [*self.checks[-20:], checks]
+
+    def busy(self):
+        """How many processors the checks have used of late."""
+        return max(self.checks, default=0)
 
     def tell(self):
         for name in crates():
@@ -417,25 +335,31 @@ def main(words):
         log, words = Log(words[1]), words[2:]
         # (what rt ci does comes first)
         os.nice(10)
-    parent, times, totals = os.getppid(), Times(), [0, 0]
-    left = {name: needs for name, needs in crates().items() if (not words or name in words) and edits_of(name)}
-    running = {}
+    own, parent, times = crates(), os.getppid(), Times()
+    left = [name for name in own if (not words or name in words) and edits_of(name)]
+    running, counts, copied = {}, {}, set()
 
-    def work(name, needs, libraries):
-        crate = Crate(name, needs, libraries, lambda: max(1, (cores if not log or log.has_ended else cores // 2) // max(1, len(running))))
-        crate.paths = log.paths.get(name, []) if log else []
-        counts = 0, len(edits_of(name))
+    def free():
+        """How many processors there are for edits: half of them, or those that no other check uses."""
+        return cores if not log or log.has_ended else max(cores // 2, cores - times.busy())
+
+    def work(name, libraries):
+        crate = Crate(name, own[name], libraries, lambda: max(1, free() // max(1, len(running))))
+        counts[name] = 0, len(edits_of(name))
         times.note(name, "edits")
         try:
-            counts = tried(crate, bool(log))
+            counts[name] = tried(crate, bool(log))
         except Exception:
             say(f"edits of {name}: not tried\n{traceback.format_exc()}")
         times.note(name, "edits")
-        with SAYING:
-            totals[0], totals[1] = totals[0] + counts[0], totals[1] + counts[1]
+
+    def may_begin(name):
+        """Are the libraries there that the crate stands on, and a processor for it?"""
+        is_ready = not log or all(it in copied for it in deep(name, own))
+        return is_ready and len(running) < (cores if not log or log.has_ended else max(1, cores // 2))
 
     with tempfile.TemporaryDirectory(prefix="edits-libraries-") as room:
-        copied = set()
+        libraries = (lambda _: room) if log else (lambda it: f"{ROOT}/crates/{it}/out/rlib")
         while left or running or (log and not log.has_ended):
             if log:
                 if os.getppid() != parent:
@@ -448,22 +372,25 @@ def main(words):
                         # (rt ci gives a crate back what earlier runs left there, once it ends)
                         shutil.copytree(rlib, f"{room}/{name}.rlib")
                         copied.add(name)
-            for name, needs in list(left.items()):
-                if log and not log.proved.get(name, not log.has_ended):
-                    say(f"edits of {name}: not tried: rt ci has not proved it")
-                    totals[1] += len(edits_of(name))
-                    del left[name]
-                elif len(running) < (cores if not log or log.has_ended else max(1, cores // 2)) and (not log or name in log.proved):
-                    libraries = (lambda _: room) if log else (lambda it: f"{ROOT}/crates/{it}/out/rlib")
-                    running[name] = threading.Thread(target=work, args=(name, needs, libraries), daemon=True)
+            for name in list(left):
+                if may_begin(name):
+                    running[name] = threading.Thread(target=work, args=(name, libraries), daemon=True)
                     running[name].start()
-                    del left[name]
+                    left.remove(name)
+                elif log and log.has_ended and not all(it in copied for it in deep(name, own)):
+                    counts[name] = 0, len(edits_of(name))
+                    say(f"edits of {name}: not tried: rt ci has not proved what it stands on")
+                    left.remove(name)
             for name in [name for name, thread in running.items() if not thread.is_alive()]:
                 del running[name]
             time.sleep(0.5)
+    for name in [it for it in counts if log and not log.proved.get(it)]:
+        say(f"edits of {name}: all failed: rt ci has not proved it")
+        counts[name] = 0, sum(counts[name])
     times.tell()
-    print(f"edits: {totals[0]} passed, {totals[1]} failed")
-    return 1 if totals[1] else 0
+    passed, failed = (sum(it) for it in zip(*counts.values())) if counts else (0, 0)
+    print(f"edits: {passed} passed, {failed} failed")
+    return 1 if failed else 0
 
 
 if __name__ == "__main__":

@@ -1,9 +1,9 @@
 // Ranges of rows that are copied: which values are stored, by worked rows.
 
 use crate::rows::{Held, RUNS, numbers, reads};
+use crate::runs::Runs;
 use columnar_bytes::stash::Stash;
 use columnar_core::container::{Borrow, ExtendFrom, Storage};
-use columnar_core::traits::Len;
 use std::test::Fail;
 use test_support::columns::{copied, copy_all};
 use test_support::stashes::opened;
@@ -39,64 +39,64 @@ fn a_whole_column_is_copied(rt: HostRuntime) -> Result<(), Fail> {
 
 #[test]
 fn a_range_begins_in_a_run(rt: HostRuntime) -> Result<(), Fail> {
-    let source = numbers::<Held>(rt.alloc(), RUNS.as_slice())?;
-    let mut copy = Held::empty(rt.alloc());
-    holds!(rt; copied(&mut copy, source.borrow(), 1, 4));
-    holds!(rt; reads(&copy, [1, 2, 2].as_slice()));
-    equal!(rt; copy.inner.somes.as_slice(), [1, 2].as_slice());
-    let mut last = Held::empty(rt.alloc());
-    holds!(rt; copied(&mut last, source.borrow(), 3, 5));
-    holds!(rt; reads(&last, [2, 1].as_slice()));
-    equal!(rt; last.inner.somes.as_slice(), [2, 1].as_slice());
+    let source = Runs::of(rt.alloc(), RUNS.as_slice())?;
+    let mut copy = Runs::empty(rt.alloc());
+    holds!(rt; copy.copies(&source, 1, 4));
+    holds!(rt; copy.reads([1, 2, 2].as_slice()));
+    holds!(rt; copy.keeps([1, 2].as_slice()));
+    let mut last = Runs::empty(rt.alloc());
+    holds!(rt; last.copies(&source, 3, 5));
+    holds!(rt; last.reads([2, 1].as_slice()));
+    holds!(rt; last.keeps([2, 1].as_slice()));
     Ok(())
 }
 
 #[test]
 fn a_range_begins_with_a_run(rt: HostRuntime) -> Result<(), Fail> {
-    let source = numbers::<Held>(rt.alloc(), RUNS.as_slice())?;
-    let mut copy = Held::empty(rt.alloc());
-    holds!(rt; copied(&mut copy, source.borrow(), 2, 5));
-    holds!(rt; reads(&copy, [2, 2, 1].as_slice()));
-    equal!(rt; copy.inner.somes.as_slice(), [2, 1].as_slice());
+    let source = Runs::of(rt.alloc(), RUNS.as_slice())?;
+    let mut copy = Runs::empty(rt.alloc());
+    holds!(rt; copy.copies(&source, 2, 5));
+    holds!(rt; copy.reads([2, 2, 1].as_slice()));
+    holds!(rt; copy.keeps([2, 1].as_slice()));
     Ok(())
 }
 
 #[test]
 fn empty_ranges_are_copied(rt: HostRuntime) -> Result<(), Fail> {
-    let source = numbers::<Held>(rt.alloc(), RUNS.as_slice())?;
-    let mut copy = Held::empty(rt.alloc());
-    holds!(rt; copied(&mut copy, source.borrow(), 0, 0));
-    holds!(rt; copied(&mut copy, source.borrow(), 3, 3));
-    holds!(rt; copied(&mut copy, source.borrow(), 5, 5));
+    let source = Runs::of(rt.alloc(), RUNS.as_slice())?;
+    let mut copy = Runs::empty(rt.alloc());
+    holds!(rt; copy.copies(&source, 0, 0));
+    holds!(rt; copy.copies(&source, 3, 3));
+    holds!(rt; copy.copies(&source, 5, 5));
     holds!(rt; copy.is_empty());
-    let mut more = numbers::<Held>(rt.alloc(), [4].as_slice())?;
-    holds!(rt; copied(&mut more, source.borrow(), 3, 3));
-    holds!(rt; reads(&more, [4].as_slice()));
+    let mut more = Runs::of(rt.alloc(), [4].as_slice())?;
+    holds!(rt; more.copies(&source, 3, 3));
+    holds!(rt; more.reads([4].as_slice()));
     Ok(())
 }
 
 #[test]
 fn rows_are_copied_behind_the_same_row(rt: HostRuntime) -> Result<(), Fail> {
-    let source = numbers::<Held>(rt.alloc(), RUNS.as_slice())?;
-    let mut column = numbers::<Held>(rt.alloc(), [5, 1].as_slice())?;
-    holds!(rt; copied(&mut column, source.borrow(), 0, 2));
-    holds!(rt; reads(&column, [5, 1, 1, 1].as_slice()));
-    equal!(rt; column.inner.somes.as_slice(), [5, 1].as_slice());
-    holds!(rt; copied(&mut column, source.borrow(), 1, 5));
-    holds!(rt; reads(&column, [5, 1, 1, 1, 1, 2, 2, 1].as_slice()));
-    equal!(rt; column.inner.somes.as_slice(), [5, 1, 2, 1].as_slice());
+    let source = Runs::of(rt.alloc(), RUNS.as_slice())?;
+    let mut column = Runs::of(rt.alloc(), [5, 1].as_slice())?;
+    holds!(rt; column.copies(&source, 0, 2));
+    holds!(rt; column.reads([5, 1, 1, 1].as_slice()));
+    holds!(rt; column.keeps([5, 1].as_slice()));
+    holds!(rt; column.copies(&source, 1, 5));
+    holds!(rt; column.reads([5, 1, 1, 1, 1, 2, 2, 1].as_slice()));
+    holds!(rt; column.keeps([5, 1, 2, 1].as_slice()));
     Ok(())
 }
 
 #[test]
 fn rows_are_copied_behind_another_row(rt: HostRuntime) -> Result<(), Fail> {
-    let source = numbers::<Held>(rt.alloc(), RUNS.as_slice())?;
-    let mut column = numbers::<Held>(rt.alloc(), [5].as_slice())?;
-    holds!(rt; copied(&mut column, source.borrow(), 0, 3));
-    holds!(rt; reads(&column, [5, 1, 1, 2].as_slice()));
-    equal!(rt; column.inner.somes.as_slice(), [5, 1, 2].as_slice());
-    holds!(rt; copied(&mut column, source.borrow(), 1, 2));
-    holds!(rt; reads(&column, [5, 1, 1, 2, 1].as_slice()));
-    equal!(rt; column.inner.somes.as_slice(), [5, 1, 2, 1].as_slice());
+    let source = Runs::of(rt.alloc(), RUNS.as_slice())?;
+    let mut column = Runs::of(rt.alloc(), [5].as_slice())?;
+    holds!(rt; column.copies(&source, 0, 3));
+    holds!(rt; column.reads([5, 1, 1, 2].as_slice()));
+    holds!(rt; column.keeps([5, 1, 2].as_slice()));
+    holds!(rt; column.copies(&source, 1, 2));
+    holds!(rt; column.reads([5, 1, 1, 2, 1].as_slice()));
+    holds!(rt; column.keeps([5, 1, 2, 1].as_slice()));
     Ok(())
 }

@@ -14,6 +14,8 @@ mod repeats;
 #[cfg(test)]
 mod rows;
 #[cfg(test)]
+mod runs;
+#[cfg(test)]
 mod same;
 #[cfg(test)]
 mod stashes;

@@ -6,6 +6,7 @@ mod stores;
 mod texts;
 
 use crate::rows::{numbers, reads};
+use crate::runs::Backs;
 use columnar_core::bytes::Check;
 use columnar_core::container::{Borrow, Reborrow, Storage};
 use columnar_core::traits::{Clear, Index, Len, Push, PushRef};
@@ -100,20 +101,20 @@ fn rows_are_read_through_views_and_references(rt: HostRuntime) -> Result<(), Fai
 
 #[test]
 fn rows_are_cut(rt: HostRuntime) -> Result<(), Fail> {
-    let mut column = numbers::<Far>(rt.alloc(), RETURNS.as_slice())?;
-    cut(&mut column, 4);
-    holds!(rt; keeps(&column, [10, 20, 30].as_slice(), [1].as_slice()));
-    cut(&mut column, 3);
-    holds!(rt; reads(&column, [10, 20, 10].as_slice()));
-    holds!(rt; keeps(&column, [10, 20].as_slice(), [1].as_slice()));
-    holds!(rt; takes(&mut column, 20u64));
-    holds!(rt; takes(&mut column, 30u64));
-    holds!(rt; reads(&column, [10, 20, 10, 20, 30].as_slice()));
-    holds!(rt; keeps(&column, [10, 20, 30].as_slice(), [1, 0].as_slice()));
-    cut(&mut column, 0);
+    let mut column = Backs::of(rt.alloc(), RETURNS.as_slice())?;
+    column.cut(4);
+    holds!(rt; column.keeps([10, 20, 30].as_slice(), [1].as_slice()));
+    column.cut(3);
+    holds!(rt; column.reads([10, 20, 10].as_slice()));
+    holds!(rt; column.keeps([10, 20].as_slice(), [1].as_slice()));
+    holds!(rt; column.takes(20));
+    holds!(rt; column.takes(30));
+    holds!(rt; column.reads([10, 20, 10, 20, 30].as_slice()));
+    holds!(rt; column.keeps([10, 20, 30].as_slice(), [1, 0].as_slice()));
+    column.cut(0);
     holds!(rt; column.is_empty());
-    holds!(rt; takes(&mut column, 10u64));
-    holds!(rt; keeps(&column, [10].as_slice(), [].as_slice()));
+    holds!(rt; column.takes(10));
+    holds!(rt; column.keeps([10].as_slice(), [].as_slice()));
     Ok(())
 }
 
@@ -145,10 +146,9 @@ fn two_thousand_numbers(rt: HostRuntime) -> Result<(), Fail> {
             backs.push((199 - i % 200) as u8)?;
         }
     }
-    let column = numbers::<Far>(rt.alloc(), rows.as_slice())?;
-    equal!(rt; count(&column), 2000);
-    holds!(rt; keeps(&column, front(rows.as_slice(), 200), backs.as_slice()));
-    holds!(rt; reads(&column, rows.as_slice()));
+    let column = Backs::of(rt.alloc(), rows.as_slice())?;
+    holds!(rt; column.keeps(front(rows.as_slice(), 200), backs.as_slice()));
+    holds!(rt; column.reads(rows.as_slice()));
     let near = numbers::<Lookbacks<Vec<u64>, 199>>(rt.alloc(), rows.as_slice())?;
     holds!(rt; keeps(&near, rows.as_slice(), [].as_slice()));
     holds!(rt; reads(&near, rows.as_slice()));

@@ -3,6 +3,7 @@ ghost use Rattle.std.specs.Prelude.{IfOk};
 ghost use Rattle.columnar_core.specs.Format.{IsSound};
 
 use crate::rows::{Held, RUNS, numbers, reads};
+use crate::runs::Runs;
 use columnar_core::bytes::Check;
 use columnar_core::container::{Borrow, Reborrow, Storage};
 use columnar_core::traits::{Clear, Column, Index, Len, Push};
@@ -49,21 +50,21 @@ fn rows_are_read_through_views_and_references(rt: HostRuntime) -> Result<(), Fai
 
 #[test]
 fn rows_are_cut_in_a_run(rt: HostRuntime) -> Result<(), Fail> {
-    let mut column = numbers::<Held>(rt.alloc(), RUNS.as_slice())?;
-    cut(&mut column, 3);
-    holds!(rt; reads(&column, [1, 1, 2].as_slice()));
-    equal!(rt; column.inner.somes.as_slice(), [1, 2].as_slice());
-    holds!(rt; takes(&mut column, 2u64));
-    equal!(rt; column.inner.somes.as_slice(), [1, 2].as_slice());
-    cut(&mut column, 1);
-    equal!(rt; column.inner.somes.as_slice(), [1].as_slice());
-    holds!(rt; takes(&mut column, 1u64));
-    holds!(rt; reads(&column, [1, 1].as_slice()));
-    equal!(rt; column.inner.somes.as_slice(), [1].as_slice());
-    cut(&mut column, 0);
+    let mut column = Runs::of(rt.alloc(), RUNS.as_slice())?;
+    column.cut(3);
+    holds!(rt; column.reads([1, 1, 2].as_slice()));
+    holds!(rt; column.keeps([1, 2].as_slice()));
+    holds!(rt; column.takes(2));
+    holds!(rt; column.keeps([1, 2].as_slice()));
+    column.cut(1);
+    holds!(rt; column.keeps([1].as_slice()));
+    holds!(rt; column.takes(1));
+    holds!(rt; column.reads([1, 1].as_slice()));
+    holds!(rt; column.keeps([1].as_slice()));
+    column.cut(0);
     holds!(rt; column.is_empty());
-    holds!(rt; takes(&mut column, 1u64));
-    equal!(rt; column.inner.somes.as_slice(), [1].as_slice());
+    holds!(rt; column.takes(1));
+    holds!(rt; column.keeps([1].as_slice()));
     Ok(())
 }
 

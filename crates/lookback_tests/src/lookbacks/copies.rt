@@ -2,9 +2,9 @@
 
 use super::{Far, RETURNS, Two, keeps};
 use crate::rows::{numbers, reads};
+use crate::runs::Backs;
 use columnar_bytes::stash::Stash;
 use columnar_core::container::{Borrow, ExtendFrom, Storage};
-use columnar_core::traits::Len;
 use std::test::Fail;
 use test_support::columns::{copied, copy_all};
 use test_support::stashes::opened;
@@ -40,39 +40,39 @@ fn a_whole_column_is_copied(rt: HostRuntime) -> Result<(), Fail> {
 
 #[test]
 fn a_range_brings_its_own_values(rt: HostRuntime) -> Result<(), Fail> {
-    let source = numbers::<Far>(rt.alloc(), RETURNS.as_slice())?;
-    let mut copy = Far::empty(rt.alloc());
-    holds!(rt; copied(&mut copy, source.borrow(), 2, 5));
-    holds!(rt; reads(&copy, [10, 30, 20].as_slice()));
-    holds!(rt; keeps(&copy, [10, 30, 20].as_slice(), [].as_slice()));
-    let mut last = Far::empty(rt.alloc());
-    holds!(rt; copied(&mut last, source.borrow(), 4, 5));
-    holds!(rt; reads(&last, [20].as_slice()));
-    holds!(rt; keeps(&last, [20].as_slice(), [].as_slice()));
+    let source = Backs::of(rt.alloc(), RETURNS.as_slice())?;
+    let mut copy = Backs::empty(rt.alloc());
+    holds!(rt; copy.copies(&source, 2, 5));
+    holds!(rt; copy.reads([10, 30, 20].as_slice()));
+    holds!(rt; copy.keeps([10, 30, 20].as_slice(), [].as_slice()));
+    let mut last = Backs::empty(rt.alloc());
+    holds!(rt; last.copies(&source, 4, 5));
+    holds!(rt; last.reads([20].as_slice()));
+    holds!(rt; last.keeps([20].as_slice(), [].as_slice()));
     Ok(())
 }
 
 #[test]
 fn empty_ranges_are_copied(rt: HostRuntime) -> Result<(), Fail> {
-    let source = numbers::<Far>(rt.alloc(), RETURNS.as_slice())?;
-    let mut copy = Far::empty(rt.alloc());
-    holds!(rt; copied(&mut copy, source.borrow(), 0, 0));
-    holds!(rt; copied(&mut copy, source.borrow(), 3, 3));
-    holds!(rt; copied(&mut copy, source.borrow(), 5, 5));
+    let source = Backs::of(rt.alloc(), RETURNS.as_slice())?;
+    let mut copy = Backs::empty(rt.alloc());
+    holds!(rt; copy.copies(&source, 0, 0));
+    holds!(rt; copy.copies(&source, 3, 3));
+    holds!(rt; copy.copies(&source, 5, 5));
     holds!(rt; copy.is_empty());
-    let mut more = numbers::<Far>(rt.alloc(), [4].as_slice())?;
-    holds!(rt; copied(&mut more, source.borrow(), 3, 3));
-    holds!(rt; reads(&more, [4].as_slice()));
+    let mut more = Backs::of(rt.alloc(), [4].as_slice())?;
+    holds!(rt; more.copies(&source, 3, 3));
+    holds!(rt; more.reads([4].as_slice()));
     Ok(())
 }
 
 #[test]
 fn rows_are_copied_behind_the_same_values(rt: HostRuntime) -> Result<(), Fail> {
-    let source = numbers::<Far>(rt.alloc(), RETURNS.as_slice())?;
-    let mut column = numbers::<Far>(rt.alloc(), [30, 20].as_slice())?;
-    holds!(rt; copied(&mut column, source.borrow(), 0, 5));
-    holds!(rt; reads(&column, [30, 20, 10, 20, 10, 30, 20].as_slice()));
-    holds!(rt; keeps(&column, [30, 20, 10].as_slice(), [1, 0, 2, 1].as_slice()));
+    let source = Backs::of(rt.alloc(), RETURNS.as_slice())?;
+    let mut column = Backs::of(rt.alloc(), [30, 20].as_slice())?;
+    holds!(rt; column.copies(&source, 0, 5));
+    holds!(rt; column.reads([30, 20, 10, 20, 10, 30, 20].as_slice()));
+    holds!(rt; column.keeps([30, 20, 10].as_slice(), [1, 0, 2, 1].as_slice()));
     Ok(())
 }
 

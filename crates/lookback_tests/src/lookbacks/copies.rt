@@ -7,8 +7,8 @@ use columnar_bytes::stash::Stash;
 use columnar_core::container::{Borrow, ExtendFrom, Storage};
 use std::test::Fail;
 use test_support::columns::{copied, copy_all};
+use test_support::holds;
 use test_support::stashes::opened;
-use test_support::{equal, holds};
 
 // The rows 7, 7, 7, of which the first two are both stored
 static TWO_SEVENS: [u64; 11] = [48, 48, 48, 64, 80, 81, 3, 3, 7, 7, 0];

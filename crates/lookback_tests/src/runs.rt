@@ -1,5 +1,6 @@
 // Columns of runs and of distances, behind the calls that many tests make. The nests of their columns are named here alone,
-// so that a test does not carry them.
+// so that a test does not carry them. One struct for any column would hand its impls on at each call, and a macro may not write
+// a ghost field: so there are two.
 ghost use Rattle.columnar_core.specs.Format.{IsSound};
 
 use crate::rows::{Held, numbers, reads};

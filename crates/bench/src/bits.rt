@@ -1,11 +1,14 @@
 //! Bits and counts.
-use crate::clock::{Random, line, nanos};
+ghost use Rattle.columnar_sums.specs.RankColumns.{IsRanked};
+
+use crate::clock::Random;
+use crate::times::Times;
 use crate::{input, work};
 use columnar_base::view::View;
 use columnar_bytes::stash::Stash;
+use columnar_core::words::Words;
 use columnar_primitive::bools::Bools;
 use columnar_sums::rank_select::RankSelect;
-use std::alloc::Global;
 use std::io::Write;
 use std::rt::Clock;
 
@@ -13,108 +16,70 @@ type Bits = RankSelect<Vec<u64>, Vec<u64>, [u64; 2]>;
 
 type Plain = Bools<Vec<u64>, [u64; 2]>;
 
-type Words<'a> = View<'a, u64>;
-
-type Viewed<'a> = RankSelect<Words<'a>, Words<'a>, Words<'a>>;
+type Viewed<'a> = RankSelect<View<'a, u64>, View<'a, u64>, View<'a, u64>>;
 
 const M: usize = 10_000_000;
 
 const Q: usize = 1_000_000;
 
-pub fn measure<R: Clock, O: Write>(rt: &R, alloc: Global, out: &mut O) -> Option<()> {
+pub fn measure<R: Clock, O: Write>(times: &mut Times<'_, R, O>) -> Option<()> {
     let mut random = Random::new(9);
-    let bits = input::bits(alloc, M, &mut random)?;
-    push(rt, alloc, out, bits.as_slice())?;
-    plain(rt, alloc, out, bits.as_slice())?;
-    queries(rt, alloc, out, bits.as_slice(), random)?;
-    walks(rt, alloc, out, bits.as_slice())
-}
-
-fn push<R: Clock, O: Write>(rt: &R, alloc: Global, out: &mut O, bits: &[bool]) -> Option<()> {
-    timed!(
-        rt,
-        out,
-        "push_bits",
-        M,
-        work::push_values::<bool, Bits>(alloc, bits).ok()?
-    );
-    timed!(
-        rt,
-        out,
-        "push_bools",
-        M,
-        work::push_values::<bool, Plain>(alloc, bits).ok()?
-    );
-    Some(())
-}
-
-fn plain<R: Clock, O: Write>(rt: &R, alloc: Global, out: &mut O, bits: &[bool]) -> Option<()> {
-    let stash = Stash::<Plain, Vec<u8>>::Typed(work::push_values::<bool, Plain>(alloc, bits).ok()?);
+    let bits = input::bits(times.alloc, M, &mut random)?;
+    plain(times, bits.as_slice())?;
+    let column = times.values::<bool, Bits>("push_bits", bits.as_slice())?;
+    let stash = Stash::<Bits, Vec<u8>>::Typed(column);
     let view = stash.borrow();
-    summed!(rt, out, "get_bools", M, work::sum(&view));
+    let ones = times.sum("get_bits", &view)?;
+    queries(times, &view, ones, random)?;
+    walks(times, &view, ones as usize)?;
+    times.copy::<Viewed<'_>, Bits>("copy_bits_aligned", view, 0, M)?;
+    times.copy_behind::<Viewed<'_>, Bits>("copy_bits_shifted", view, 3, 7, M - 1)
+}
+
+fn plain<R: Clock, O: Write>(times: &mut Times<'_, R, O>, bits: &[bool]) -> Option<()> {
+    let stash = Stash::<Plain, Vec<u8>>::Typed(times.values::<bool, Plain>("push_bools", bits)?);
+    times.sum("get_bools", &stash.borrow())?;
     Some(())
 }
 
-fn queries<R: Clock, O: Write>(
-    rt: &R,
-    alloc: Global,
-    out: &mut O,
-    bits: &[bool],
+fn queries<R: Clock, O: Write, CC: Words, VC: Words, WC: Words>(
+    times: &mut Times<'_, R, O>,
+    bits: &RankSelect<CC, VC, WC>,
+    ones: u64,
     start: Random,
-) -> Option<()> {
-    let mut random = start;
-    let stash = Stash::<Bits, Vec<u8>>::Typed(work::push_values::<bool, Bits>(alloc, bits).ok()?);
-    let view = stash.borrow();
-    let ones = work::sum(&view);
+) -> Option<()>
+    requires { IsRanked CC.bytes VC.bytes WC.bytes bits.now }
+{
     if ones == 0 {
         return None;
     }
-    let places = input::places(alloc, Q, 10_000_000, &mut random)?;
-    let ranks = input::words_below(alloc, Q, ones, &mut random)?;
-    summed!(
-        rt,
-        out,
-        "rank_random",
-        Q,
-        work::rank_each(&view, places.as_slice())
-    );
-    summed!(rt, out, "rank_sequential", M, work::rank_all(&view));
-    summed!(
-        rt,
-        out,
-        "select_random",
-        Q,
-        work::select_each(&view, ranks.as_slice())
-    );
+    let mut random = start;
+    let places = input::places(times.alloc, Q, 10_000_000, &mut random)?;
+    let ranks = input::words_below(times.alloc, Q, ones, &mut random)?;
+    let start = times.start();
+    let sum = work::rank_each(bits, places.as_slice());
+    times.summed("rank_random", start, Q, sum)?;
+    let start = times.start();
+    let sum = work::rank_all(bits);
+    times.summed("rank_sequential", start, M, sum)?;
+    let start = times.start();
+    let sum = work::select_each(bits, ranks.as_slice());
+    times.summed("select_random", start, Q, sum)?;
     Some(())
 }
 
-fn walks<R: Clock, O: Write>(rt: &R, alloc: Global, out: &mut O, bits: &[bool]) -> Option<()> {
-    let stash = Stash::<Bits, Vec<u8>>::Typed(work::push_values::<bool, Bits>(alloc, bits).ok()?);
-    let view = stash.borrow();
-    summed!(rt, out, "get_bits", M, work::sum(&view));
-    let ones = work::sum(&view) as usize;
-    summed!(
-        rt,
-        out,
-        "cursor_next_one",
-        ones,
-        work::next_ones(&view, ones)
-    );
-    summed!(rt, out, "cursor_step", M, work::steps(&view));
-    timed!(
-        rt,
-        out,
-        "copy_bits_aligned",
-        M,
-        work::copied::<Viewed<'_>, Bits>(alloc, view, 0, M)?
-    );
-    timed!(
-        rt,
-        out,
-        "copy_bits_shifted",
-        M - 8,
-        work::copied_behind::<Viewed<'_>, Bits>(alloc, view, 3, 7, M - 1)?
-    );
+fn walks<R: Clock, O: Write, CC: Words, VC: Words, WC: Words>(
+    times: &mut Times<'_, R, O>,
+    bits: &RankSelect<CC, VC, WC>,
+    ones: usize,
+) -> Option<()>
+    requires { IsRanked CC.bytes VC.bytes WC.bytes bits.now }
+{
+    let start = times.start();
+    let sum = work::next_ones(bits, ones);
+    times.summed("cursor_next_one", start, ones, sum)?;
+    let start = times.start();
+    let sum = work::steps(bits);
+    times.summed("cursor_step", start, M, sum)?;
     Some(())
 }

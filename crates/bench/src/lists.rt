@@ -1,10 +1,10 @@
 //! Lists.
-use crate::clock::{Random, line, nanos};
+use crate::clock::Random;
+use crate::times::Times;
 use crate::{input, work};
 use columnar_base::view::View;
 use columnar_bytes::stash::Stash;
 use columnar_lists::vector::Vecs;
-use std::alloc::Global;
 use std::io::Write;
 use std::rt::Clock;
 
@@ -14,65 +14,45 @@ type Words<'a> = View<'a, u64>;
 
 type Viewed<'a> = Vecs<Words<'a>, Words<'a>>;
 
+type Held = Stash<Lists, Vec<u8>>;
+
 const N: usize = 1_000_000;
 
-pub fn measure<R: Clock, O: Write>(rt: &R, alloc: Global, out: &mut O) -> Option<()> {
+// How many items the lists have.
+const ITEMS: usize = 3_500_000;
+
+pub fn measure<R: Clock, O: Write>(times: &mut Times<'_, R, O>) -> Option<()> {
     let mut random = Random::new(13);
-    let words = input::words(alloc, N, &mut random)?;
-    let lists = input::lists(alloc, N, 999_992, &mut random)?;
-    let items = Stash::<Vec<u64>, Vec<u8>>::Typed(work::push_refs::<u64, Vec<u64>>(
-        alloc,
-        words.as_slice(),
-    ).ok()?);
-    let view = items.borrow();
-    timed!(
-        rt,
-        out,
-        "push_lists",
-        N,
-        work::push_lists::<Words<'_>, Lists>(alloc, view, lists.as_slice()).ok()?
-    );
-    let stash = Stash::<Lists, Vec<u8>>::Typed(work::push_lists::<Words<'_>, Lists>(
-        alloc,
-        view,
-        lists.as_slice(),
-    ).ok()?);
-    let made = stash.borrow();
-    summed!(
-        rt,
-        out,
-        "get_lists_typed",
-        3_500_000,
-        work::sum_lists(&made)
-    );
-    timed!(
-        rt,
-        out,
-        "copy_lists_half",
-        N / 2,
-        work::copied::<Viewed<'_>, Lists>(alloc, made, 250_000, 750_000)?
-    );
-    let mut bytes = Vec::new(alloc);
-    stash.write_bytes(&mut bytes).ok()?;
-    opened(rt, alloc, out, bytes)
+    let words = input::words(times.alloc, N, &mut random)?;
+    let lists = input::lists(times.alloc, N, 999_992, &mut random)?;
+    let bytes = typed(times, words.as_slice(), lists.as_slice())?;
+    times.validate::<Lists>("validate_lists", N, bytes.as_slice())?;
+    opened(times, bytes)
 }
 
-fn opened<R: Clock, O: Write>(rt: &R, alloc: Global, out: &mut O, bytes: Vec<u8>) -> Option<()> {
-    summed!(
-        rt,
-        out,
-        "validate_lists",
-        N,
-        work::validated::<Lists>(bytes.as_slice())
-    );
-    let stash = Stash::<Lists, Vec<u8>>::try_from_bytes(alloc, bytes).ok()?;
-    let view = stash.borrow();
-    summed!(
-        rt,
-        out,
-        "get_lists_bytes",
-        3_500_000,
-        work::sum_lists(&view)
-    );
+fn typed<R: Clock, O: Write>(
+    times: &mut Times<'_, R, O>,
+    words: &[u64],
+    lists: &[(usize, usize)],
+) -> Option<Vec<u8>> {
+    let items = View::from_slice(words);
+    let start = times.start();
+    let column = work::push_lists::<Words<'_>, Lists>(times.alloc, items, lists).ok()?;
+    times.end("push_lists", start, N)?;
+    let held = Held::Typed(column);
+    let view = held.borrow();
+    let start = times.start();
+    let sum = work::sum_lists(&view);
+    times.summed("get_lists_typed", start, ITEMS, sum)?;
+    times.copy::<Viewed<'_>, Lists>("copy_lists_half", view, 250_000, 750_000)?;
+    work::written(times.alloc, &view, 40 * N)
+}
+
+fn opened<R: Clock, O: Write>(times: &mut Times<'_, R, O>, bytes: Vec<u8>) -> Option<()> {
+    let held = Held::try_from_bytes(times.alloc, bytes).ok()?;
+    let view = held.borrow();
+    let start = times.start();
+    let sum = work::sum_lists(&view);
+    times.summed("get_lists_bytes", start, ITEMS, sum)?;
     Some(())
 }

@@ -2,26 +2,6 @@
 //! sums, printed so that the work is done. With no word it says so, since a program of the gate prints the same at each run.
 #![tactic(auto)]
 
-macro_rules! timed {
-    ($rt:expr, $out:expr, $name:expr, $items:expr, $work:expr) => {{
-        let start = nanos($rt);
-        let _made = $work;
-        let end = nanos($rt);
-        line($out, $name, end.wrapping_sub(start), $items)?;
-    }};
-}
-
-// As `timed`, of work that gives a number; the number is printed, so that the work is done.
-macro_rules! summed {
-    ($rt:expr, $out:expr, $name:expr, $items:expr, $work:expr) => {{
-        let start = nanos($rt);
-        let sum: u64 = $work;
-        let end = nanos($rt);
-        line($out, $name, end.wrapping_sub(start), $items)?;
-        line($out, "#sum", sum, 1)?;
-    }};
-}
-
 mod amount;
 mod bits;
 mod clock;
@@ -33,23 +13,24 @@ mod plain;
 mod repeated;
 mod rows;
 mod strings;
+mod times;
 mod work;
 
-use std::alloc::Global;
+use crate::times::Times;
 use std::env;
 use std::io::Write;
 use std::process::ExitCode;
 use std::rt::Clock;
 
-fn all<R: Clock, O: Write>(rt: &R, alloc: Global, out: &mut O) -> Option<()> {
+fn all<R: Clock, O: Write>(times: &mut Times<'_, R, O>) -> Option<()> {
     for _round in 0..5 {
-        rows::measure(rt, alloc, out)?;
-        bits::measure(rt, alloc, out)?;
-        numbers::measure(rt, alloc, out)?;
-        lists::measure(rt, alloc, out)?;
-        strings::measure(rt, alloc, out)?;
-        kinds::measure(rt, alloc, out)?;
-        repeated::measure(rt, alloc, out)?;
+        rows::measure(times)?;
+        bits::measure(times)?;
+        numbers::measure(times)?;
+        lists::measure(times)?;
+        strings::measure(times)?;
+        kinds::measure(times)?;
+        repeated::measure(times)?;
     }
     Some(())
 }
@@ -78,7 +59,12 @@ fn main(rt: HostRuntime) -> ExitCode {
             Err(_) => ExitCode::FAILURE,
         };
     }
-    match all(&rt, alloc, &mut out) {
+    let mut times = Times {
+        rt: &rt,
+        out: &mut out,
+        alloc,
+    };
+    match all(&mut times) {
         Some(()) => ExitCode::SUCCESS,
         None => ExitCode::FAILURE,
     }

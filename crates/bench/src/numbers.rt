@@ -1,6 +1,7 @@
 //! Numbers alone.
-use crate::clock::{Random, line, nanos};
-use crate::{input, work};
+use crate::clock::Random;
+use crate::input;
+use crate::times::Times;
 use columnar_base::traits::PushRef;
 use columnar_base::view::View;
 use columnar_bytes::indexed::validate;
@@ -14,70 +15,34 @@ type Numbers = Stash<Vec<u64>, Vec<u8>>;
 
 const N: usize = 1_000_000;
 
-pub fn measure<R: Clock, O: Write>(rt: &R, alloc: Global, out: &mut O) -> Option<()> {
+pub fn measure<R: Clock, O: Write>(times: &mut Times<'_, R, O>) -> Option<()> {
     let mut random = Random::new(11);
-    let words = input::words(alloc, N, &mut random)?;
-    push(rt, alloc, out, words.as_slice())?;
-    typed(rt, alloc, out, words.as_slice())?;
-    opened(rt, alloc, out, words.as_slice())
+    let words = input::words(times.alloc, N, &mut random)?;
+    let start = times.start();
+    let _column = sliced(times.alloc, words.as_slice())?;
+    times.end("push_slice_u64", start, N)?;
+    let bytes = typed(times, words.as_slice())?;
+    let start = times.start();
+    let sum = validated(bytes.as_slice());
+    times.summed("validate_u64_call", start, 1000, sum)?;
+    opened(times, bytes)
 }
 
-fn push<R: Clock, O: Write>(rt: &R, alloc: Global, out: &mut O, words: &[u64]) -> Option<()> {
-    timed!(
-        rt,
-        out,
-        "push_u64",
-        N,
-        work::push_refs::<u64, Vec<u64>>(alloc, words).ok()?
-    );
-    timed!(rt, out, "push_slice_u64", N, sliced(alloc, words)?);
-    Some(())
-}
-
-fn typed<R: Clock, O: Write>(rt: &R, alloc: Global, out: &mut O, words: &[u64]) -> Option<()> {
-    let column = Numbers::Typed(work::push_refs::<u64, Vec<u64>>(alloc, words).ok()?);
-    let view = column.borrow();
-    timed!(
-        rt,
-        out,
-        "copy_u64",
-        N,
-        work::copied::<View<'_, u64>, Vec<u64>>(alloc, view, 0, N)?
-    );
-    summed!(rt, out, "sum_u64_typed", N, work::sum(&view));
-    timed!(rt, out, "encode_u64", N, work::encoded(alloc, &view)?);
-    timed!(
-        rt,
-        out,
-        "write_u64",
-        N,
-        work::written(alloc, &view, 8 * N + 64)?
-    );
-    Some(())
-}
-
-fn opened<R: Clock, O: Write>(rt: &R, alloc: Global, out: &mut O, words: &[u64]) -> Option<()> {
-    let column = Numbers::Typed(work::push_refs::<u64, Vec<u64>>(alloc, words).ok()?);
-    let bytes = work::written(alloc, &column.borrow(), 8 * N + 64)?;
-    summed!(
-        rt,
-        out,
-        "validate_u64_call",
-        1000,
-        validated(bytes.as_slice())
-    );
-    let stash = Numbers::try_from_bytes(alloc, bytes).ok()?;
+fn typed<R: Clock, O: Write>(times: &mut Times<'_, R, O>, words: &[u64]) -> Option<Vec<u8>> {
+    let stash = Numbers::Typed(times.refs::<u64, Vec<u64>>("push_u64", words)?);
     let view = stash.borrow();
-    summed!(rt, out, "sum_u64_bytes", N, work::sum(&view));
-    timed!(
-        rt,
-        out,
-        "copy_u64_bytes",
-        N,
-        work::copied::<View<'_, u64>, Vec<u64>>(alloc, view, 0, N)?
-    );
-    timed!(rt, out, "to_typed_u64", N, stash.to_typed(alloc).ok()?);
-    Some(())
+    times.copy::<View<'_, u64>, Vec<u64>>("copy_u64", view, 0, N)?;
+    times.sum("sum_u64_typed", &view)?;
+    times.encode("encode_u64", N, &view)?;
+    times.write("write_u64", N, &view, 8 * N + 64)
+}
+
+fn opened<R: Clock, O: Write>(times: &mut Times<'_, R, O>, bytes: Vec<u8>) -> Option<()> {
+    let stash = Numbers::try_from_bytes(times.alloc, bytes).ok()?;
+    let view = stash.borrow();
+    times.sum("sum_u64_bytes", &view)?;
+    times.copy::<View<'_, u64>, Vec<u64>>("copy_u64_bytes", view, 0, N)?;
+    times.load("to_typed_u64", N, &stash)
 }
 
 #[inline(never)]

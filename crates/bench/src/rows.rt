@@ -1,10 +1,10 @@
 //! Rows of a number and a number that may be absent.
-use crate::clock::{Random, line, nanos};
-use crate::{input, work};
+use crate::clock::Random;
+use crate::input;
+use crate::times::Times;
 use columnar_base::view::View;
 use columnar_bytes::stash::Stash;
 use columnar_sums::option::Options;
-use std::alloc::Global;
 use std::io::Write;
 use std::rt::Clock;
 
@@ -23,95 +23,30 @@ type Held = Stash<Rows, Vec<u8>>;
 
 const N: usize = 1_000_000;
 
-pub fn measure<R: Clock, O: Write>(rt: &R, alloc: Global, out: &mut O) -> Option<()> {
+pub fn measure<R: Clock, O: Write>(times: &mut Times<'_, R, O>) -> Option<()> {
     let mut random = Random::new(7);
-    let rows = input::rows(alloc, N, &mut random)?;
-    push(rt, alloc, out, rows.as_slice())?;
-    typed(rt, alloc, out, rows.as_slice())?;
-    copies(rt, alloc, out, rows.as_slice())?;
-    opened(rt, alloc, out, rows.as_slice())
+    let rows = input::rows(times.alloc, N, &mut random)?;
+    let _column = times.values::<Row, Rows>("push_rows_value", rows.as_slice())?;
+    let bytes = typed(times, rows.as_slice())?;
+    times.validate::<Rows>("validate_rows", N, bytes.as_slice())?;
+    opened(times, bytes)
 }
 
-fn push<R: Clock, O: Write>(rt: &R, alloc: Global, out: &mut O, rows: &[Row]) -> Option<()> {
-    timed!(
-        rt,
-        out,
-        "push_rows_ref",
-        N,
-        work::push_refs::<Row, Rows>(alloc, rows).ok()?
-    );
-    timed!(
-        rt,
-        out,
-        "push_rows_value",
-        N,
-        work::push_values::<Row, Rows>(alloc, rows).ok()?
-    );
-    Some(())
+fn typed<R: Clock, O: Write>(times: &mut Times<'_, R, O>, rows: &[Row]) -> Option<Vec<u8>> {
+    let held = Held::Typed(times.refs::<Row, Rows>("push_rows_ref", rows)?);
+    let view = held.borrow();
+    times.view::<Viewed<'_>, Rows>("push_rows_view", &view)?;
+    times.sum("get_rows_typed", &view)?;
+    times.copy::<Viewed<'_>, Rows>("copy_rows_half", view, 250_000, 750_000)?;
+    times.copy_behind::<Viewed<'_>, Rows>("copy_rows_half_odd", view, 1, 250_001, 750_001)?;
+    times.encode("encode_rows", N, &view)?;
+    times.write("write_rows", N, &view, 16 * N)
 }
 
-fn typed<R: Clock, O: Write>(rt: &R, alloc: Global, out: &mut O, rows: &[Row]) -> Option<()> {
-    let column = Held::Typed(work::push_refs::<Row, Rows>(alloc, rows).ok()?);
-    let view = column.borrow();
-    timed!(
-        rt,
-        out,
-        "push_rows_view",
-        N,
-        work::push_view::<Viewed<'_>, Rows>(alloc, &view).ok()?
-    );
-    summed!(rt, out, "get_rows_typed", N, work::sum(&view));
-    timed!(rt, out, "encode_rows", N, work::encoded(alloc, &view)?);
-    timed!(
-        rt,
-        out,
-        "write_rows",
-        N,
-        work::written(alloc, &view, 16 * N)?
-    );
-    Some(())
-}
-
-fn copies<R: Clock, O: Write>(rt: &R, alloc: Global, out: &mut O, rows: &[Row]) -> Option<()> {
-    let column = Held::Typed(work::push_refs::<Row, Rows>(alloc, rows).ok()?);
-    let view = column.borrow();
-    timed!(
-        rt,
-        out,
-        "copy_rows_half",
-        N / 2,
-        work::copied::<Viewed<'_>, Rows>(alloc, view, 250_000, 750_000)?
-    );
-    timed!(
-        rt,
-        out,
-        "copy_rows_half_odd",
-        N / 2,
-        work::copied_behind::<Viewed<'_>, Rows>(alloc, view, 1, 250_001, 750_001)?
-    );
-    Some(())
-}
-
-fn opened<R: Clock, O: Write>(rt: &R, alloc: Global, out: &mut O, rows: &[Row]) -> Option<()> {
-    let column = Held::Typed(work::push_refs::<Row, Rows>(alloc, rows).ok()?);
-    let bytes = work::written(alloc, &column.borrow(), 16 * N)?;
-    summed!(
-        rt,
-        out,
-        "validate_rows",
-        N,
-        work::validated::<Rows>(bytes.as_slice())
-    );
-    let stash = Held::try_from_bytes(alloc, bytes).ok()?;
-    let view = stash.borrow();
-    summed!(rt, out, "get_rows_bytes", N, work::sum(&view));
-    timed!(
-        rt,
-        out,
-        "copy_rows_half_bytes",
-        N / 2,
-        work::copied::<Viewed<'_>, Rows>(alloc, view, 250_000, 750_000)?
-    );
-    timed!(rt, out, "to_typed_rows", N, stash.to_typed(alloc).ok()?);
-    Some(())
+fn opened<R: Clock, O: Write>(times: &mut Times<'_, R, O>, bytes: Vec<u8>) -> Option<()> {
+    let held = Held::try_from_bytes(times.alloc, bytes).ok()?;
+    let view = held.borrow();
+    times.sum("get_rows_bytes", &view)?;
+    times.copy::<Viewed<'_>, Rows>("copy_rows_half_bytes", view, 250_000, 750_000)?;
+    times.load("to_typed_rows", N, &held)
 }

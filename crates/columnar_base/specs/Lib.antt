@@ -1,9 +1,5 @@
 pub mod Row
 pub mod RowLaws
-pub mod RowParts
-pub mod RowOrder
-pub mod RowOrderLaws
-pub mod RowHashLaws
 pub mod Format
 pub mod FaultLaws
 pub mod PartLaws
@@ -23,7 +19,6 @@ pub mod Numbers
 pub mod NumberLaws
 pub mod Arrays
 pub mod ArrayLaws
-pub mod TypedOrderLaws
 pub mod SameRows
 pub mod Views
 pub mod ViewLaws

@@ -7,8 +7,6 @@ pub mod element;
 pub mod fault;
 pub mod iter;
 pub mod metered;
-pub mod ordered;
-pub mod slice;
 pub mod storage;
 pub mod tally;
 pub mod traits;

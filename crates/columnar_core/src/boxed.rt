@@ -7,9 +7,9 @@ use crate::container::{
 };
 use crate::store::DecodedStore;
 use columnar_base::fault::{GrowError, StoreFault};
-use columnar_base::ordered::OrderedRow;
 use columnar_base::tally::Tally;
 use columnar_base::traits::{Clear, Column, Index, Item, Len, Push, PushRef};
+use columnar_rows::ordered::OrderedRow;
 use std::alloc::Global;
 use std::cmp::Ordering;
 use std::hash::Hasher;

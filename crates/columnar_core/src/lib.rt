@@ -21,4 +21,5 @@ pub mod viewed;
 pub mod words;
 pub mod writer;
 
-pub use columnar_base::{element, fault, iter, metered, ordered, tally, traits, truth, view};
+pub use columnar_base::{element, fault, iter, metered, tally, traits, truth, view};
+pub use columnar_rows::ordered;

@@ -2,7 +2,7 @@
 ghost use Rattle.columnar_core.specs.StoreLaws.{same_part};
 
 use crate::container::{Reborrow, ReborrowRef};
-pub use columnar_base::slice::Slice;
+pub use columnar_rows::slice::Slice;
 
 impl<'b, S: Reborrow<'b>> Reborrow<'b> for Slice<S> {
     type Short = Slice<S::Short>;

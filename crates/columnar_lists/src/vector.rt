@@ -8,7 +8,6 @@ mod push;
 
 use crate::parts::{check_lists, copy_lists, cut_lists, range_of, reserve_lists};
 use columnar_base::fault::{GrowError, StoreFault};
-use columnar_base::slice::Slice;
 use columnar_base::tally::Tally;
 use columnar_base::traits::{Clear, Column, Index, Item, Len, Push};
 use columnar_core::byte_slice::ByteSlice;
@@ -17,6 +16,7 @@ use columnar_core::container::{
     Borrow, Container, ContainerBytes, ExtendFrom, Named, Reborrow, Reserve, Storage, Truncate,
 };
 use columnar_core::offsets::{Offsets, StoredOffsets};
+use columnar_core::slice::Slice;
 use columnar_core::store::DecodedStore;
 use columnar_core::two::{byte_slice_of_two, judge_two, load_two, sizes_of_two, slice_of_two};
 use std::alloc::Global;

@@ -7,11 +7,11 @@ ghost use Rattle.columnar_base.specs.Tuples.{pair_format};
 mod tuples;
 
 use columnar_base::element::Element;
-use columnar_base::ordered::OrderedRow;
 use columnar_base::storage::Truncate;
 use columnar_base::traits::{Column, Index, Item};
 use columnar_core::boxed::Boxed;
 use columnar_core::offsets::Offsets;
+use columnar_core::ordered::OrderedRow;
 use columnar_core::words::Words;
 use columnar_primitive::bools::Bools;
 use columnar_primitive::codes::{Coded, Codes};

@@ -3,13 +3,13 @@ ghost use Rattle.std.specs.Prelude.{◌≡◌};
 
 use columnar_base::fault::StoreFault;
 use columnar_base::iter::IterOwn;
-use columnar_base::slice::Slice;
 use columnar_base::traits::{Clear, Index, Len, Push, PushRef};
 use columnar_base::view::View;
 use columnar_core::bytes::{AsBytes, Check, Stored};
 use columnar_core::container::{
     Borrow, ContainerBytes, ExtendFrom, Reborrow, ReborrowRef, Storage, Truncate,
 };
+use columnar_core::slice::Slice;
 use std::num::Wrapping;
 use std::test::Fail;
 use test_support::columns::{copied, count, row_at};

@@ -1,11 +1,11 @@
 // Ranges of rows: cut, compared, ordered and hashed.
 ghost use Rattle.std.specs.Prelude.{◌≡◌};
 
-use columnar_base::ordered::OrderedRow;
-use columnar_base::slice::Slice;
 use columnar_base::traits::Column;
 use columnar_base::view::View;
 use columnar_core::boxed::Boxed;
+use columnar_core::ordered::OrderedRow;
+use columnar_core::slice::Slice;
 use std::cmp::Ordering;
 use std::hash::{DefaultHasher, Hash, Hasher};
 use std::num::Wrapping;

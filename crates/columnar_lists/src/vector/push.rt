@@ -10,10 +10,10 @@ use super::Vecs;
 use crate::parts::{end_list, push_list};
 use columnar_base::element::Element;
 use columnar_base::fault::GrowError;
-use columnar_base::slice::Slice;
 use columnar_base::traits::{Column, Index, Item, Push, PushInto, PushRef};
 use columnar_core::container::{ExtendFrom, Truncate};
 use columnar_core::offsets::Offsets;
+use columnar_core::slice::Slice;
 use smallvec::SmallVec;
 
 // Takes rows alike to all that comes of `items`, or none of them.

@@ -1,0 +1,168 @@
+//! Workloads, each a line with the time that it took. Each is one call for a nest of columns, since a call at a nest is what
+//! costs in a proof.
+ghost use Rattle.std.specs.Prelude.{IfSome, IsTrue};
+ghost use Rattle.columnar_base.specs.Format.{IsSound, representable};
+
+use crate::amount::Amount;
+use crate::clock::{line, nanos};
+use crate::plain::Plain;
+use crate::work;
+use columnar_base::storage::Storage;
+use columnar_base::traits::{Index, Len, Push, PushRef};
+use columnar_bytes::stash::Stash;
+use columnar_core::bytes::{AsBytes, Stored};
+use columnar_core::container::{ContainerBytes, ExtendFrom};
+use std::alloc::Global;
+use std::io::Write;
+use std::rt::Clock;
+
+/// The clock, where the lines go, and the memory that is worked in.
+#[derive(Drop)]
+pub struct Times<'a, R, O> {
+    pub rt: &'a R,
+    pub out: &'a mut O,
+    pub alloc: Global,
+}
+
+impl<'a, R: Clock, O: Write> Times<'a, R, O> {
+    /// Nanoseconds, before a workload.
+    pub fn start(&self) -> u64 {
+        nanos(self.rt)
+    }
+
+    /// Prints the time of the workload that began at `start`.
+    pub fn end(&mut self, name: &str, start: u64, items: usize) -> Option<()> {
+        let end = nanos(self.rt);
+        line(self.out, name, end.wrapping_sub(start), items)
+    }
+
+    /// The same of work that gives a number, which is printed, so that the work is done.
+    pub fn summed(&mut self, name: &str, start: u64, items: usize, sum: u64) -> Option<u64> {
+        self.end(name, start, items)?;
+        line(self.out, "#sum", sum, 1)?;
+        Some(sum)
+    }
+
+    /// A column of these items, each pushed by value.
+    pub fn values<T: Plain + Copy, C: Storage + Push<T>>(
+        &mut self,
+        name: &str,
+        items: &[T],
+    ) -> Option<C>
+        ensures { IfSome result (λ c. IsSound C.format (C.content c)) }
+    {
+        let start = self.start();
+        let column = work::push_values::<T, C>(self.alloc, items).ok()?;
+        self.end(name, start, items.len())?;
+        Some(column)
+    }
+
+    /// A column of these items, each pushed by reference.
+    pub fn refs<T: Plain, C: Storage + PushRef<T>>(&mut self, name: &str, items: &[T]) -> Option<C>
+        ensures { IfSome result (λ c. IsSound C.format (C.content c)) }
+    {
+        let start = self.start();
+        let column = work::push_refs::<T, C>(self.alloc, items).ok()?;
+        self.end(name, start, items.len())?;
+        Some(column)
+    }
+
+    /// Pushes the rows of a view.
+    pub fn view<V: Index + Len, C: Storage + Push<V::Ref> + Drop>(
+        &mut self,
+        name: &str,
+        view: &V,
+    ) -> Option<()>
+        requires { IsSound V.format (V.content view.now) }
+    {
+        let start = self.start();
+        let _column = work::push_view::<V, C>(self.alloc, view).ok()?;
+        self.end(name, start, view.len())
+    }
+
+    /// Reads all rows of a view, and adds them up.
+    pub fn sum<V: Len + Index<Ref: Amount>>(&mut self, name: &str, view: &V) -> Option<u64>
+        requires { IsSound V.format (V.content view.now) }
+    {
+        let start = self.start();
+        let sum = work::sum(view);
+        self.summed(name, start, view.len(), sum)
+    }
+
+    /// Copies the rows `start..end` of a view into an empty column.
+    pub fn copy<V: Len + Copy, C: ExtendFrom<V> + Drop>(
+        &mut self,
+        name: &str,
+        view: V,
+        start: usize,
+        end: usize,
+    ) -> Option<()>
+        requires { IsSound V.format (V.content view) }
+    {
+        let began = self.start();
+        let _column = work::copied::<V, C>(self.alloc, view, start, end)?;
+        self.end(name, began, end.saturating_sub(start))
+    }
+
+    /// The same behind the first `front` rows of the view.
+    pub fn copy_behind<V: Len + Copy, C: ExtendFrom<V> + Drop>(
+        &mut self,
+        name: &str,
+        view: V,
+        front: usize,
+        start: usize,
+        end: usize,
+    ) -> Option<()>
+        requires { IsSound V.format (V.content view) }
+    {
+        let began = self.start();
+        let _column = work::copied_behind::<V, C>(self.alloc, view, front, start, end)?;
+        self.end(name, began, end.saturating_sub(start))
+    }
+
+    /// Encodes a view as words.
+    pub fn encode<'b, S: AsBytes<'b>>(&mut self, name: &str, items: usize, view: &S) -> Option<()>
+        requires { IsTrue (representable S.format) }
+    {
+        let start = self.start();
+        let _words = work::encoded(self.alloc, view)?;
+        self.end(name, start, items)
+    }
+
+    /// Writes a view where there is room for `room` bytes, and gives these.
+    pub fn write<'b, S: AsBytes<'b>>(
+        &mut self,
+        name: &str,
+        items: usize,
+        view: &S,
+        room: usize,
+    ) -> Option<Vec<u8>>
+        requires { IsTrue (representable S.format) }
+    {
+        let start = self.start();
+        let bytes = work::written(self.alloc, view, room)?;
+        self.end(name, start, items)?;
+        Some(bytes)
+    }
+
+    /// Validates bytes.
+    pub fn validate<C: Stored>(&mut self, name: &str, items: usize, bytes: &[u8]) -> Option<u64>
+        requires { IsTrue (representable C.format) }
+    {
+        let start = self.start();
+        let accepted = work::validated::<C>(bytes);
+        self.summed(name, start, items, accepted)
+    }
+
+    /// Loads a stash into memory.
+    pub fn load<C: ContainerBytes + Storage>(
+        &mut self,
+        name: &str,
+        items: usize,
+        stash: &Stash<C, Vec<u8>>,
+    ) -> Option<()> {
+        let start = self.start();
+        let _typed = stash.to_typed(self.alloc).ok()?;
+        self.end(name, start, items)
+    }
+}

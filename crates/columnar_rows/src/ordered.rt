@@ -1,0 +1,98 @@
+//! Rows that are compared, and fed to a hasher, by what they mean.
+ghost use Rattle.std.specs.Prelude.{◌≡◌, ℕ, List, map, fold};
+ghost use Rattle.std.specs.Hash as fed;
+ghost use Rattle.std.specs.Ordering.{is_eq};
+ghost use Rattle.columnar_base.specs.Row.{Row, row_eq};
+ghost use Rattle.columnar_rows.specs.RowOrder.{row_cmp, rows_cmp};
+ghost use Rattle.columnar_base.specs.SameRows.{same_rows};
+ghost use Rattle.columnar_base.specs.Format.{IsSound};
+
+use columnar_base::traits::{Index, Item, Len};
+use std::cmp::Ordering;
+use std::hash::{Hash, Hasher};
+
+mod numbers;
+mod parts;
+mod slices;
+
+/// A row that is compared with others of its type, and fed to a hasher, by what it means alone.
+pub trait OrderedRow: Item {
+    // the writes that feed a row to a hasher
+    ghost row_input: { Row → List (List ℕ) };
+
+    /// Are the two equal as rows?
+    fn same_row(&self, other: &Self) -> bool
+        ensures { result ≡ row_eq (Self.meaning self.now) (Self.meaning other.now) };
+
+    /// How the two compare as rows.
+    fn compare_row(&self, other: &Self) -> Ordering
+        ensures { result ≡ row_cmp (Self.meaning self.now) (Self.meaning other.now) };
+
+    /// Feeds the row to the hasher.
+    fn hash_row<H: Hasher>(&self, state: &mut H)
+        ensures { state.new ≡ fold H.write state.old (row_input (Self.meaning self.now)) };
+}
+
+/// Are the rows of two columns equal, one for one?
+pub fn same_rows_of<S: Index<Ref: OrderedRow> + Len>(left: &S, right: &S) -> bool
+    requires left_sound { IsSound S.format (S.content left.now) }
+    requires right_sound { IsSound S.format (S.content right.now) }
+    ensures { result ≡ same_rows (S.format.rows (S.content left.now)) (S.format.rows (S.content right.now)) }
+{
+    let count = left.len();
+    if count != right.len() {
+        return false;
+    }
+    for i in 0..count {
+        if !left.get(i).same_row(&right.get(i)) {
+            return false;
+        }
+    }
+    true
+}
+
+/// Are the rows of a column equal to the items, one for one?
+pub fn same_rows_as<S: Index<Ref: OrderedRow> + Len>(column: &S, items: &[S::Ref]) -> bool
+    requires { IsSound S.format (S.content column.now) }
+    ensures { result ≡ same_rows (S.format.rows (S.content column.now)) (map S.Ref.meaning items.now) }
+{
+    let count = column.len();
+    if count != items.len() {
+        return false;
+    }
+    for i in 0..count {
+        if !column.get(i).same_row(&items[i]) {
+            return false;
+        }
+    }
+    true
+}
+
+/// How the rows of two columns compare: the first pair that isn't equal decides, and else the lengths do.
+pub fn compare_rows_of<S: Index<Ref: OrderedRow> + Len>(left: &S, right: &S) -> Ordering
+    requires left_sound { IsSound S.format (S.content left.now) }
+    requires right_sound { IsSound S.format (S.content right.now) }
+    ensures { result ≡ rows_cmp (S.format.rows (S.content left.now)) (S.format.rows (S.content right.now)) }
+{
+    let left_count = left.len();
+    let right_count = right.len();
+    for i in 0..left_count.min(right_count) {
+        let found = left.get(i).compare_row(&right.get(i));
+        if found.is_ne() {
+            return found;
+        }
+    }
+    left_count.cmp(&right_count)
+}
+
+/// Feeds the rows of a column to the hasher: their number, and then each row.
+pub fn hash_rows_of<S: Index<Ref: OrderedRow> + Len, H: Hasher>(column: &S, state: &mut H)
+    requires { IsSound S.format (S.content column.now) }
+    ensures { state.new ≡ fold H.write state.old (fed.slice S.Ref.row_input (S.format.rows (S.content column.now))) }
+{
+    let count = column.len();
+    state.write_usize(count);
+    for i in 0..count {
+        column.get(i).hash_row(state);
+    }
+}

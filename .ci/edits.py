@@ -280,9 +280,10 @@ class Log:
     def read(self):
         *lines, self.rest = (self.rest + self.lines.read()).split("\n")
         for line in lines:
-            crate = re.fullmatch(r"rt: (\w+) (NOT PROVED|proved)(:.*)?", line)
+            # (is kept: an earlier run on this machine proved the same text)
+            crate = re.fullmatch(r"rt: (\w+) (NOT PROVED|proved|is kept)(:.*)?", line)
             if crate:
-                self.proved[crate[1]] = crate[2] == "proved"
+                self.proved[crate[1]] = crate[2] != "NOT PROVED"
             self.has_ended = self.has_ended or line == "ended"
 
 

@@ -59,6 +59,7 @@ fn typed<R: Clock, O: Write>(times: &mut Times<'_, R, O>, records: &[Record]) ->
 
 fn opened<R: Clock, O: Write>(times: &mut Times<'_, R, O>, bytes: Vec<u8>) -> Option<()> {
     let held = Held::try_from_bytes(times.alloc, bytes).ok()?;
-    times.sum("get_records_bytes", &held.borrow())?;
+    let view = held.borrow();
+    times.sum("get_records_bytes", &view)?;
     times.load("to_typed_records", N, &held)
 }

@@ -11,6 +11,8 @@ mod stashes;
 #[cfg(test)]
 mod stores;
 #[cfg(test)]
+mod tuples;
+#[cfg(test)]
 mod widths;
 #[cfg(test)]
 mod worked;

@@ -1,8 +1,11 @@
 // Worked stores, and which rule others break at which slice.
+ghost use Rattle.std.specs.Prelude.{IsTrue};
+ghost use Rattle.columnar_core.specs.Format.{representable};
 
 use super::worked::{SEVEN, Seven, Six, TEN, THREE, Ten, Three, Two};
 use columnar_core::bytes::Stored;
-use std::test::Fail;
+use std::alloc::Global;
+use std::process::Abort;
 use test_support::equal;
 use test_support::stores::refusal;
 
@@ -29,52 +32,60 @@ static BROKEN_SECOND: [u64; 8] = [32, 40, 52, 64, 1, 2, 3, 4];
 // Three columns, of which the second is a pair whose parts are of one row and of two
 static UNEVEN_SECOND: [u64; 10] = [40, 48, 56, 72, 80, 1, 2, 3, 4, 5];
 
-#[test]
-fn uneven_lengths_are_told_at_the_first_slice(rt: HostRuntime) -> Result<(), Fail> {
-    let pair = refusal::<Two>(rt.alloc(), UNEVEN_PAIR.as_slice()).expect(&rt, "memory");
-    equal!(rt; pair, (10, 0));
-    let third = refusal::<Three>(rt.alloc(), SHORT_THIRD.as_slice()).expect(&rt, "memory");
-    equal!(rt; third, (10, 0));
-    Ok(())
+// A store, and the rule that it breaks and at which slice; both are 0 where it is accepted
+type Case<'a> = (&'a [u64], (u8, usize));
+
+// Claims how many slices the type has, and how each store of it is judged: one call at each tuple.
+fn judged<C: Stored + Drop, R: Abort>(rt: &R, alloc: Global, slices: usize, cases: &[Case<'_>])
+    requires { IsTrue (representable C.format) }
+{
+    equal!(*rt; C::slice_count(), slices);
+    for case in cases {
+        equal!(*rt; refusal::<C>(alloc, case.0).expect(rt, "memory"), case.1);
+    }
 }
 
 #[test]
-fn a_longer_last_part_is_told_at_the_first_slice(rt: HostRuntime) -> Result<(), Fail> {
-    let three = refusal::<Three>(rt.alloc(), LONG_LAST_OF_THREE.as_slice()).expect(&rt, "memory");
-    equal!(rt; three, (10, 0));
-    let six = refusal::<Six>(rt.alloc(), LONG_LAST_OF_SIX.as_slice()).expect(&rt, "memory");
-    equal!(rt; six, (10, 0));
-    let ten = refusal::<Ten>(rt.alloc(), LONG_LAST_OF_TEN.as_slice()).expect(&rt, "memory");
-    equal!(rt; ten, (10, 0));
-    Ok(())
+fn an_uneven_pair_is_told_at_the_first_slice(rt: HostRuntime) {
+    let cases = [(UNEVEN_PAIR.as_slice(), (10, 0))];
+    judged::<Two, _>(&rt, rt.alloc(), 2, cases.as_slice());
 }
 
 #[test]
-fn a_broken_part_is_told_at_its_own_slice(rt: HostRuntime) -> Result<(), Fail> {
-    let second = refusal::<Three>(rt.alloc(), BROKEN_SECOND.as_slice()).expect(&rt, "memory");
-    equal!(rt; second, (8, 1));
-    let inner = refusal::<(Vec<u64>, Two, Vec<u64>)>(rt.alloc(), UNEVEN_SECOND.as_slice()).expect(
-        &rt, "memory",
-    );
-    equal!(rt; inner, (10, 1));
-    Ok(())
+fn a_row_of_three_is_accepted_and_others_told_at_their_slice(rt: HostRuntime) {
+    let cases = [
+        (THREE.as_slice(), (0, 0)),
+        (SHORT_THIRD.as_slice(), (10, 0)),
+        (LONG_LAST_OF_THREE.as_slice(), (10, 0)),
+        (BROKEN_SECOND.as_slice(), (8, 1)),
+    ];
+    judged::<Three, _>(&rt, rt.alloc(), 3, cases.as_slice());
 }
 
 #[test]
-fn a_row_of_three_is_accepted(rt: HostRuntime) -> Result<(), Fail> {
-    let three = refusal::<Three>(rt.alloc(), THREE.as_slice()).expect(&rt, "memory");
-    equal!(rt; three, (0, 0));
-    equal!(rt; Three::slice_count(), 3);
-    Ok(())
+fn a_longer_last_of_six_is_told_at_the_first_slice(rt: HostRuntime) {
+    let cases = [(LONG_LAST_OF_SIX.as_slice(), (10, 0))];
+    judged::<Six, _>(&rt, rt.alloc(), 6, cases.as_slice());
 }
 
 #[test]
-fn a_row_of_seven_or_ten_is_accepted(rt: HostRuntime) -> Result<(), Fail> {
-    let seven = refusal::<Seven>(rt.alloc(), SEVEN.as_slice()).expect(&rt, "memory");
-    equal!(rt; seven, (0, 0));
-    let ten = refusal::<Ten>(rt.alloc(), TEN.as_slice()).expect(&rt, "memory");
-    equal!(rt; ten, (0, 0));
-    equal!(rt; Ten::slice_count(), 10);
+fn a_row_of_seven_is_accepted(rt: HostRuntime) {
+    let cases = [(SEVEN.as_slice(), (0, 0))];
+    judged::<Seven, _>(&rt, rt.alloc(), 7, cases.as_slice());
+}
+
+#[test]
+fn a_row_of_ten_is_accepted_and_a_longer_last_told_at_the_first_slice(rt: HostRuntime) {
+    let cases = [
+        (TEN.as_slice(), (0, 0)),
+        (LONG_LAST_OF_TEN.as_slice(), (10, 0)),
+    ];
+    judged::<Ten, _>(&rt, rt.alloc(), 10, cases.as_slice());
     equal!(rt; TEN.as_slice().len(), 21);
-    Ok(())
+}
+
+#[test]
+fn an_uneven_pair_inside_is_told_at_its_own_slice(rt: HostRuntime) {
+    let cases = [(UNEVEN_SECOND.as_slice(), (10, 1))];
+    judged::<(Vec<u64>, Two, Vec<u64>), _>(&rt, rt.alloc(), 4, cases.as_slice());
 }

@@ -2,9 +2,11 @@
 ghost use Rattle.std.specs.Prelude.{◌≡◌, IsTrue};
 ghost use Rattle.columnar_core.specs.Format.{IsSound, representable};
 
-use super::worked::{ONE, One, SEVEN, Seven, TEN, THREE, TWO, Ten, Three, Two, is_written};
-use columnar_core::bytes::{AsBytes, Check};
-use columnar_core::container::{Borrow, Container, Reserve, Storage, Truncate};
+use super::tuples::{Asked, of_one, of_seven, of_ten, of_three, of_two};
+use super::worked::{ONE, SEVEN, TEN, THREE, TWO, Ten, is_written};
+use columnar_bytes::stash::Stash;
+use columnar_core::bytes::{AsBytes, Check, FromBytes, Stored};
+use columnar_core::container::{Borrow, ExtendFrom, Reserve, Storage, Truncate};
 use columnar_core::traits::{Clear, Column, Item, Len, Push, PushRef};
 use std::alloc::Global;
 use std::iter::once;
@@ -14,7 +16,7 @@ use test_support::{equal, holds};
 
 // A column that is well formed
 #[derive(Drop)]
-struct Held<C: Column> {
+pub struct Held<C: Column> {
     column: C,
     ghost sound: { IsSound C.format (C.content column) },
 }
@@ -40,7 +42,10 @@ fn grown<T: Item + Copy, C: Storage + Reserve + Push<T> + PushRef<T>>(
 }
 
 // A copy of all rows, through the view; none where a call is refused
-fn copied<'a, C: Container<'a>>(alloc: Global, held: &'a Held<C>) -> Option<Held<C>> {
+fn copied<'a, C: Borrow<'a> + ExtendFrom<<C as Borrow<'a>>::Borrowed>>(
+    alloc: Global,
+    held: &'a Held<C>,
+) -> Option<Held<C>> {
     let view = held.column.borrow();
     let count = view.len();
     let mut column = C::empty(alloc);
@@ -60,57 +65,81 @@ fn lends<'a, C: Borrow<'a, Borrowed: AsBytes<'a> + Check>>(
     is_written(alloc, &held.column.borrow(), words)
 }
 
-#[test]
-fn a_tuple_of_one(rt: HostRuntime) -> Result<(), Fail> {
-    let column = grown::<(u64,), One>(rt.alloc(), (1,)).expect(&rt, "grown");
-    let copy = copied(rt.alloc(), &column).expect(&rt, "copied");
-    holds!(rt; lends(rt.alloc(), &copy, ONE.as_slice()));
-    Ok(())
+// Is a column of the one row, grown and then copied, written as these words? What is borrowed stands in `column` and `copy`.
+pub fn grows_and_copies<
+    'a,
+    T: Item + Copy,
+    C: Borrow<'a, Borrowed: AsBytes<'a> + Check>
+        + ExtendFrom<<C as Borrow<'a>>::Borrowed>
+        + Push<T>
+        + PushRef<T>,
+>(
+    alloc: Global,
+    column: &'a mut Option<Held<C>>,
+    copy: &'a mut Option<Held<C>>,
+    row: T,
+    words: &[u64],
+) -> bool
+    requires valid { T.valid row }
+    requires representable { IsTrue (representable C.Borrowed.format) }
+{
+    *column = grown::<T, C>(alloc, row);
+    match column {
+        Some(column) => *copy = copied(alloc, column),
+        None => return false,
+    }
+    match copy {
+        Some(copy) => lends(alloc, copy, words),
+        None => false,
+    }
+}
+
+// The row of one row's words, which are opened in `stash`
+fn row_of_one<'a, C: Stored + Drop + Borrow<'a, Borrowed: FromBytes<'a>>>(
+    alloc: Global,
+    stash: &'a mut Option<Stash<C, Vec<u8>>>,
+    words: &[u64],
+) -> Option<C::Ref>
+    requires { IsTrue (representable C.format) }
+{
+    *stash = opened::<C>(alloc, words);
+    match stash {
+        Some(stash) => row_of(stash, 0),
+        None => None,
+    }
 }
 
 #[test]
-fn a_tuple_of_two(rt: HostRuntime) -> Result<(), Fail> {
-    let column = grown::<(u64, u64), Two>(rt.alloc(), (1, 2)).expect(&rt, "grown");
-    let copy = copied(rt.alloc(), &column).expect(&rt, "copied");
-    holds!(rt; lends(rt.alloc(), &copy, TWO.as_slice()));
-    Ok(())
+fn a_tuple_of_one(rt: HostRuntime) {
+    holds!(rt; of_one(rt.alloc(), &(1,), Asked::Grown(ONE.as_slice())));
 }
 
 #[test]
-fn a_tuple_of_three(rt: HostRuntime) -> Result<(), Fail> {
-    let column = grown::<(u64, u64, u64), Three>(rt.alloc(), (1, 2, 3)).expect(&rt, "grown");
-    let copy = copied(rt.alloc(), &column).expect(&rt, "copied");
-    holds!(rt; lends(rt.alloc(), &copy, THREE.as_slice()));
-    Ok(())
+fn a_tuple_of_two(rt: HostRuntime) {
+    holds!(rt; of_two(rt.alloc(), &(1, 2), Asked::Grown(TWO.as_slice())));
 }
 
 #[test]
-fn a_tuple_of_seven(rt: HostRuntime) -> Result<(), Fail> {
-    let row = (1u64, 2u64, 3u64, 4u64, 5u64, 6u64, 7u64);
-    let column = grown::<(u64, u64, u64, u64, u64, u64, u64), Seven>(rt.alloc(), row).expect(
-        &rt, "grown",
-    );
-    let copy = copied(rt.alloc(), &column).expect(&rt, "copied");
-    holds!(rt; lends(rt.alloc(), &copy, SEVEN.as_slice()));
-    Ok(())
+fn a_tuple_of_three(rt: HostRuntime) {
+    holds!(rt; of_three(rt.alloc(), &(1, 2, 3), Asked::Grown(THREE.as_slice())));
 }
 
 #[test]
-fn a_tuple_of_ten(rt: HostRuntime) -> Result<(), Fail> {
-    let row = (0u64, 1u64, 2u64, 3u64, 4u64, 5u64, 6u64, 7u64, 8u64, 9u64);
-    let column = grown::<(u64, u64, u64, u64, u64, u64, u64, u64, u64, u64), Ten>(
-        rt.alloc(),
-        row,
-    ).expect(&rt, "grown");
-    let copy = copied(rt.alloc(), &column).expect(&rt, "copied");
-    holds!(rt; lends(rt.alloc(), &copy, TEN.as_slice()));
-    Ok(())
+fn a_tuple_of_seven(rt: HostRuntime) {
+    let row = (1, 2, 3, 4, 5, 6, 7);
+    holds!(rt; of_seven(rt.alloc(), &row, Asked::Grown(SEVEN.as_slice())));
+}
+
+#[test]
+fn a_tuple_of_ten(rt: HostRuntime) {
+    let row = (0, 1, 2, 3, 4, 5, 6, 7, 8, 9);
+    holds!(rt; of_ten(rt.alloc(), &row, Asked::Grown(TEN.as_slice())));
 }
 
 #[test]
 fn a_row_of_ten_is_read(rt: HostRuntime) -> Result<(), Fail> {
-    let stash = opened::<Ten>(rt.alloc(), TEN.as_slice()).expect(&rt, "opened");
-    let row = row_of(&stash, 0).expect(&rt, "a row");
+    let mut stash = None;
+    let row = row_of_one::<Ten>(rt.alloc(), &mut stash, TEN.as_slice()).expect(&rt, "a row");
     equal!(rt; (row.0, row.1, row.8, row.9), (0, 1, 8, 9));
     Ok(())
 }

@@ -9,6 +9,8 @@ mod byte_slices;
 #[cfg(test)]
 mod claims;
 #[cfg(test)]
+mod held;
+#[cfg(test)]
 mod numbers;
 #[cfg(test)]
 mod offsets;

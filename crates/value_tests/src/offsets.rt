@@ -11,29 +11,43 @@ use columnar_core::traits::{Clear, Len, Push};
 use columnar_core::view::View;
 use columnar_core::words::Words;
 use columnar_primitive::offsets::{Fixeds, Strides};
-use std::test::Fail;
+use std::alloc::Global;
 use test_support::columns::cut;
 use test_support::{equal, holds};
 
-// Pushes through the bound.
-fn pushed<C: Push<u64>>(column: &mut C, item: u64) -> Result<(), GrowError>
+// What a push answers.
+type Answer = Result<(), GrowError>;
+
+// Pushes offsets through the bound; is each answered so?
+fn answers<C: Push<u64>>(column: &mut C, cases: &[(u64, Answer)]) -> bool
     requires { IsSound C.format (C.content column.old) }
     ensures { IsSound C.format (C.content column.new) }
 {
-    match column.push(item) {
-        Ok(()) => Ok(()),
-        Err(error) => Err(error),
+    for case in cases {
+        if column.push(case.0) != case.1 {
+            return false;
+        }
     }
+    true
 }
 
-// Reads through the bound.
-fn offset_at<C: Offsets>(column: &C, index: usize) -> Option<u64>
+// Offset `index`, and whether the offsets rise to each of two ends.
+fn told<C: Offsets>(column: &C, index: usize, end: u64, other: u64) -> (Option<u64>, bool, bool)
     requires { IsSound C.format (C.content column.now) }
 {
-    if index < column.len() {
+    let offset = if index < column.len() {
         Some(column.offset(index))
     } else {
         None
+    };
+    (offset, column.rises_to(end), column.rises_to(other))
+}
+
+// Is a duplicate equal to its column?
+fn is_duplicated<C: Storage + PartialEq>(alloc: Global, column: &C) -> bool {
+    match column.duplicate(alloc) {
+        Ok(same) => same == *column,
+        Err(_) => false,
     }
 }
 
@@ -58,15 +72,13 @@ fn copied<'a, C: Container<'a>>(
 }
 
 #[test]
-fn only_the_next_multiple_is_taken(rt: HostRuntime) -> Result<(), Fail> {
+fn only_the_next_multiple_is_taken(rt: HostRuntime) {
     let mut column = Fixeds::<3, u64>::empty(rt.alloc());
-    equal!(rt; pushed(&mut column, 4), Err(GrowError::Offset));
+    holds!(rt; answers(&mut column, [(4, Err(GrowError::Offset))].as_slice()));
     equal!(rt; column.count, 0);
-    equal!(rt; pushed(&mut column, 3), Ok(()));
-    equal!(rt; pushed(&mut column, 6), Ok(()));
+    holds!(rt; answers(&mut column, [(3, Ok(())), (6, Ok(()))].as_slice()));
     equal!(rt; column.count, 2);
-    equal!(rt; offset_at(&column, 1), Some(6));
-    equal!(rt; (column.rises_to(6), column.rises_to(3)), (true, false));
+    equal!(rt; told(&column, 1, 6, 3), (Some(6), true, false));
     let mut other = Fixeds::<3, u64>::empty(rt.alloc());
     equal!(rt;
         copied(&mut other, &column, 1, 2),
@@ -79,28 +91,28 @@ fn only_the_next_multiple_is_taken(rt: HostRuntime) -> Result<(), Fail> {
     equal!(rt; copied(&mut other, &column, 1, 2), Some(Ok(())));
     other.clear();
     equal!(rt; other.count, 0);
-    Ok(())
 }
 
 #[test]
-fn a_full_count_is_refused_and_accepted_in_a_store(rt: HostRuntime) -> Result<(), Fail> {
+fn a_full_count_is_refused_and_accepted_in_a_store(rt: HostRuntime) {
     let full = Fixeds::<1, View<'_, u64>> {
         count: View::from_slice(&[18446744073709551615]),
     };
     equal!(rt; full.check(), Ok(()));
-    let long = Fixeds::<3, View<'_, u64>> {
-        count: View::from_slice(&[6148914691236517206]),
-    };
-    equal!(rt; long.check(), Err(StoreFault::Stride(0)));
-    let two = Fixeds::<3, View<'_, u64>> {
-        count: View::from_slice(&[1, 2]),
-    };
-    equal!(rt; two.check(), Err(StoreFault::HeadSize(0)));
-    let bytes = Fixeds::<3, View<'_, u64>> {
-        count: View::from_le_bytes(&[1, 0, 0, 0, 0, 0, 0]),
-    };
-    equal!(rt; bytes.check(), Err(StoreFault::HeadSize(0)));
-    Ok(())
+    for (count, wanted) in [
+        (
+            View::from_slice(&[6148914691236517206]),
+            StoreFault::Stride(0),
+        ),
+        (View::from_slice(&[1, 2]), StoreFault::HeadSize(0)),
+        (
+            View::from_le_bytes(&[1, 0, 0, 0, 0, 0, 0]),
+            StoreFault::HeadSize(0),
+        ),
+    ] {
+        let view = Fixeds::<3, View<'_, u64>> { count };
+        equal!(rt; view.check(), Err(wanted));
+    }
 }
 
 // Bounds of list `index`, where it is there.
@@ -134,68 +146,71 @@ fn popped(column: &mut Strides<Vec<u64>, [u64; 2]>)
 }
 
 #[test]
-fn a_stride_goes_as_far_as_it_goes(rt: HostRuntime) -> Result<(), Fail> {
+fn a_stride_goes_as_far_as_it_goes(rt: HostRuntime) {
     let mut column = Strides::<Vec<u64>, [u64; 2]>::empty(rt.alloc());
-    equal!(rt; pushed(&mut column, 3), Ok(()));
-    equal!(rt; pushed(&mut column, 6), Ok(()));
-    equal!(rt; pushed(&mut column, 10), Ok(()));
-    equal!(rt; pushed(&mut column, 13), Ok(()));
+    let offsets = [(3, Ok(())), (6, Ok(())), (10, Ok(())), (13, Ok(()))];
+    holds!(rt; answers(&mut column, offsets.as_slice()));
     equal!(rt; column.head, [3, 2]);
     equal!(rt; column.bounds.as_slice(), [10, 13].as_slice());
     equal!(rt; list_at(&column, 0), Some((0, 3)));
     equal!(rt; list_at(&column, 2), Some((6, 10)));
-    equal!(rt; offset_at(&column, 3), Some(13));
+    equal!(rt; told(&column, 3, 13, 10), (Some(13), true, false));
     equal!(rt; column.strided(), None);
-    match column.duplicate(rt.alloc()) {
-        Ok(same) => equal!(rt; same == column, true),
-        Err(_) => return Err(Fail::new("no memory")),
-    }
-    equal!(rt; (column.rises_to(13), column.rises_to(10)), (true, false));
+    holds!(rt; is_duplicated(rt.alloc(), &column));
+}
+
+#[test]
+fn a_stride_is_copied_and_cut(rt: HostRuntime) {
+    let mut column = Strides::<Vec<u64>, [u64; 2]>::empty(rt.alloc());
+    let offsets = [(3, Ok(())), (6, Ok(())), (10, Ok(())), (13, Ok(()))];
+    holds!(rt; answers(&mut column, offsets.as_slice()));
     let mut other = Strides::<Vec<u64>, [u64; 2]>::empty(rt.alloc());
     equal!(rt; copied(&mut other, &column, 1, 4), Some(Ok(())));
     equal!(rt; other.head, [6, 1]);
     equal!(rt; other.bounds.as_slice(), [10, 13].as_slice());
     popped(&mut other);
     equal!(rt; other.bounds.as_slice(), [10].as_slice());
+    other.clear();
+    equal!(rt; other.head, [0, 0]);
     cut(&mut column, 1);
     equal!(rt; column.head, [3, 1]);
     equal!(rt; column.bounds.len(), 0);
     equal!(rt; column.strided(), Some(3));
     popped(&mut column);
     equal!(rt; column.head, [3, 0]);
-    other.clear();
-    equal!(rt; other.head, [0, 0]);
-    Ok(())
 }
 
 #[test]
-fn a_falling_offset_stands_as_it_is(rt: HostRuntime) -> Result<(), Fail> {
+fn a_falling_offset_stands_as_it_is(rt: HostRuntime) {
     let mut column = Strides::new(rt.alloc(), 3, 2);
-    equal!(rt; pushed(&mut column, 5), Ok(()));
-    equal!(rt; column.rises_to(5), false);
-    equal!(rt; offset_at(&column, 2), Some(5));
-    Ok(())
+    holds!(rt; answers(&mut column, [(5, Ok(()))].as_slice()));
+    equal!(rt; told(&column, 2, 5, 5), (Some(5), false, false));
 }
 
 #[test]
-fn what_a_head_claims_is_reckoned(rt: HostRuntime) -> Result<(), Fail> {
-    equal!(rt;
-        viewed(&[8589934592, 8589934592], &[]).check(),
-        Err(StoreFault::Stride(0))
-    );
-    equal!(rt;
-        viewed(&[0, 18446744073709551615], &[0]).check(),
-        Err(StoreFault::Length(0))
-    );
-    equal!(rt; viewed(&[0, 18446744073709551615], &[]).check(), Ok(()));
-    equal!(rt; viewed(&[1, 18446744073709551615], &[]).check(), Ok(()));
-    equal!(rt; viewed(&[0], &[]).check(), Err(StoreFault::HeadSize(0)));
+fn what_a_head_claims_is_reckoned(rt: HostRuntime) {
+    for (head, bounds, wanted) in [
+        (
+            [8589934592, 8589934592].as_slice(),
+            [].as_slice(),
+            Err(StoreFault::Stride(0)),
+        ),
+        (
+            [0, 18446744073709551615].as_slice(),
+            [0].as_slice(),
+            Err(StoreFault::Length(0)),
+        ),
+        ([0, 18446744073709551615].as_slice(), [].as_slice(), Ok(())),
+        ([1, 18446744073709551615].as_slice(), [].as_slice(), Ok(())),
+        ([0].as_slice(), [].as_slice(), Err(StoreFault::HeadSize(0))),
+    ] {
+        equal!(rt; viewed(head, bounds).check(), wanted);
+    }
     let odd = Strides {
         head: View::from_slice(&[0, 0]),
         bounds: View::<u64>::from_le_bytes(&[1, 2, 3]),
     };
     equal!(rt; odd.check(), Err(StoreFault::ElementSize(1)));
-    Ok(())
 }
 
 // The view of a head and bounds.
@@ -207,30 +222,25 @@ fn viewed<'a>(head: &'a [u64], bounds: &'a [u64]) -> Strides<View<'a, u64>, View
 }
 
 #[test]
-fn multiples_are_told_from_others(rt: HostRuntime) -> Result<(), Fail> {
+fn multiples_are_told_from_others(rt: HostRuntime) {
     let alloc = rt.alloc();
-    match Fixeds::<3, u64>::try_from(Strides::new(alloc, 3, 100)) {
-        Ok(column) => equal!(rt; column.count, 100),
-        Err(_) => return Err(Fail::from("refused")),
-    }
-    let mut longer = Strides::new(alloc, 3, 100);
-    equal!(rt; pushed(&mut longer, 302), Ok(()));
-    equal!(rt; longer.strided(), None);
-    match Fixeds::<3, View<'_, u64>>::try_from(longer.borrow()) {
-        Ok(_) => return Err(Fail::from("accepted")),
-        Err(view) => equal!(rt; only(&view.bounds), Some(302)),
-    }
-    match Fixeds::<3, u64>::try_from(longer) {
-        Ok(_) => return Err(Fail::from("accepted")),
-        Err(back) => {
-            equal!(rt; back.head, [3, 100]);
-            equal!(rt; back.bounds.as_slice(), [302].as_slice());
-        }
-    }
-    match Fixeds::<3, View<'_, u64>>::try_from(viewed(&[3, 100], &[])) {
-        Ok(column) => equal!(rt; only(&column.count), Some(100)),
-        Err(_) => return Err(Fail::from("refused")),
-    }
+    let column = Fixeds::<3, u64>::try_from(Strides::new(alloc, 3, 100)).ok();
+    equal!(rt; column.expect(&rt, "accepted").count, 100);
+    let view = Fixeds::<3, View<'_, u64>>::try_from(viewed(&[3, 100], &[])).ok();
+    equal!(rt; only(&view.expect(&rt, "accepted").count), Some(100));
     holds!(rt; Fixeds::<3, u64>::try_from(Strides::empty(alloc)).is_err());
-    Ok(())
+}
+
+#[test]
+fn others_are_given_back(rt: HostRuntime) {
+    let mut longer = Strides::new(rt.alloc(), 3, 100);
+    holds!(rt; answers(&mut longer, [(302, Ok(()))].as_slice()));
+    equal!(rt; longer.strided(), None);
+    let view = Fixeds::<3, View<'_, u64>>::try_from(longer.borrow()).err();
+    equal!(rt; only(&view.expect(&rt, "refused").bounds), Some(302));
+    let back = Fixeds::<3, u64>::try_from(longer)
+        .err()
+        .expect(&rt, "refused");
+    equal!(rt; back.head, [3, 100]);
+    equal!(rt; back.bounds.as_slice(), [302].as_slice());
 }

@@ -2,10 +2,11 @@
 ghost use Rattle.std.specs.Prelude.{◌≡◌, IsTrue};
 ghost use Rattle.columnar_base.specs.Format.{representable};
 
-use columnar_core::bytes::{AsBytes, Check, Stored};
-use columnar_core::container::{Borrow, ContainerBytes, ExtendFrom, Reborrow, Storage};
+use crate::held::{copy_twice, grown, pair_of, reads, sizes_of, slices_are};
+use columnar_core::bytes::Check;
+use columnar_core::container::{Borrow, ExtendFrom, Reborrow, Storage};
 use columnar_core::fault::{GrowError, StoreFault};
-use columnar_core::traits::{Clear, Len, Push, PushRef};
+use columnar_core::traits::Push;
 use columnar_core::view::View;
 use columnar_primitive::chars::Chars;
 use columnar_primitive::count::Count;
@@ -13,10 +14,11 @@ use columnar_primitive::durations::Durations;
 use columnar_primitive::empties::Empties;
 use columnar_primitive::larges::{I128s, U128s};
 use columnar_primitive::numbers::{Isizes, Usizes};
+use std::iter::{empty, once};
 use std::marker::PhantomData;
 use std::test::Fail;
 use std::time::Duration;
-use test_support::columns::{copied, copy_all, count, cut, row_at};
+use test_support::columns::{count, row_at};
 use test_support::{equal, holds};
 
 type Sizes = Usizes<Vec<u64>>;
@@ -45,75 +47,63 @@ fn checked<V: Check>(view: &V) -> Result<(), StoreFault>
 
 #[test]
 fn sizes_are_rows(rt: HostRuntime) -> Result<(), Fail> {
-    let mut column = Sizes::empty(rt.alloc());
-    holds!(rt; column.push(1usize).is_ok());
-    holds!(rt; column.push(&2usize).is_ok());
-    holds!(rt; column.push_ref(&3usize).is_ok());
-    holds!(rt; Push::extend(&mut column, [4usize, 5].iter().copied()).is_ok());
-    equal!(rt; count(&column), 5);
-    equal!(rt; column.values.as_slice(), [1, 2, 3, 4, 5].as_slice());
-    equal!(rt; row_at(&column, 3), Some(4));
-    equal!(rt; row_at(&column.borrow(), 4), Some(5));
-    equal!(rt; row_at(&&column, 2), Some(3));
-    holds!(rt; column.borrow().check().is_ok());
-    let mut copy = Sizes::with_capacity_for(rt.alloc(), [column.borrow()].iter().copied())?;
-    holds!(rt; copy_all(&mut copy, column.borrow()).is_ok());
-    holds!(rt; copied(&mut copy, column.borrow().reborrow(), 1, 3));
-    holds!(rt; copy.reserve_for([column.borrow()].iter().copied()).is_ok());
-    equal!(rt; copy.values.as_slice(), [1, 2, 3, 4, 5, 2, 3].as_slice());
-    cut(&mut copy, 2);
-    equal!(rt; copy.values.as_slice(), [1, 2].as_slice());
-    let again = copy.duplicate(rt.alloc())?;
-    equal!(rt; again.values.as_slice(), [1, 2].as_slice());
-    copy.clear();
-    holds!(rt; copy.is_empty());
-    let mut sizes = Vec::new(rt.alloc());
-    holds!(rt; Sizes::element_sizes(&mut sizes).is_ok());
+    let others = [4usize, 5];
+    let held = grown::<_, Sizes, _>(rt.alloc(), 1, &2, &3, others.iter().copied()).expect(
+        &rt, "grown",
+    );
+    equal!(rt; held.column.values.as_slice(), [1, 2, 3, 4, 5].as_slice());
+    equal!(rt; count(&held.column), 5);
+    holds!(rt; reads(&held, [1, 2, 3, 4, 5].as_slice()));
+    equal!(rt; row_at(&&held.column, 2), Some(3));
+    let sizes = sizes_of::<Sizes>(rt.alloc()).expect(&rt, "sizes");
     equal!(rt; sizes.as_slice(), [8].as_slice());
-    equal!(rt; column.borrow().get_byte_slice(0).1.len(), 40);
-    equal!(rt; column.byte_slice(0).len(), 40);
+    holds!(rt; slices_are(&held.column, 8, 40));
+    let view = held.column.borrow().reborrow();
+    let copies = copy_twice::<_, Sizes, _>(rt.alloc(), view, once(view), 1, 3, 2).expect(
+        &rt, "copies",
+    );
+    equal!(rt; copies.more.column.values.as_slice(), [1, 2, 3, 4, 5, 2, 3].as_slice());
+    equal!(rt; copies.cut.column.values.as_slice(), [1, 2].as_slice());
+    equal!(rt; copies.again.column.values.as_slice(), [1, 2].as_slice());
     Ok(())
 }
 
 #[test]
 fn differences_are_rows(rt: HostRuntime) -> Result<(), Fail> {
-    let mut column = Differences::empty(rt.alloc());
-    holds!(rt; column.push(-1isize).is_ok());
-    holds!(rt; column.push(&isize::MIN).is_ok());
-    equal!(rt; column.values.as_slice(), [-1, i64::MIN].as_slice());
-    equal!(rt; row_at(&column.borrow(), 0), Some(-1));
-    equal!(rt; row_at(&column.borrow(), 1), Some(isize::MIN));
+    let held = pair_of::<_, Differences>(rt.alloc(), -1, &isize::MIN).expect(&rt, "grown");
+    equal!(rt; held.column.values.as_slice(), [-1, i64::MIN].as_slice());
+    holds!(rt; reads(&held, [-1, isize::MIN].as_slice()));
     Ok(())
 }
 
 #[test]
 fn large_numbers_are_rows(rt: HostRuntime) -> Result<(), Fail> {
-    let mut column = Large::empty(rt.alloc());
-    holds!(rt; column.push(1u128).is_ok());
-    holds!(rt; column.push(&u128::MAX).is_ok());
+    let held = pair_of::<_, Large>(rt.alloc(), 1, &u128::MAX).expect(&rt, "grown");
     let one = [1, 0, 0, 0, 0, 0, 0, 0, 0, 0, 0, 0, 0, 0, 0, 0];
-    equal!(rt; column.values.as_slice(), [one, [255; 16]].as_slice());
-    equal!(rt; row_at(&column.borrow(), 0), Some(1));
-    equal!(rt; row_at(&column.borrow(), 1), Some(u128::MAX));
-    let mut signed = LargeSigned::empty(rt.alloc());
-    holds!(rt; signed.push(-1i128).is_ok());
-    holds!(rt; signed.push(&i128::MIN).is_ok());
+    equal!(rt; held.column.values.as_slice(), [one, [255; 16]].as_slice());
+    holds!(rt; reads(&held, [1, u128::MAX].as_slice()));
+    Ok(())
+}
+
+#[test]
+fn large_signed_numbers_are_rows(rt: HostRuntime) -> Result<(), Fail> {
+    let held = pair_of::<_, LargeSigned>(rt.alloc(), -1, &i128::MIN).expect(&rt, "grown");
     let least = [0, 0, 0, 0, 0, 0, 0, 0, 0, 0, 0, 0, 0, 0, 0, 128];
-    equal!(rt; signed.values.as_slice(), [[255; 16], least].as_slice());
-    equal!(rt; row_at(&signed.borrow(), 0), Some(-1));
-    equal!(rt; row_at(&signed.borrow(), 1), Some(i128::MIN));
+    equal!(rt; held.column.values.as_slice(), [[255; 16], least].as_slice());
+    holds!(rt; reads(&held, [-1, i128::MIN].as_slice()));
     Ok(())
 }
 
 #[test]
 fn characters_are_rows(rt: HostRuntime) -> Result<(), Fail> {
-    let mut column = Characters::empty(rt.alloc());
-    holds!(rt; column.push('a').is_ok());
-    holds!(rt; column.push(&'\u{10FFFF}').is_ok());
-    equal!(rt; column.values.as_slice(), [97, 0x10FFFF].as_slice());
-    equal!(rt; row_at(&column.borrow(), 0), Some('a'));
-    equal!(rt; row_at(&column.borrow(), 1), Some('\u{10FFFF}'));
-    equal!(rt; checked(&column.borrow()), Ok(()));
+    let held = pair_of::<_, Characters>(rt.alloc(), 'a', &'\u{10FFFF}').expect(&rt, "grown");
+    equal!(rt; held.column.values.as_slice(), [97, 0x10FFFF].as_slice());
+    holds!(rt; reads(&held, ['a', '\u{10FFFF}'].as_slice()));
+    Ok(())
+}
+
+#[test]
+fn codes_of_characters_are_judged(rt: HostRuntime) {
     for (codes, wanted) in [
         ([0xD7FF, 0xE000], Ok(())),
         ([97, 0xD800], Err(StoreFault::Value(0))),
@@ -131,45 +121,46 @@ fn characters_are_rows(rt: HostRuntime) -> Result<(), Fail> {
         of: PhantomData,
     };
     equal!(rt; checked(&short), Err(StoreFault::ElementSize(0)));
-    Ok(())
 }
 
 #[test]
 fn durations_are_rows(rt: HostRuntime) -> Result<(), Fail> {
-    let mut column = Times::empty(rt.alloc());
-    holds!(rt; column.push(Duration::new(17, 42)).is_ok());
-    holds!(rt; column.push(&Duration::new(1, 999_999_999)).is_ok());
-    holds!(rt; column.push_ref(&Duration::ZERO).is_ok());
-    holds!(rt; column.push_parts(u64::MAX, 5).is_ok());
-    equal!(rt; count(&column), 4);
-    equal!(rt; column.seconds.as_slice(), [17, 1, 0, u64::MAX].as_slice());
+    let rows = [
+        Duration::new(17, 42),
+        Duration::new(1, 999_999_999),
+        Duration::ZERO,
+        Duration::new(u64::MAX, 5),
+    ];
+    let mut held = grown::<_, Times, _>(rt.alloc(), rows[0], &rows[1], &rows[2], empty()).expect(
+        &rt, "grown",
+    );
+    holds!(rt; held.column.push_parts(u64::MAX, 5).is_ok());
+    equal!(rt; held.column.seconds.as_slice(), [17, 1, 0, u64::MAX].as_slice());
     equal!(rt;
-        column.nanoseconds.as_slice(),
+        held.column.nanoseconds.as_slice(),
         [42, 999_999_999, 0, 5].as_slice()
     );
-    equal!(rt;
-        row_at(&column.borrow(), 1),
-        Some(Duration::new(1, 999_999_999))
-    );
-    equal!(rt; row_at(&&column, 0), Some(Duration::new(17, 42)));
-    holds!(rt; column.borrow().check().is_ok());
+    equal!(rt; count(&held.column), 4);
+    holds!(rt; reads(&held, rows.as_slice()));
+    equal!(rt; row_at(&&held.column, 0), Some(Duration::new(17, 42)));
     Ok(())
 }
 
 #[test]
 fn durations_are_copied_and_cut(rt: HostRuntime) -> Result<(), Fail> {
-    let mut column = Times::empty(rt.alloc());
-    column.push(Duration::new(17, 42))?;
-    column.push(Duration::new(1, 999_999_999))?;
-    let mut copy = Times::with_capacity_for(rt.alloc(), [column.borrow()].iter().copied())?;
-    holds!(rt; copy_all(&mut copy, column.borrow()).is_ok());
-    holds!(rt; copy == column);
-    holds!(rt; copied(&mut copy, column.borrow(), 1, 2));
-    equal!(rt; copy.seconds.as_slice(), [17, 1, 1].as_slice());
-    cut(&mut copy, 1);
-    equal!(rt; copy.nanoseconds.as_slice(), [42].as_slice());
-    copy.clear();
-    holds!(rt; copy.is_empty());
+    let held = pair_of::<_, Times>(
+        rt.alloc(),
+        Duration::new(17, 42),
+        &Duration::new(1, 999_999_999),
+    )
+    .expect(&rt, "grown");
+    let view = held.column.borrow();
+    let copies = copy_twice::<_, Times, _>(rt.alloc(), view, once(view), 1, 2, 1).expect(
+        &rt, "copies",
+    );
+    holds!(rt; copies.all.column == held.column);
+    equal!(rt; copies.more.column.seconds.as_slice(), [17, 1, 1].as_slice());
+    equal!(rt; copies.cut.column.nanoseconds.as_slice(), [42].as_slice());
     Ok(())
 }
 
@@ -194,32 +185,24 @@ fn parts_of_durations_are_judged(rt: HostRuntime) -> Result<(), Fail> {
         };
         equal!(rt; view.check(), wanted);
     }
-    let mut sizes = Vec::new(rt.alloc());
-    holds!(rt; Times::element_sizes(&mut sizes).is_ok());
+    let sizes = sizes_of::<Times>(rt.alloc()).expect(&rt, "sizes");
     equal!(rt; sizes.as_slice(), [8, 4].as_slice());
     Ok(())
 }
 
 #[test]
 fn units_are_counted(rt: HostRuntime) -> Result<(), Fail> {
-    let mut column = Units::empty(rt.alloc());
-    holds!(rt; column.push(()).is_ok());
-    holds!(rt; column.push(&()).is_ok());
-    holds!(rt; column.push_ref(&()).is_ok());
-    equal!(rt; count(&column), 3);
-    equal!(rt; column.count.count(), 3);
-    equal!(rt; row_at(&column, 2), Some(()));
-    equal!(rt; row_at(&&column, 2), Some(&()));
-    holds!(rt; column.borrow().check().is_ok());
-    equal!(rt; column.borrow().len(), 3);
-    let mut copy = Units::empty(rt.alloc());
-    holds!(rt; copy_all(&mut copy, column.borrow()).is_ok());
-    holds!(rt; copied(&mut copy, column.borrow(), 1, 3));
-    equal!(rt; copy.count, 5);
-    cut(&mut copy, 4);
-    equal!(rt; copy.count, 4);
-    copy.clear();
-    holds!(rt; copy.is_empty());
+    let held = grown::<_, Units, _>(rt.alloc(), (), &(), &(), empty()).expect(&rt, "grown");
+    equal!(rt; count(&held.column), 3);
+    equal!(rt; held.column.count.count(), 3);
+    holds!(rt; reads(&held, [(), (), ()].as_slice()));
+    equal!(rt; row_at(&&held.column, 2), Some(&()));
+    let view = held.column.borrow();
+    let copies = copy_twice::<_, Units, _>(rt.alloc(), view, once(view), 1, 3, 4).expect(
+        &rt, "copies",
+    );
+    equal!(rt; copies.more.column.count, 5);
+    equal!(rt; copies.cut.column.count, 4);
     Ok(())
 }
 

@@ -4,10 +4,18 @@
 mod sums;
 mod values;
 
-use columnar::bytes::stash::Command;
+ghost use Rattle.std.specs.Prelude.{All, IsTrue};
+ghost use Rattle.columnar_core.specs.Format.{IsSound, representable};
+ghost use Rattle.columnar_bytes.specs.Machine.{IsValid};
+
+use columnar::bytes::stash::{Command, Stash};
 use columnar::common::View;
 use columnar::fault::GrowError;
-use columnar::{Borrow, Check, Len, Push, Slice, Storage, Vecs};
+use columnar::{
+    AsBytes, Borrow, Check, ContainerBytes, ExtendFrom, FromBytes, Item, Len, Push, PushRef, Slice,
+    Storage, Stored, Vecs,
+};
+use std::alloc::Global;
 use std::test::Fail;
 use test_support::keeps::{push_ref_keeps, sizes_keep};
 use test_support::stashes::{has, opened};
@@ -48,6 +56,85 @@ static FIRSTS: [u64; 2] = [5, 6];
 
 static SECONDS: [u64; 2] = [50, 60];
 
+// The sizes of a type's elements are appended to a vector without room, and to one with room for one of them.
+fn both_sizes_keep<C: Stored>(alloc: Global) -> bool
+    requires { IsTrue (representable C.format) }
+{
+    let mut sizes = Vec::new(alloc);
+    let Ok(mut room) = Vec::with_capacity(alloc, 1) else {
+        return true;
+    };
+    sizes_keep::<C>(&mut sizes) && sizes_keep::<C>(&mut room)
+}
+
+// Each call that takes memory, but the pushes: copies are made out of a stash that is kept in `source`. No store of the trial
+// is refused.
+fn copies_and_turns_keep<'a, C>(
+    alloc: Global,
+    source: &'a mut Option<Stash<C, Vec<u8>>>,
+    trial: &Trial<'_>,
+) -> bool
+where
+    C: ContainerBytes
+        + Storage
+        + Clone
+        + Borrow<'a, Borrowed: FromBytes<'a> + AsBytes<'a>>
+        + ExtendFrom<<C as Borrow<'a>>::Borrowed>,
+    requires { IsTrue (representable C.format) }
+{
+    if !is_lawful::<C>(alloc, trial) || !both_sizes_keep::<C>(alloc) {
+        return false;
+    }
+    *source = opened::<C>(alloc, trial.source);
+    match &*source {
+        Some(stash) => calls_keep::<_, C>(alloc, stash.borrow(), trial),
+        None => true,
+    }
+}
+
+// The same, and pushes of an item by value and by reference
+fn each_call_keeps<'a, T: Item + Copy, C>(
+    alloc: Global,
+    item: &'a T,
+    source: &'a mut Option<Stash<C, Vec<u8>>>,
+    trial: &Trial<'_>,
+) -> bool
+where
+    C: ContainerBytes
+        + Storage
+        + Clone
+        + Push<T>
+        + Push<&'a T>
+        + PushRef<T>
+        + Borrow<'a, Borrowed: FromBytes<'a> + AsBytes<'a>>
+        + ExtendFrom<<C as Borrow<'a>>::Borrowed>,
+    requires representable { IsTrue (representable C.format) }
+    requires valid { T.valid item.now }
+{
+    copies_and_turns_keep(alloc, source, trial) && pushes_keep::<T, C>(alloc, item, trial)
+}
+
+// Pushes of an item that is lent, and of one like it by reference
+fn lent_pushes_keep<L: Item + Copy, T: Item, C: ContainerBytes + Storage + Push<L> + PushRef<T>>(
+    alloc: Global,
+    lent: L,
+    item: &T,
+    trial: &Trial<'_>,
+) -> bool
+    requires representable { IsTrue (representable C.format) }
+    requires lent_valid { L.valid lent }
+    requires valid { T.valid item.now }
+{
+    if !is_lawful::<C>(alloc, trial) {
+        return false;
+    }
+    let Some(mut stash) = opened::<C>(alloc, trial.before) else {
+        return true;
+    };
+    both_pushes_keep::<L, C>(alloc, lent, trial)
+        && push_ref_keeps(&mut stash, item, trial.before, trial.after)
+}
+
 #[test]
 fn columns_of_numbers(rt: HostRuntime) -> Result<(), Fail> {
     let alloc = rt.alloc();
@@ -60,12 +147,7 @@ fn columns_of_numbers(rt: HostRuntime) -> Result<(), Fail> {
         into: NUMBERS.as_slice(),
         with_taken: NUMBERS_AND_ONE.as_slice(),
     };
-    holds!(rt; is_lawful::<Numbers>(alloc, &trial));
-    let Some(source) = opened::<Numbers>(alloc, trial.source) else {
-        return Ok(());
-    };
-    holds!(rt; pushes_keep::<u64, Numbers>(alloc, &5, &trial));
-    holds!(rt; calls_keep::<_, Numbers>(alloc, source.borrow(), &trial));
+    holds!(rt; each_call_keeps::<u64, Numbers>(alloc, &5, &mut None, &trial));
     Ok(())
 }
 
@@ -81,12 +163,7 @@ fn columns_of_pairs(rt: HostRuntime) -> Result<(), Fail> {
         into: PAIRS.as_slice(),
         with_taken: PAIRS_AND_ONE.as_slice(),
     };
-    holds!(rt; is_lawful::<Pairs>(alloc, &trial));
-    let Some(source) = opened::<Pairs>(alloc, trial.source) else {
-        return Ok(());
-    };
-    holds!(rt; pushes_keep::<(u64, u64), Pairs>(alloc, &(5, 50), &trial));
-    holds!(rt; calls_keep::<_, Pairs>(alloc, source.borrow(), &trial));
+    holds!(rt; each_call_keeps::<(u64, u64), Pairs>(alloc, &(5, 50), &mut None, &trial));
     Ok(())
 }
 
@@ -103,17 +180,13 @@ fn columns_of_lists(rt: HostRuntime) -> Result<(), Fail> {
         into: LISTS.as_slice(),
         with_taken: LISTS_AND_ONE.as_slice(),
     };
-    holds!(rt; is_lawful::<Lists>(alloc, &trial));
     let pairs = (
         View::from_slice(FIRSTS.as_slice()),
         View::from_slice(SECONDS.as_slice()),
     );
     holds!(rt; pairs.check().is_ok());
-    let Some(source) = opened::<Lists>(alloc, trial.source) else {
-        return Ok(());
-    };
     holds!(rt; both_pushes_keep::<_, Lists>(alloc, Slice::new(0, 2, pairs), &trial));
-    holds!(rt; calls_keep::<_, Lists>(alloc, source.borrow(), &trial));
+    holds!(rt; copies_and_turns_keep::<Lists>(alloc, &mut None, &trial));
     Ok(())
 }
 
@@ -132,15 +205,11 @@ fn columns_of_slices(rt: HostRuntime) -> Result<(), Fail> {
         into: before.as_slice(),
         with_taken: before.as_slice(),
     };
-    holds!(rt; is_lawful::<Numbered>(alloc, &trial));
-    holds!(rt; both_pushes_keep::<&[u64], Numbered>(alloc, FIRSTS.as_slice(), &trial));
     let Ok(item) = FIRSTS.to_vec(alloc) else {
         return Ok(());
     };
-    let Some(mut stash) = opened::<Numbered>(alloc, trial.before) else {
-        return Ok(());
-    };
-    holds!(rt; push_ref_keeps(&mut stash, &item, trial.before, trial.after));
+    let lent = FIRSTS.as_slice();
+    holds!(rt; lent_pushes_keep::<&[u64], Vec<u64>, Numbered>(alloc, lent, &item, &trial));
     Ok(())
 }
 
@@ -190,15 +259,16 @@ fn extensions_of_numbers(rt: HostRuntime) -> Result<(), Fail> {
     let Some(mut stash) = opened::<Numbers>(rt.alloc(), NUMBERS.as_slice()) else {
         return Ok(());
     };
-    match Push::extend(&mut stash, [5u64, 6, 7, 8, 9].iter().copied()) {
-        Ok(()) => holds!(rt; has(&stash, rows.as_slice())),
+    let done = Push::extend(&mut stash, [5u64, 6, 7, 8, 9].iter().copied());
+    let count = stash.len();
+    match done {
+        Ok(()) => equal!(rt; count, 9),
         Err(error) => {
             equal!(rt; error, GrowError::Memory);
-            let count = stash.len();
             holds!(rt; 4 <= count && count < 9);
-            holds!(rt; has(&stash, front(rows.as_slice(), count)));
         }
     }
+    holds!(rt; has(&stash, front(rows.as_slice(), count)));
     Ok(())
 }
 
@@ -233,6 +303,24 @@ fn extensions_of_pairs(rt: HostRuntime) -> Result<(), Fail> {
     Ok(())
 }
 
+// A run of one command on the stash of words
+fn command_keeps<T: Item, V: Len + Copy, C: ContainerBytes + Storage + PushRef<T> + ExtendFrom<V>>(
+    alloc: Global,
+    source: V,
+    command: &[Command<T>],
+    before: &[u64],
+    after: &[u64],
+) -> bool
+    requires representable { IsTrue (representable C.format) }
+    requires source_sound { IsSound V.format (V.content source) }
+    requires valid { All (IsValid T.valid) command.now }
+{
+    match opened::<C>(alloc, before) {
+        Some(stash) => run_keeps(alloc, stash, source, command, before, after),
+        None => true,
+    }
+}
+
 #[test]
 fn runs_over_numbers(rt: HostRuntime) -> Result<(), Fail> {
     let view = View::from_slice(FIRSTS.as_slice());
@@ -245,10 +333,10 @@ fn runs_over_numbers(rt: HostRuntime) -> Result<(), Fail> {
         (Command::MakeAligned, before),
         (Command::Reopen, before),
     ] {
-        let Some(stash) = opened::<Numbers>(rt.alloc(), before) else {
-            return Ok(());
-        };
-        holds!(rt; run_keeps(rt.alloc(), stash, view, [command].as_slice(), before, after));
+        let command = [command];
+        holds!(rt;
+            command_keeps::<_, _, Numbers>(rt.alloc(), view, command.as_slice(), before, after)
+        );
     }
     Ok(())
 }
@@ -260,12 +348,11 @@ fn a_run_over_pairs(rt: HostRuntime) -> Result<(), Fail> {
         View::from_slice(SECONDS.as_slice()),
     );
     holds!(rt; pairs.check().is_ok());
-    let Some(stash) = opened::<Pairs>(rt.alloc(), PAIRS.as_slice()) else {
-        return Ok(());
-    };
-    let commands = [Command::Push((5u64, 50u64))];
+    let command = [Command::Push((5u64, 50u64))];
     let before = PAIRS.as_slice();
     let after = PAIRS_AND_ONE.as_slice();
-    holds!(rt; run_keeps(rt.alloc(), stash, pairs, commands.as_slice(), before, after));
+    holds!(rt;
+        command_keeps::<_, _, Pairs>(rt.alloc(), pairs, command.as_slice(), before, after)
+    );
     Ok(())
 }

@@ -1,21 +1,23 @@
 // Rows of one of two kinds, and variants: worked stores, pushes, cuts and copies, and a run of commands.
 ghost use Rattle.std.specs.Prelude.{◌≡◌, ◌++◌, [], ◌∷◌, IsTrue, IfOk};
 ghost use Rattle.columnar_core.specs.Format.{IsSound, representable};
+ghost use Rattle.columnar_bytes.specs.Stashes.{stash_content};
 ghost use Rattle.columnar.specs.Discriminants.{discriminant_format, owned_forms, variants_of};
 
+use super::runs::{DONE, RANGE, ran_from};
 use columnar::bytes::indexed::validate;
-use columnar::bytes::stash::{Command, Refusal, Reply, Stash, run};
+use columnar::bytes::stash::{Command, Stash};
 use columnar::fault::{GrowError, StoreFault};
 use columnar::primitive::Bools;
 use columnar::{
-    Borrow, Check, Clear, Column, Discriminant, Len, Push, PushRef, Results, Storage, Stored,
-    Truncate, Vecs,
+    Borrow, Check, Clear, Column, ContainerBytes, Discriminant, Item, Len, Push, PushRef, Results,
+    Storage, Stored, Truncate, Vecs,
 };
-use std::alloc::Global;
+use std::alloc::{AllocError, Global};
 use std::io::Error;
 use std::test::Fail;
 use test_support::columns::{copied, cut, row_at};
-use test_support::stashes::{has, opened, row_of, variant, writes};
+use test_support::stashes::{has, opened, row_of, writes};
 use test_support::stores::bytes_of;
 use test_support::{equal, holds};
 
@@ -37,65 +39,142 @@ fn fault_of<C: Stored>(alloc: Global, words: &[u64]) -> Result<Option<StoreFault
     }
 }
 
+// A column of outcomes, behind the calls that the tests make: its traits are named here alone.
+#[derive(Drop)]
+struct Held {
+    column: Outcomes,
+    ghost sound: { IsSound ⟦<Outcomes as Column>⟧.format (⟦<Outcomes as Column>⟧.content column) },
+}
+
+impl Held {
+    fn empty(alloc: Global) -> Held {
+        Held {
+            column: Outcomes::empty(alloc),
+        }
+    }
+
+    // A column of these rows
+    fn of(alloc: Global, rows: &[Result<u64, u64>]) -> Result<Held, GrowError> {
+        let mut column = Outcomes::empty(alloc);
+        column.push_slice(rows)?;
+        Ok(Held { column })
+    }
+
+    // Pushes the first by value, the second lent and the third by reference
+    fn pushes(
+        &mut self,
+        first: Result<u64, u64>,
+        second: &Result<u64, u64>,
+        third: &Result<u64, u64>,
+    ) -> bool {
+        self.column.push(first).is_ok()
+            && self.column.push(second).is_ok()
+            && self.column.push_ref(third).is_ok()
+    }
+
+    // Copies these rows of another column behind its own
+    fn copies(&mut self, source: &Held, start: usize, end: usize) -> bool {
+        copied(&mut self.column, source.column.borrow(), start, end)
+    }
+
+    fn cut(&mut self, n: usize) {
+        cut(&mut self.column, n);
+    }
+
+    // Row `index`, where there is one
+    fn row(&self, index: usize) -> Option<Result<u64, u64>> {
+        row_at(&self.column, index)
+    }
+
+    // The same, as the column lends it
+    fn lent_row(&self, index: usize) -> Option<Result<&u64, &u64>> {
+        row_at(&&self.column, index)
+    }
+
+    // The same, of the view
+    fn row_in_view(&self, index: usize) -> Option<Result<u64, u64>> {
+        row_at(&self.column.borrow(), index)
+    }
+
+    // Are these the values, and these the errors?
+    fn keeps(&self, oks: &[u64], errs: &[u64]) -> bool {
+        self.column.oks.as_slice() == oks && self.column.errs.as_slice() == errs
+    }
+
+    // Does the view keep all rules?
+    fn checks(&self) -> bool {
+        self.column.borrow().check().is_ok()
+    }
+
+    fn equals_its_clone(&self) -> Result<bool, AllocError> {
+        Ok(self.column.clone()? == self.column)
+    }
+
+    fn duplicate(&self, alloc: Global) -> Result<Held, GrowError> {
+        Ok(Held {
+            column: self.column.duplicate(alloc)?,
+        })
+    }
+
+    fn try_unwrap(self) -> Option<Vec<u64>> {
+        self.column.try_unwrap()
+    }
+
+    fn try_unwrap_err(self) -> Option<Vec<u64>> {
+        self.column.try_unwrap_err()
+    }
+
+    // Is it empty once it is cleared, and what is then unwrapped?
+    fn is_cleared(self) -> bool {
+        let mut column = self.column;
+        column.clear();
+        column.is_empty() && column.unwrap().is_empty()
+    }
+}
+
 #[test]
 fn stores_of_outcomes(rt: HostRuntime) -> Result<(), Fail> {
     let alloc = rt.alloc();
     let words = [48, 48, 48, 64, 72, 80, 1, 2, 5, 6];
-    equal!(rt; fault_of::<Outcomes>(alloc, words.as_slice())?, None);
-    let stash = opened::<Outcomes>(alloc, words.as_slice()).expect(&rt, "opened");
-    holds!(rt; has(&stash, &[Ok(5), Err(6)]));
     let one_ok_too_few = [48, 48, 48, 64, 72, 80, 1, 3, 5, 6];
     let two_set = [48, 48, 48, 64, 72, 80, 3, 2, 5, 6];
-    for words in [one_ok_too_few, two_set] {
-        equal!(rt;
-            fault_of::<Outcomes>(alloc, words.as_slice())?,
-            Some(StoreFault::Parts(0))
-        );
+    for (words, fault) in [
+        (words, None),
+        (one_ok_too_few, Some(StoreFault::Parts(0))),
+        (two_set, Some(StoreFault::Parts(0))),
+    ] {
+        equal!(rt; fault_of::<Outcomes>(alloc, words.as_slice())?, fault);
     }
+    let stash = opened::<Outcomes>(alloc, words.as_slice()).expect(&rt, "opened");
+    holds!(rt; has(&stash, &[Ok(5), Err(6)]));
     Ok(())
 }
 
 #[test]
 fn outcomes_are_pushed_and_cut(rt: HostRuntime) -> Result<(), Fail> {
-    let mut column = Outcomes::empty(rt.alloc());
-    holds!(rt; column.push(Ok::<u64, u64>(5)).is_ok());
-    holds!(rt; column.push(&Err::<u64, u64>(6)).is_ok());
-    holds!(rt; column.push_ref(&Err::<u64, u64>(7)).is_ok());
-    equal!(rt; row_at(&column, 0), Some(Ok(5)));
-    equal!(rt; row_at(&&column, 2), Some(Err(&7)));
-    equal!(rt; row_at(&column.borrow(), 1), Some(Err(6)));
-    equal!(rt; column.oks.as_slice(), [5].as_slice());
-    equal!(rt; column.errs.as_slice(), [6, 7].as_slice());
-    holds!(rt; column.clone()? == column);
-    cut(&mut column, 2);
-    equal!(rt; column.errs.as_slice(), [6].as_slice());
-    holds!(rt; column.borrow().check().is_ok());
+    let mut column = Held::empty(rt.alloc());
+    holds!(rt; column.pushes(Ok(5), &Err(6), &Err(7)));
+    equal!(rt; column.row(0), Some(Ok(5)));
+    equal!(rt; column.lent_row(2), Some(Err(&7)));
+    equal!(rt; column.row_in_view(1), Some(Err(6)));
+    holds!(rt; column.keeps(&[5], &[6, 7]));
+    holds!(rt; column.equals_its_clone()?);
+    column.cut(2);
+    holds!(rt; column.keeps(&[5], &[6]));
+    holds!(rt; column.checks());
     holds!(rt; column.duplicate(rt.alloc())?.try_unwrap().is_none());
-    column.clear();
-    holds!(rt; column.is_empty());
-    holds!(rt; column.unwrap().is_empty());
+    holds!(rt; column.is_cleared());
     Ok(())
-}
-
-// A column of these rows
-fn outcomes(alloc: Global, rows: &[Result<u64, u64>]) -> Result<Outcomes, GrowError>
-    ensures { IfOk result (λ c. IsSound ⟦<Outcomes as Column>⟧.format (⟦<Outcomes as Column>⟧.content c)) }
-{
-    let mut column = Outcomes::empty(alloc);
-    column.push_slice(rows)?;
-    Ok(column)
 }
 
 #[test]
 fn ranges_of_outcomes_are_copied(rt: HostRuntime) -> Result<(), Fail> {
-    let rows = [Ok(1), Err(2), Err(3), Ok(4), Err(5)];
-    let source = outcomes(rt.alloc(), rows.as_slice())?;
-    let mut column = outcomes(rt.alloc(), [Ok(9)].as_slice())?;
-    holds!(rt; copied(&mut column, source.borrow(), 1, 4));
-    equal!(rt; column.oks.as_slice(), [9, 4].as_slice());
-    equal!(rt; column.errs.as_slice(), [2, 3].as_slice());
-    equal!(rt; row_at(&column, 2), Some(Err(3)));
-    equal!(rt; row_at(&column, 3), Some(Ok(4)));
+    let source = Held::of(rt.alloc(), &[Ok(1), Err(2), Err(3), Ok(4), Err(5)])?;
+    let mut column = Held::of(rt.alloc(), &[Ok(9)])?;
+    holds!(rt; column.copies(&source, 1, 4));
+    holds!(rt; column.keeps(&[9, 4], &[2, 3]));
+    equal!(rt; column.row(2), Some(Err(3)));
+    equal!(rt; column.row(3), Some(Ok(4)));
     Ok(())
 }
 
@@ -103,31 +182,19 @@ fn ranges_of_outcomes_are_copied(rt: HostRuntime) -> Result<(), Fail> {
 #[test]
 fn outcomes_of_one_kind_are_unwrapped(rt: HostRuntime) -> Result<(), Fail> {
     let alloc = rt.alloc();
-    match outcomes(alloc, [Ok(1), Ok(2)].as_slice())?.try_unwrap() {
-        Some(values) => equal!(rt; values.as_slice(), [1, 2].as_slice()),
-        None => holds!(rt; false),
-    }
-    match outcomes(alloc, [Err(3), Err(4)].as_slice())?.try_unwrap_err() {
-        Some(errors) => equal!(rt; errors.as_slice(), [3, 4].as_slice()),
-        None => holds!(rt; false),
-    }
-    holds!(rt;
-        outcomes(alloc, [Ok(1), Err(2)].as_slice())?
-            .try_unwrap()
-            .is_none()
-    );
-    holds!(rt;
-        outcomes(alloc, [Err(1), Ok(2)].as_slice())?
-            .try_unwrap_err()
-            .is_none()
-    );
+    let oks = Held::of(alloc, &[Ok(1), Ok(2)])?
+        .try_unwrap()
+        .expect(&rt, "all are Ok");
+    equal!(rt; oks.as_slice(), [1, 2].as_slice());
+    let errs = Held::of(alloc, &[Err(3), Err(4)])?
+        .try_unwrap_err()
+        .expect(&rt, "all are Err");
+    equal!(rt; errs.as_slice(), [3, 4].as_slice());
+    holds!(rt; Held::of(alloc, &[Ok(1), Err(2)])?.try_unwrap().is_none());
+    holds!(rt; Held::of(alloc, &[Err(1), Ok(2)])?.try_unwrap_err().is_none());
     holds!(rt; Outcomes::empty(alloc).unwrap_err().is_empty());
     Ok(())
 }
-
-const DONE: Reply = Reply::Done;
-
-const RANGE: Reply = Reply::Refused(Refusal::Range);
 
 // The words of the slices: no count and no word, the bit 1 in a tail of two; 7; the bit 1 in a tail of one; the end 2, and
 // 3 and 5.
@@ -140,13 +207,27 @@ static OTHER_EVENTS: [u64; 16] = [
     72, 72, 72, 88, 96, 96, 112, 120, 124, 1, 2, 9, 0, 1, 2, 327683,
 ];
 
+// Does a stash write these words once it took an item by value, and one by reference?
+fn pushes_write<S: Item + Drop, T: Item, C: ContainerBytes + Storage + Push<S> + PushRef<T>>(
+    alloc: Global,
+    first: S,
+    second: &T,
+    words: &[u64],
+) -> bool
+    requires representable { IsTrue (representable C.format) }
+    requires first_valid { S.valid first }
+    requires second_valid { T.valid second.now }
+{
+    let mut stash = Stash::<C, Vec<u8>>::empty(alloc);
+    stash.push(first).is_ok() && stash.push_ref(second).is_ok() && writes(&stash, words)
+}
+
 #[test]
 fn events_are_pushed(rt: HostRuntime) -> Result<(), Fail> {
-    let mut stash = Stash::<Events, Vec<u8>>::empty(rt.alloc());
-    let marks = Vec::from_slice(rt.alloc(), &[3u16, 5])?;
-    holds!(rt; stash.push(Ok::<(u64, bool), &[u16]>((7, true))).is_ok());
-    holds!(rt; stash.push_ref(&Err::<(u64, bool), Vec<u16>>(marks)).is_ok());
-    holds!(rt; writes(&stash, EVENTS.as_slice()));
+    let alloc = rt.alloc();
+    let first = Ok::<(u64, bool), &[u16]>((7, true));
+    let second = Err::<(u64, bool), Vec<u16>>(Vec::from_slice(alloc, &[3u16, 5])?);
+    holds!(rt; pushes_write::<_, _, Events>(alloc, first, &second, EVENTS.as_slice()));
     Ok(())
 }
 
@@ -162,66 +243,103 @@ fn a_run_over_events(rt: HostRuntime) -> Result<(), Fail> {
         Command::Push(Err(Vec::new(alloc))),
         Command::Truncate(2),
     ];
-    let (stash, replies) = run(
+    let (replies, variant, written) = ran_from(
         alloc,
-        Stash::<Events, Vec<u8>>::empty(alloc),
-        source.borrow(),
+        &source,
         commands.as_slice(),
-    );
+        OTHER_EVENTS.as_slice(),
+    )?;
     equal!(rt;
-        replies?.as_slice(),
+        replies.as_slice(),
         [DONE, DONE, RANGE, DONE, DONE, DONE].as_slice()
     );
-    equal!(rt; variant(&stash), 0);
-    holds!(rt; writes(&stash, OTHER_EVENTS.as_slice()));
+    equal!(rt; variant, 0);
+    holds!(rt; written);
     Ok(())
+}
+
+// A stash of variants, behind the calls that the tests make
+#[derive(Drop)]
+struct Variants {
+    stash: Stash<Kinds, Vec<u8>>,
+    ghost sound: { IsSound ⟦<Kinds as Column>⟧.format (stash_content stash) },
+}
+
+impl Variants {
+    // The stash of words that are accepted
+    fn opened(alloc: Global, words: &[u64]) -> Result<Variants, Fail> {
+        match opened::<Kinds>(alloc, words) {
+            Some(stash) => Ok(Variants { stash }),
+            None => Err(Fail::from("the words are refused")),
+        }
+    }
+
+    // Has it these rows, and no other?
+    fn has(&self, rows: &[(u8, u64)]) -> bool {
+        has(&self.stash, rows)
+    }
+
+    fn len(&self) -> usize {
+        self.stash.len()
+    }
+
+    fn is_empty(&self) -> bool {
+        self.stash.is_empty()
+    }
+
+    // Row `index`, where there is one
+    fn row(&self, index: usize) -> Option<(u8, u64)> {
+        row_of(&self.stash, index)
+    }
+
+    fn is_heterogeneous(&self) -> bool {
+        self.stash.borrow().is_heterogeneous()
+    }
+
+    fn homogeneous(&self) -> Option<u8> {
+        self.stash.borrow().homogeneous()
+    }
 }
 
 #[test]
 fn stores_of_variants(rt: HostRuntime) -> Result<(), Fail> {
     let alloc = rt.alloc();
-    let stash = opened::<Kinds>(alloc, [24, 27, 56, 65536, 0, 1, 0].as_slice()).expect(
-        &rt, "opened",
-    );
-    holds!(rt; has(&stash, &[(0, 0), (0, 1), (1, 0)]));
-    holds!(rt; stash.borrow().is_heterogeneous());
-    let most = opened::<Kinds>(alloc, [24, 24, 40, 1, u64::MAX].as_slice()).expect(&rt, "opened");
+    let three = Variants::opened(alloc, &[24, 27, 56, 65536, 0, 1, 0])?;
+    holds!(rt; three.has(&[(0, 0), (0, 1), (1, 0)]));
+    holds!(rt; three.is_heterogeneous());
+    let most = Variants::opened(alloc, &[24, 24, 40, 1, u64::MAX])?;
     equal!(rt; most.len(), usize::MAX);
-    equal!(rt; row_of(&most, usize::MAX - 1), Some((0, u64::MAX - 1)));
-    equal!(rt; most.borrow().homogeneous(), Some(0));
-    let last = opened::<Kinds>(alloc, [24, 24, 40, 256, 2].as_slice()).expect(&rt, "opened");
-    equal!(rt; row_of(&last, 1), Some((255, 1)));
-    let none = opened::<Kinds>(alloc, [24, 24, 24].as_slice()).expect(&rt, "opened");
+    equal!(rt; most.row(usize::MAX - 1), Some((0, u64::MAX - 1)));
+    equal!(rt; most.homogeneous(), Some(0));
+    let last = Variants::opened(alloc, &[24, 24, 40, 256, 2])?;
+    equal!(rt; last.row(1), Some((255, 1)));
+    let none = Variants::opened(alloc, &[24, 24, 24])?;
     holds!(rt; none.is_empty());
-    equal!(rt; none.borrow().homogeneous(), None);
+    equal!(rt; none.homogeneous(), None);
     Ok(())
 }
 
 #[test]
 fn stores_of_variants_that_are_refused(rt: HostRuntime) -> Result<(), Fail> {
-    for words in [
+    let variant = StoreFault::Variant(0);
+    for (words, fault) in [
         // another number of earlier rows
-        [24, 27, 56, 65536, 0, 1, 1].as_slice(),
+        ([24, 27, 56, 65536, 0, 1, 1].as_slice(), variant),
         // written out, and of one variant
-        [24, 26, 48, 0, 0, 1].as_slice(),
-        [24, 25, 32, 0, 0].as_slice(),
+        ([24, 26, 48, 0, 0, 1].as_slice(), variant),
+        ([24, 25, 32, 0, 0].as_slice(), variant),
         // no variant, one above 255, and no row
-        [24, 24, 40, 0, 3].as_slice(),
-        [24, 24, 40, 257, 1].as_slice(),
-        [24, 24, 40, 1, 0].as_slice(),
+        ([24, 24, 40, 0, 3].as_slice(), variant),
+        ([24, 24, 40, 257, 1].as_slice(), variant),
+        ([24, 24, 40, 1, 0].as_slice(), variant),
         // one word alone, and fewer offsets than variants
-        [24, 24, 32, 1].as_slice(),
-        [24, 26, 40, 256, 0].as_slice(),
+        ([24, 24, 32, 1].as_slice(), variant),
+        ([24, 26, 40, 256, 0].as_slice(), variant),
+        // half a word of a head
+        ([24, 24, 36, 1, 1].as_slice(), StoreFault::ElementSize(1)),
     ] {
-        equal!(rt;
-            fault_of::<Kinds>(rt.alloc(), words)?,
-            Some(StoreFault::Variant(0))
-        );
+        equal!(rt; fault_of::<Kinds>(rt.alloc(), words)?, Some(fault));
     }
-    equal!(rt;
-        fault_of::<Kinds>(rt.alloc(), [24, 24, 36, 1, 1].as_slice())?,
-        Some(StoreFault::ElementSize(1))
-    );
     Ok(())
 }
 

@@ -3,13 +3,14 @@ ghost use Rattle.std.specs.Prelude.{◌≡◌, ◌++◌, [], ◌∷◌, IsTrue};
 ghost use Rattle.columnar.specs.Discriminants.{discriminant_format, owned_forms, variants_of, times};
 ghost use Rattle.columnar.specs.Format.{IsSound};
 
+use super::{both_sizes_keep, each_call_keeps};
 use columnar::fault::GrowError;
 use columnar::primitive::Empties;
-use columnar::{Borrow, Discriminant, Len, Results, Storage};
+use columnar::{Discriminant, Len, Results, Storage};
 use std::test::Fail;
-use test_support::keeps::{encoding_keeps, sizes_keep};
+use test_support::keeps::encoding_keeps;
 use test_support::stashes::opened;
-use test_support::trials::{Trial, calls_keep, is_lawful, pushes_keep, turns_and_clones_keep};
+use test_support::trials::{Trial, is_lawful, turns_and_clones_keep};
 use test_support::{equal, holds};
 
 type Oks = Results<Vec<u64>, Empties>;
@@ -91,12 +92,7 @@ fn columns_of_oks(rt: HostRuntime) -> Result<(), Fail> {
         into: OKS.as_slice(),
         with_taken: OKS_AND_ONE.as_slice(),
     };
-    holds!(rt; is_lawful::<Oks>(alloc, &trial));
-    let Some(source) = opened::<Oks>(alloc, trial.source) else {
-        return Ok(());
-    };
-    holds!(rt; pushes_keep::<Result<u64, ()>, Oks>(alloc, &Ok(5), &trial));
-    holds!(rt; calls_keep::<_, Oks>(alloc, source.borrow(), &trial));
+    holds!(rt; each_call_keeps::<Result<u64, ()>, Oks>(alloc, &Ok(5), &mut None, &trial));
     Ok(())
 }
 
@@ -112,12 +108,7 @@ fn columns_of_errs(rt: HostRuntime) -> Result<(), Fail> {
         into: ERRS.as_slice(),
         with_taken: ERRS_AND_ONE.as_slice(),
     };
-    holds!(rt; is_lawful::<Errs>(alloc, &trial));
-    let Some(source) = opened::<Errs>(alloc, trial.source) else {
-        return Ok(());
-    };
-    holds!(rt; pushes_keep::<Result<(), u64>, Errs>(alloc, &Err(5), &trial));
-    holds!(rt; calls_keep::<_, Errs>(alloc, source.borrow(), &trial));
+    holds!(rt; each_call_keeps::<Result<(), u64>, Errs>(alloc, &Err(5), &mut None, &trial));
     Ok(())
 }
 
@@ -176,6 +167,7 @@ fn columns_of_variants(rt: HostRuntime) -> Result<(), Fail> {
         with_taken: TWO.as_slice(),
     };
     holds!(rt; is_lawful::<Kinds>(alloc, &trial));
+    holds!(rt; both_sizes_keep::<Kinds>(alloc));
     holds!(rt; turns_and_clones_keep::<Kinds>(alloc, &trial));
     let Some(source) = opened::<Kinds>(alloc, THREE.as_slice()) else {
         return Ok(());
@@ -187,14 +179,5 @@ fn columns_of_variants(rt: HostRuntime) -> Result<(), Fail> {
         Err(error) => equal!(rt; error, GrowError::Memory),
     }
     holds!(rt; kinds.is_empty());
-    Ok(())
-}
-
-#[test]
-fn sizes_of_elements(rt: HostRuntime) -> Result<(), Fail> {
-    let mut sizes = Vec::new(rt.alloc());
-    holds!(rt; sizes_keep::<Oks>(&mut sizes));
-    holds!(rt; sizes_keep::<Errs>(&mut sizes));
-    holds!(rt; sizes_keep::<Kinds>(&mut sizes));
     Ok(())
 }

@@ -1,15 +1,14 @@
 // The same for the columns of values.
-use super::{NUMBERS, NUMBERS_AND_ONE};
+use super::{NUMBERS, NUMBERS_AND_ONE, copies_and_turns_keep, each_call_keeps};
 use columnar::fault::GrowError;
 use columnar::primitive::offsets::{Fixeds, Strides};
 use columnar::primitive::{Bools, Chars, Durations, Empties, I128s, Isizes, U128s, Usizes};
 use columnar::sums::rank_select::RankSelect;
 use columnar::{Borrow, Check, Options, Storage};
+use std::alloc::Global;
 use std::test::Fail;
 use std::time::Duration;
-use test_support::keeps::sizes_keep;
-use test_support::stashes::opened;
-use test_support::trials::{Trial, calls_keep, copies_keep, is_lawful, pushes_keep};
+use test_support::trials::{Trial, pushes_keep};
 use test_support::{equal, holds};
 
 type Sizes = Usizes;
@@ -120,12 +119,7 @@ fn columns_of_sizes(rt: HostRuntime) -> Result<(), Fail> {
         into: NUMBERS.as_slice(),
         with_taken: NUMBERS_AND_ONE.as_slice(),
     };
-    holds!(rt; is_lawful::<Sizes>(alloc, &trial));
-    let Some(source) = opened::<Sizes>(alloc, trial.source) else {
-        return Ok(());
-    };
-    holds!(rt; pushes_keep::<usize, Sizes>(alloc, &5, &trial));
-    holds!(rt; calls_keep::<_, Sizes>(alloc, source.borrow(), &trial));
+    holds!(rt; each_call_keeps::<usize, Sizes>(alloc, &5, &mut None, &trial));
     Ok(())
 }
 
@@ -141,12 +135,7 @@ fn columns_of_differences(rt: HostRuntime) -> Result<(), Fail> {
         into: NUMBERS.as_slice(),
         with_taken: NUMBERS_AND_ONE.as_slice(),
     };
-    holds!(rt; is_lawful::<Differences>(alloc, &trial));
-    let Some(source) = opened::<Differences>(alloc, trial.source) else {
-        return Ok(());
-    };
-    holds!(rt; pushes_keep::<isize, Differences>(alloc, &5, &trial));
-    holds!(rt; calls_keep::<_, Differences>(alloc, source.borrow(), &trial));
+    holds!(rt; each_call_keeps::<isize, Differences>(alloc, &5, &mut None, &trial));
     Ok(())
 }
 
@@ -162,12 +151,7 @@ fn columns_of_characters(rt: HostRuntime) -> Result<(), Fail> {
         into: CHARACTERS.as_slice(),
         with_taken: CHARACTERS_AND_ONE.as_slice(),
     };
-    holds!(rt; is_lawful::<Characters>(alloc, &trial));
-    let Some(source) = opened::<Characters>(alloc, trial.source) else {
-        return Ok(());
-    };
-    holds!(rt; pushes_keep::<char, Characters>(alloc, &'e', &trial));
-    holds!(rt; calls_keep::<_, Characters>(alloc, source.borrow(), &trial));
+    holds!(rt; each_call_keeps::<char, Characters>(alloc, &'e', &mut None, &trial));
     Ok(())
 }
 
@@ -183,12 +167,7 @@ fn columns_of_large_numbers(rt: HostRuntime) -> Result<(), Fail> {
         into: LARGE.as_slice(),
         with_taken: LARGE_AND_ONE.as_slice(),
     };
-    holds!(rt; is_lawful::<Large>(alloc, &trial));
-    let Some(source) = opened::<Large>(alloc, trial.source) else {
-        return Ok(());
-    };
-    holds!(rt; pushes_keep::<u128, Large>(alloc, &5, &trial));
-    holds!(rt; calls_keep::<_, Large>(alloc, source.borrow(), &trial));
+    holds!(rt; each_call_keeps::<u128, Large>(alloc, &5, &mut None, &trial));
     Ok(())
 }
 
@@ -204,12 +183,7 @@ fn columns_of_large_signed_numbers(rt: HostRuntime) -> Result<(), Fail> {
         into: LARGE.as_slice(),
         with_taken: LARGE_AND_MINUS.as_slice(),
     };
-    holds!(rt; is_lawful::<LargeSigned>(alloc, &trial));
-    let Some(source) = opened::<LargeSigned>(alloc, trial.source) else {
-        return Ok(());
-    };
-    holds!(rt; pushes_keep::<i128, LargeSigned>(alloc, &-5, &trial));
-    holds!(rt; calls_keep::<_, LargeSigned>(alloc, source.borrow(), &trial));
+    holds!(rt; each_call_keeps::<i128, LargeSigned>(alloc, &-5, &mut None, &trial));
     Ok(())
 }
 
@@ -225,12 +199,7 @@ fn columns_of_durations(rt: HostRuntime) -> Result<(), Fail> {
         into: TIMES.as_slice(),
         with_taken: TIMES_AND_ONE.as_slice(),
     };
-    holds!(rt; is_lawful::<Times>(alloc, &trial));
-    let Some(source) = opened::<Times>(alloc, trial.source) else {
-        return Ok(());
-    };
-    holds!(rt; pushes_keep::<Duration, Times>(alloc, &Duration::new(5, 50), &trial));
-    holds!(rt; calls_keep::<_, Times>(alloc, source.borrow(), &trial));
+    holds!(rt; each_call_keeps::<Duration, Times>(alloc, &Duration::new(5, 50), &mut None, &trial));
     Ok(())
 }
 
@@ -277,13 +246,13 @@ fn columns_of_units(rt: HostRuntime) -> Result<(), Fail> {
         into: [16, 24, 4].as_slice(),
         with_taken: [16, 24, 5].as_slice(),
     };
-    holds!(rt; is_lawful::<Units>(alloc, &trial));
-    let Some(source) = opened::<Units>(alloc, trial.source) else {
-        return Ok(());
-    };
-    holds!(rt; pushes_keep::<(), Units>(alloc, &(), &trial));
-    holds!(rt; calls_keep::<_, Units>(alloc, source.borrow(), &trial));
+    holds!(rt; each_call_keeps::<(), Units>(alloc, &(), &mut None, &trial));
     Ok(())
+}
+
+// Each call on a column of offsets that takes memory, but the pushes
+fn offsets_keep(alloc: Global, trial: &Trial<'_>) -> bool {
+    copies_and_turns_keep::<Steps>(alloc, &mut None, trial)
 }
 
 #[test]
@@ -298,12 +267,8 @@ fn columns_of_offsets(rt: HostRuntime) -> Result<(), Fail> {
         into: STEPS.as_slice(),
         with_taken: STEPS_AND_FOUR.as_slice(),
     };
-    holds!(rt; is_lawful::<Steps>(alloc, &trial));
-    let Some(source) = opened::<Steps>(alloc, trial.source) else {
-        return Ok(());
-    };
     holds!(rt; pushes_keep::<u64, Steps>(alloc, &17, &trial));
-    holds!(rt; calls_keep::<_, Steps>(alloc, source.borrow(), &trial));
+    holds!(rt; offsets_keep(alloc, &trial));
     Ok(())
 }
 
@@ -320,11 +285,7 @@ fn a_head_that_had_grown(rt: HostRuntime) -> Result<(), Fail> {
         into: MULTIPLES.as_slice(),
         with_taken: MULTIPLES_AND_TWO.as_slice(),
     };
-    holds!(rt; is_lawful::<Steps>(alloc, &trial));
-    let Some(source) = opened::<Steps>(alloc, trial.source) else {
-        return Ok(());
-    };
-    holds!(rt; copies_keep::<_, Steps>(alloc, source.borrow(), &trial));
+    holds!(rt; offsets_keep(alloc, &trial));
     Ok(())
 }
 
@@ -340,12 +301,7 @@ fn columns_of_multiples(rt: HostRuntime) -> Result<(), Fail> {
         into: [16, 24, 0].as_slice(),
         with_taken: [16, 24, 3].as_slice(),
     };
-    holds!(rt; is_lawful::<Threes>(alloc, &trial));
-    let Some(source) = opened::<Threes>(alloc, trial.source) else {
-        return Ok(());
-    };
-    holds!(rt; pushes_keep::<u64, Threes>(alloc, &9, &trial));
-    holds!(rt; calls_keep::<_, Threes>(alloc, source.borrow(), &trial));
+    holds!(rt; each_call_keeps::<u64, Threes>(alloc, &9, &mut None, &trial));
     Ok(())
 }
 
@@ -361,12 +317,7 @@ fn columns_of_bits(rt: HostRuntime) -> Result<(), Fail> {
         into: BITS.as_slice(),
         with_taken: BITS_AND_MORE.as_slice(),
     };
-    holds!(rt; is_lawful::<Bits>(alloc, &trial));
-    let Some(source) = opened::<Bits>(alloc, trial.source) else {
-        return Ok(());
-    };
-    holds!(rt; pushes_keep::<bool, Bits>(alloc, &true, &trial));
-    holds!(rt; calls_keep::<_, Bits>(alloc, source.borrow(), &trial));
+    holds!(rt; each_call_keeps::<bool, Bits>(alloc, &true, &mut None, &trial));
     Ok(())
 }
 
@@ -401,12 +352,7 @@ fn columns_of_counted_bits(rt: HostRuntime) -> Result<(), Fail> {
         into: RANKS.as_slice(),
         with_taken: RANKS_AND_ONE.as_slice(),
     };
-    holds!(rt; is_lawful::<Ranks>(alloc, &trial));
-    let Some(source) = opened::<Ranks>(alloc, trial.source) else {
-        return Ok(());
-    };
-    holds!(rt; pushes_keep::<bool, Ranks>(alloc, &true, &trial));
-    holds!(rt; calls_keep::<_, Ranks>(alloc, source.borrow(), &trial));
+    holds!(rt; each_call_keeps::<bool, Ranks>(alloc, &true, &mut None, &trial));
     Ok(())
 }
 
@@ -422,27 +368,6 @@ fn columns_of_options(rt: HostRuntime) -> Result<(), Fail> {
         into: FEW.as_slice(),
         with_taken: FEW_AND_ONE.as_slice(),
     };
-    holds!(rt; is_lawful::<Perhaps>(alloc, &trial));
-    let Some(source) = opened::<Perhaps>(alloc, trial.source) else {
-        return Ok(());
-    };
-    holds!(rt; pushes_keep::<Option<u64>, Perhaps>(alloc, &Some(5), &trial));
-    holds!(rt; calls_keep::<_, Perhaps>(alloc, source.borrow(), &trial));
-    Ok(())
-}
-
-#[test]
-fn sizes_of_elements(rt: HostRuntime) -> Result<(), Fail> {
-    let mut sizes = Vec::new(rt.alloc());
-    holds!(rt; sizes_keep::<Sizes>(&mut sizes));
-    holds!(rt; sizes_keep::<Characters>(&mut sizes));
-    holds!(rt; sizes_keep::<Large>(&mut sizes));
-    holds!(rt; sizes_keep::<Times>(&mut sizes));
-    holds!(rt; sizes_keep::<Units>(&mut sizes));
-    holds!(rt; sizes_keep::<Steps>(&mut sizes));
-    holds!(rt; sizes_keep::<Threes>(&mut sizes));
-    holds!(rt; sizes_keep::<Bits>(&mut sizes));
-    holds!(rt; sizes_keep::<Ranks>(&mut sizes));
-    holds!(rt; sizes_keep::<Perhaps>(&mut sizes));
+    holds!(rt; each_call_keeps::<Option<u64>, Perhaps>(alloc, &Some(5), &mut None, &trial));
     Ok(())
 }

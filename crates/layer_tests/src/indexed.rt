@@ -186,29 +186,20 @@ fn a_long_slice_is_written_whole(rt: HostRuntime) -> Result<(), Fail> {
 
 #[test]
 fn names_the_first_broken_rule(rt: HostRuntime) -> Result<(), Fail> {
-    let alloc = rt.alloc();
-    equal!(rt; tested(alloc, &[], 0)?, Err(StoreFault::Empty(0)));
-    equal!(rt; tested(alloc, &[0], 0)?, Err(StoreFault::FirstOffset(0)));
-    equal!(rt;
-        tested(alloc, &[0, 0, 0], 2)?,
-        Err(StoreFault::FirstOffset(0))
-    );
-    equal!(rt; tested(alloc, &[4], 0)?, Err(StoreFault::FirstOffset(0)));
-    equal!(rt; tested(alloc, &[16], 1)?, Err(StoreFault::Table(0)));
-    equal!(rt; tested(alloc, &[8], 0)?, Ok(()));
-    equal!(rt;
-        tested(alloc, &[8], usize::MAX)?,
-        Err(StoreFault::SliceCount(0))
-    );
-    equal!(rt;
-        tested(alloc, &[16, 32, 7], 1)?,
-        Err(StoreFault::PastEnd(0))
-    );
-    equal!(rt;
-        tested(alloc, &[16, 8, 7], 1)?,
-        Err(StoreFault::Backwards(0))
-    );
-    equal!(rt; tested(alloc, &[16, 24, 7, 9], 1)?, Ok(()));
+    for (words, expected, wanted) in [
+        ([].as_slice(), 0, Err(StoreFault::Empty(0))),
+        ([0].as_slice(), 0, Err(StoreFault::FirstOffset(0))),
+        ([0, 0, 0].as_slice(), 2, Err(StoreFault::FirstOffset(0))),
+        ([4].as_slice(), 0, Err(StoreFault::FirstOffset(0))),
+        ([16].as_slice(), 1, Err(StoreFault::Table(0))),
+        ([8].as_slice(), 0, Ok(())),
+        ([8].as_slice(), usize::MAX, Err(StoreFault::SliceCount(0))),
+        ([16, 32, 7].as_slice(), 1, Err(StoreFault::PastEnd(0))),
+        ([16, 8, 7].as_slice(), 1, Err(StoreFault::Backwards(0))),
+        ([16, 24, 7, 9].as_slice(), 1, Ok(())),
+    ] {
+        equal!(rt; tested(rt.alloc(), words, expected)?, wanted);
+    }
     Ok(())
 }
 

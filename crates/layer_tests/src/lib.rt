@@ -19,6 +19,8 @@ mod ranks;
 #[cfg(test)]
 mod refused;
 #[cfg(test)]
+mod rows;
+#[cfg(test)]
 mod strings;
 #[cfg(test)]
 mod trees;

@@ -1,12 +1,13 @@
 // Lists of rows.
-ghost use Rattle.std.specs.Prelude.{◌≡◌};
-ghost use Rattle.columnar_base.specs.Format.{IsSound};
+ghost use Rattle.std.specs.Prelude.{IfOk, IsTrue};
+ghost use Rattle.columnar_base.specs.Format.{IsSound, representable};
 
 use columnar_core::bytes::{AsBytes, Check, Stored};
 use columnar_core::container::{Borrow, ContainerBytes, ExtendFrom, Reborrow, Storage};
 use columnar_core::fault::StoreFault;
+use columnar_core::offsets::Offsets;
 use columnar_core::slice::Slice;
-use columnar_core::traits::{Clear, Index, Len};
+use columnar_core::traits::{Clear, Column, Index, Item, Len, Push, PushRef};
 use columnar_core::view::View;
 use columnar_lists::laws;
 use columnar_lists::vector::Vecs;
@@ -14,7 +15,9 @@ use smallvec::SmallVec;
 use std::alloc::{AllocError, Global};
 use std::fmt::Debug;
 use std::test::Fail;
-use test_support::columns::{copied, count, cut, row_at, takes, takes_ref, takes_rows};
+use test_support::columns::{
+    copied, count, cut, row_at, takes, takes_ranges, takes_ref, takes_rows,
+};
 use test_support::{equal, holds};
 
 type Lists = Vecs<Vec<u64>, Vec<u64>>;
@@ -23,24 +26,146 @@ type ListsView<'a> = Vecs<View<'a, u64>, View<'a, u64>>;
 
 type Nested = Vecs<Lists, Vec<u64>>;
 
+// The numbers that the lists of `Held` are ranges of
+static SIX: [u64; 6] = [1, 2, 3, 4, 5, 6];
+
+// Lists of numbers, behind the calls that more than one test makes
+#[derive(Drop)]
+struct Held {
+    lists: Lists,
+    ghost sound: { IsSound ⟦<Lists as Column>⟧.format (⟦<Lists as Column>⟧.content lists) },
+}
+
+impl Held {
+    // The lists of these ranges of the six numbers
+    fn of(alloc: Global, ranges: &[(usize, usize)]) -> Result<Held, Fail> {
+        let lists = ranged(alloc, View::from_slice(SIX.as_slice()), ranges)?;
+        Ok(Held { lists })
+    }
+
+    fn count(&self) -> usize {
+        count(&self.lists)
+    }
+
+    // The length of list `row`, and its item at `index`
+    fn length_and_item(&self, row: usize, index: usize) -> Option<(usize, Option<u64>)> {
+        length_and_item(&self.lists.borrow(), row, index)
+    }
+
+    fn clear(&mut self) {
+        self.lists.clear();
+    }
+
+    // A column with room for two views of another, a range of the six numbers, and two lists of the other
+    fn roomy(alloc: Global, source: &Held) -> Result<Held, Fail> {
+        let numbers = View::from_slice(SIX.as_slice());
+        let views = [source.lists.borrow(), source.lists.borrow()];
+        let lists = roomy(alloc, numbers, source.lists.borrow(), views.as_slice())?;
+        Ok(Held { lists })
+    }
+
+    // Copies these rows of another column, out of a view that is shortened
+    fn copies_shorter(&mut self, source: &Held, start: usize, end: usize) -> bool {
+        copied(
+            &mut self.lists,
+            source.lists.borrow().reborrow(),
+            start,
+            end,
+        )
+    }
+
+    fn cut(&mut self, n: usize) {
+        cut(&mut self.lists, n);
+    }
+
+    // Are these its bounds and its values?
+    fn keeps(&self, bounds: &[u64], values: &[u64]) -> bool {
+        keeps(&self.lists, bounds, values)
+    }
+}
+
+// A column of these ranges of a view's rows, each as one row
+fn ranged<V: Len + Copy, C: Storage + Push<Slice<V>>>(
+    alloc: Global,
+    view: V,
+    ranges: &[(usize, usize)],
+) -> Result<C, Fail>
+    requires { IsSound V.format (V.content view) }
+    ensures { IfOk result (λ c. IsSound C.format (C.content c)) }
+{
+    let mut column = C::empty(alloc);
+    if !takes_ranges(&mut column, view, ranges) {
+        return Err(Fail::from("refused"));
+    }
+    Ok(column)
+}
+
+// Are these the bounds and the values of lists?
+fn keeps(lists: &Lists, bounds: &[u64], values: &[u64]) -> bool {
+    lists.bounds.as_slice() == bounds && lists.values.as_slice() == values
+}
+
+// The length of list `row` of a view, and its item at `index`
+fn length_and_item<W: Index + Copy, V: Index<Ref = Slice<W>> + Len>(
+    view: &V,
+    row: usize,
+    index: usize,
+) -> Option<(usize, Option<W::Ref>)>
+    requires { IsSound V.format (V.content view.now) }
+{
+    let list = row_at(view, row)?;
+    Some((list.len(), row_at(&list, index)))
+}
+
 #[test]
 fn lists_of_words(rt: HostRuntime) -> Result<(), Fail> {
-    let view = View::from_slice([1u64, 2, 3, 4, 5, 6].as_slice());
-    let mut lists = Lists::empty(rt.alloc());
-    holds!(rt; takes_rows(&mut lists, view, 0, 2));
-    holds!(rt; takes_rows(&mut lists, view, 2, 2));
-    holds!(rt; takes_rows(&mut lists, view, 1, 6));
-    equal!(rt; count(&lists), 3);
-    equal!(rt; lists.bounds.as_slice(), [2, 2, 7].as_slice());
-    equal!(rt; lists.values.as_slice(), [1, 2, 2, 3, 4, 5, 6].as_slice());
-    let last = row_at(&lists.borrow(), 2).expect(&rt, "row 2");
-    equal!(rt; last.len(), 5);
-    equal!(rt; row_at(&last, 1), Some(3));
-    let copy = lists.clone()?;
+    let mut held = Held::of(rt.alloc(), [(0, 2), (2, 2), (1, 6)].as_slice())?;
+    equal!(rt; held.count(), 3);
+    holds!(rt; held.keeps([2, 2, 7].as_slice(), [1, 2, 2, 3, 4, 5, 6].as_slice()));
+    equal!(rt; held.length_and_item(2, 1), Some((5, Some(3))));
+    let copy = held.lists.clone()?;
     equal!(rt; copy.bounds.as_slice(), [2, 2, 7].as_slice());
-    lists.clear();
-    holds!(rt; lists.is_empty());
+    held.clear();
+    holds!(rt; held.lists.is_empty());
     Ok(())
+}
+
+// Pushes a list behind a reference, another by reference, and one more; false where one of them is refused
+fn takes_three<'x, T: Item + Drop, C: Push<&'x T> + PushRef<T> + Push<T>>(
+    column: &mut C,
+    lent: &'x T,
+    read: &T,
+    given: T,
+) -> bool
+    requires sound { IsSound C.format (C.content column.old) }
+    requires lent_valid { T.valid lent.now }
+    requires read_valid { T.valid read.now }
+    requires given_valid { T.valid given }
+    ensures { IsSound C.format (C.content column.new) }
+{
+    takes(column, lent) && takes_ref(column, read) && takes(column, given)
+}
+
+// Pushes lists from slices, vectors and a range of a view; which of them are taken?
+fn takes_each<'v, TC: ExtendFrom<View<'v, u64>> + PushRef<u64>, BC: Offsets + Push<u64>>(
+    lists: &mut Vecs<TC, BC>,
+    items: &[u64],
+    range: &Slice<View<'v, u64>>,
+    owned: Vec<u64>,
+) -> [bool; 7]
+    requires sound { IsSound ⟦<Vecs<TC, BC> as Column>⟧.format (⟦<Vecs<TC, BC> as Column>⟧.content lists.old) }
+    requires valid { ⟦<Slice<View<'v, u64>> as Item>⟧.valid range.now }
+    ensures { IsSound ⟦<Vecs<TC, BC> as Column>⟧.format (⟦<Vecs<TC, BC> as Column>⟧.content lists.new) }
+{
+    [
+        takes(lists, items),
+        takes(lists, [].as_slice()),
+        takes(lists, &owned),
+        takes_ref(lists, &owned),
+        takes_ref(lists, &items),
+        takes_ref(lists, range),
+        takes(lists, owned),
+    ]
 }
 
 #[test]
@@ -49,21 +174,15 @@ fn lists_are_pushed_from_slices_and_vectors(rt: HostRuntime) -> Result<(), Fail>
     let pair = [1u64, 2];
     let view = View::from_slice(pair.as_slice());
     let mut lists = Lists::empty(rt.alloc());
-    holds!(rt; takes(&mut lists, pair.as_slice()));
-    holds!(rt; takes(&mut lists, &pair[..0]));
-    holds!(rt; takes(&mut lists, &owned));
-    holds!(rt; takes_ref(&mut lists, &owned));
-    holds!(rt; takes_ref(&mut lists, &pair.as_slice()));
-    holds!(rt; takes_ref(&mut lists, &Slice::new(1, 2, view)));
-    holds!(rt; takes(&mut lists, owned));
+    let taken = takes_each(&mut lists, pair.as_slice(), &Slice::new(1, 2, view), owned);
+    equal!(rt; taken, [true; 7]);
     holds!(rt; lists.push_iter(pair.iter().copied()).is_ok());
-    equal!(rt;
-        lists.bounds.as_slice(),
-        [2, 2, 3, 4, 6, 7, 8, 10].as_slice()
-    );
-    equal!(rt;
-        lists.values.as_slice(),
-        [1, 2, 3, 3, 1, 2, 2, 3, 1, 2].as_slice()
+    holds!(rt;
+        keeps(
+            &lists,
+            [2, 2, 3, 4, 6, 7, 8, 10].as_slice(),
+            [1, 2, 3, 3, 1, 2, 2, 3, 1, 2].as_slice()
+        )
     );
     Ok(())
 }
@@ -76,8 +195,7 @@ fn lists_are_pushed_from_arrays(rt: HostRuntime) -> Result<(), Fail> {
     holds!(rt; takes(&mut lists, &pair));
     holds!(rt; takes(&mut lists, [3u64, 4, 5]));
     holds!(rt; takes_ref(&mut lists, &[6u64]));
-    equal!(rt; lists.bounds.as_slice(), [2, 5, 6].as_slice());
-    equal!(rt; lists.values.as_slice(), [1, 2, 3, 4, 5, 6].as_slice());
+    holds!(rt; keeps(&lists, [2, 5, 6].as_slice(), SIX.as_slice()));
     let mut pairs = Vecs::<Vec<[u64; 2]>, Vec<u64>>::empty(rt.alloc());
     holds!(rt; takes(&mut pairs, &[[1u64, 2], [3, 4], [5, 6]]));
     equal!(rt; pairs.bounds.as_slice(), [3].as_slice());
@@ -91,50 +209,78 @@ fn lists_are_pushed_from_arrays(rt: HostRuntime) -> Result<(), Fail> {
 #[test]
 fn lists_are_pushed_from_small_vectors(rt: HostRuntime) -> Result<(), Fail> {
     let few = SmallVec::<u64, 2>::from_slice(rt.alloc(), &[1])?;
+    let again = SmallVec::<u64, 2>::from_slice(rt.alloc(), &[1])?;
     let many = SmallVec::<u64, 2>::from_slice(rt.alloc(), &[2, 3, 4])?;
     let mut lists = Lists::empty(rt.alloc());
-    holds!(rt; takes(&mut lists, &few));
-    holds!(rt; takes_ref(&mut lists, &many));
-    holds!(rt; takes(&mut lists, few));
-    equal!(rt; lists.bounds.as_slice(), [1, 4, 5].as_slice());
-    equal!(rt; lists.values.as_slice(), [1, 2, 3, 4, 1].as_slice());
+    holds!(rt; takes_three(&mut lists, &few, &many, again));
+    holds!(rt; keeps(&lists, [1, 4, 5].as_slice(), [1, 2, 3, 4, 1].as_slice()));
     Ok(())
+}
+
+// Are these the bounds, and the bounds and the values of the lists in them?
+fn keeps_lists(nested: &Nested, bounds: &[u64], inner: &[u64], values: &[u64]) -> bool {
+    nested.bounds.as_slice() == bounds && keeps(&nested.values, inner, values)
 }
 
 #[test]
 fn lists_of_lists_are_pushed_from_slices(rt: HostRuntime) -> Result<(), Fail> {
     let first = [1u64, 2];
     let second = [3u64];
-    let mut nested = Nested::empty(rt.alloc());
     let both = [first.as_slice(), second.as_slice()];
+    let mut nested = Nested::empty(rt.alloc());
     holds!(rt; takes(&mut nested, both.as_slice()));
     holds!(rt; takes(&mut nested, &both[..1]));
-    equal!(rt; nested.bounds.as_slice(), [2, 3].as_slice());
-    equal!(rt; nested.values.bounds.as_slice(), [2, 3, 5].as_slice());
-    equal!(rt; nested.values.values.as_slice(), [1, 2, 3, 1, 2].as_slice());
+    holds!(rt;
+        keeps_lists(
+            &nested,
+            [2, 3].as_slice(),
+            [2, 3, 5].as_slice(),
+            [1, 2, 3, 1, 2].as_slice()
+        )
+    );
     Ok(())
+}
+
+// A column with room for views, made twice, to which the range 4..6 of `numbers` is pushed; then come rows 1 and 2 of
+// `source`
+fn roomy<V: Len + Copy, W: Len + Copy, C: ExtendFrom<W> + Push<Slice<V>>>(
+    alloc: Global,
+    numbers: V,
+    source: W,
+    views: &[W],
+) -> Result<C, Fail>
+    requires numbers_sound { IsSound V.format (V.content numbers) }
+    requires source_sound { IsSound W.format (W.content source) }
+    ensures { IfOk result (λ c. IsSound C.format (C.content c)) }
+{
+    let mut column = C::with_capacity_for(alloc, views.iter().copied())?;
+    let pushed = takes_rows(&mut column, numbers, 4, 6);
+    column.reserve_for(views.iter().copied())?;
+    if !pushed || !copied(&mut column, source, 1, 3) {
+        return Err(Fail::from("refused"));
+    }
+    Ok(column)
 }
 
 #[test]
 fn ranges_of_lists(rt: HostRuntime) -> Result<(), Fail> {
-    let view = View::from_slice([1u64, 2, 3, 4, 5, 6].as_slice());
-    let mut source = Lists::empty(rt.alloc());
-    holds!(rt; takes_rows(&mut source, view, 0, 2));
-    holds!(rt; takes_rows(&mut source, view, 2, 5));
-    holds!(rt; takes_rows(&mut source, view, 5, 6));
-    let views = [source.borrow(), source.borrow()];
-    let mut lists = Lists::with_capacity_for(rt.alloc(), views.iter().copied())?;
-    holds!(rt; takes_rows(&mut lists, view, 4, 6));
-    holds!(rt; lists.reserve_for(views.iter().copied()).is_ok());
-    holds!(rt; copied(&mut lists, source.borrow(), 1, 3));
-    equal!(rt; lists.bounds.as_slice(), [2, 5, 6].as_slice());
-    equal!(rt; lists.values.as_slice(), [5, 6, 3, 4, 5, 6].as_slice());
-    holds!(rt; copied(&mut lists, source.borrow().reborrow(), 2, 2));
-    equal!(rt; count(&lists), 3);
-    cut(&mut lists, 2);
-    equal!(rt; lists.bounds.as_slice(), [2, 5].as_slice());
-    equal!(rt; lists.values.as_slice(), [5, 6, 3, 4, 5].as_slice());
+    let source = Held::of(rt.alloc(), [(0, 2), (2, 5), (5, 6)].as_slice())?;
+    let mut held = Held::roomy(rt.alloc(), &source)?;
+    holds!(rt; held.keeps([2, 5, 6].as_slice(), [5, 6, 3, 4, 5, 6].as_slice()));
+    holds!(rt; held.copies_shorter(&source, 2, 2));
+    equal!(rt; held.count(), 3);
+    held.cut(2);
+    holds!(rt; held.keeps([2, 5].as_slice(), [5, 6, 3, 4, 5].as_slice()));
     Ok(())
+}
+
+// Are these the sizes of a type's elements, one for each of its slices?
+fn sizes_are<C: Stored>(alloc: Global, wanted: &[usize]) -> Result<bool, Fail>
+    requires { IsTrue (representable C.format) }
+{
+    let mut sizes = Vec::new(alloc);
+    C::element_sizes(&mut sizes)?;
+    Ok(sizes.as_slice() == wanted && C::slice_count() == wanted.len())
 }
 
 #[test]
@@ -152,36 +298,37 @@ fn slices_of_lists(rt: HostRuntime) -> Result<(), Fail> {
         equal!(rt; lists.check(), wanted);
         equal!(rt; lists.get_byte_slice(1).1.len(), 24);
     }
-    let mut sizes = Vec::new(rt.alloc());
-    holds!(rt; Lists::element_sizes(&mut sizes).is_ok());
-    holds!(rt; Nested::element_sizes(&mut sizes).is_ok());
-    equal!(rt; sizes.as_slice(), [8, 8, 8, 8, 8].as_slice());
-    equal!(rt; Nested::slice_count(), 3);
+    holds!(rt; sizes_are::<Lists>(rt.alloc(), [8, 8].as_slice())?);
+    holds!(rt; sizes_are::<Nested>(rt.alloc(), [8, 8, 8].as_slice())?);
     Ok(())
+}
+
+// A column of rows 0 and 1 of a view, twice
+fn twice<V: Len + Copy, C: ExtendFrom<V>>(alloc: Global, view: V) -> Result<C, Fail>
+    requires { IsSound V.format (V.content view) }
+    ensures { IfOk result (λ c. IsSound C.format (C.content c)) }
+{
+    let mut column = C::empty(alloc);
+    if !copied(&mut column, view, 0, 2) || !copied(&mut column, view, 0, 2) {
+        return Err(Fail::from("refused"));
+    }
+    Ok(column)
 }
 
 #[test]
 fn lists_of_lists(rt: HostRuntime) -> Result<(), Fail> {
-    let view = View::from_slice([1u64, 2, 3, 4, 5, 6].as_slice());
-    let mut inner = Lists::empty(rt.alloc());
-    holds!(rt; takes_rows(&mut inner, view, 0, 2));
-    holds!(rt; takes_rows(&mut inner, view, 2, 2));
-    holds!(rt; takes_rows(&mut inner, view, 2, 6));
-    let mut nested = Nested::empty(rt.alloc());
-    holds!(rt; takes_rows(&mut nested, inner.borrow(), 1, 3));
-    holds!(rt; takes_rows(&mut nested, inner.borrow(), 0, 1));
-    let mut copy = Nested::empty(rt.alloc());
-    holds!(rt; copied(&mut copy, nested.borrow(), 0, 2));
-    holds!(rt; copied(&mut copy, nested.borrow(), 0, 2));
-    equal!(rt; count(&copy), 4);
+    let inner = Held::of(rt.alloc(), [(0, 2), (2, 2), (2, 6)].as_slice())?;
+    let nested: Nested = ranged(
+        rt.alloc(),
+        inner.lists.borrow(),
+        [(1, 3), (0, 1)].as_slice(),
+    )?;
+    let copy: Nested = twice(rt.alloc(), nested.borrow())?;
+    equal!(rt; copy.len(), 4);
     equal!(rt; copy.bounds.as_slice(), [2, 3, 5, 6].as_slice());
-    equal!(rt;
-        copy.values.bounds.as_slice(),
-        [0, 4, 6, 6, 10, 12].as_slice()
-    );
+    equal!(rt; copy.values.bounds.as_slice(), [0, 4, 6, 6, 10, 12].as_slice());
     let list = row_at(&copy.borrow(), 1).expect(&rt, "row 1");
-    let inner_list = row_at(&list, 0).expect(&rt, "row 0 of row 1");
-    equal!(rt; row_at(&inner_list, 1), Some(2));
+    equal!(rt; length_and_item(&list, 0, 1), Some((2, Some(2))));
     equal!(rt; copy.byte_slice(2).len(), 96);
     Ok(())
 }
@@ -195,10 +342,8 @@ fn printed<V: Len + Index<Ref: Debug> + Copy>(alloc: Global, view: V) -> Result<
 
 #[test]
 fn lists_print_their_rows(rt: HostRuntime) -> Result<(), Fail> {
-    let mut lists = Lists::empty(rt.alloc());
-    holds!(rt; takes(&mut lists, [1u64, 2].as_slice()));
-    holds!(rt; takes(&mut lists, [3u64].as_slice()));
-    let text = printed(rt.alloc(), lists.borrow())?;
+    let held = Held::of(rt.alloc(), [(0, 2), (2, 3)].as_slice())?;
+    let text = printed(rt.alloc(), held.lists.borrow())?;
     equal!(rt; text.as_str(), "[[1, 2], [3]]");
     Ok(())
 }

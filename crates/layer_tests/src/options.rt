@@ -1,37 +1,101 @@
 //! Rows that may be absent, by worked rows.
-ghost use Rattle.std.specs.Prelude.{◌≡◌, IfOk};
+ghost use Rattle.std.specs.Prelude.{IfOk};
 ghost use Rattle.columnar_core.specs.Format.{IsSound};
 
+use crate::rows::reads;
 use columnar_core::bytes::{Check, Stored};
 use columnar_core::container::{Borrow, ExtendFrom, Storage};
 use columnar_core::fault::StoreFault;
-use columnar_core::traits::{Clear, Index, Len, Push, PushRef};
+use columnar_core::traits::{Clear, Column, Index, Item, Len, Push, PushRef};
 use columnar_core::view::View;
 use columnar_primitive::bools::Bools;
 use columnar_sums::option::Options;
 use columnar_sums::rank_select::RankSelect;
 use std::alloc::Global;
 use std::test::Fail;
-use test_support::columns::{copied, count, cut, row_at};
+use test_support::columns::{copied, count, cut, takes, takes_ref};
 use test_support::{equal, holds};
 
 type Held = Options<Vec<u64>, Vec<u64>, Vec<u64>, [u64; 2]>;
 
 type Viewed<'a> = Options<View<'a, u64>, View<'a, u64>, View<'a, u64>, View<'a, u64>>;
 
+// Numbers that may be absent, behind the calls that more than one test makes
+#[derive(Drop)]
+struct Numbers {
+    column: Held,
+    ghost sound: { IsSound ⟦<Held as Column>⟧.format (⟦<Held as Column>⟧.content column) },
+}
+
+impl Numbers {
+    // A column of these rows
+    fn of(alloc: Global, rows: &[Option<u64>]) -> Result<Numbers, Fail> {
+        Ok(Numbers {
+            column: column_of(alloc, rows)?,
+        })
+    }
+
+    // The rows 1, none, 3, 4, none
+    fn five(alloc: Global) -> Result<Numbers, Fail> {
+        Numbers::of(alloc, [Some(1), None, Some(3), Some(4), None].as_slice())
+    }
+
+    // Copies these rows of another column behind its own
+    fn copies(&mut self, source: &Numbers, start: usize, end: usize) -> bool {
+        copied(&mut self.column, source.column.borrow(), start, end)
+    }
+
+    // Has it these rows, and no other?
+    fn reads(&self, rows: &[Option<u64>]) -> bool {
+        reads(&self.column, rows)
+    }
+
+    // Are these the values that are not absent?
+    fn keeps(&self, values: &[u64]) -> bool {
+        self.column.somes.as_slice() == values
+    }
+}
+
+// A column of these rows
+fn column_of<C: Storage + Push<Option<u64>>>(alloc: Global, rows: &[Option<u64>]) -> Result<C, Fail>
+    ensures { IfOk result (λ c. IsSound C.format (C.content c)) }
+{
+    let mut column = C::empty(alloc);
+    if Push::extend(&mut column, rows.iter().copied()).is_err() {
+        return Err(Fail::from("refused"));
+    }
+    Ok(column)
+}
+
+// Pushes an item, another, one by reference and one behind a reference; false where one of them is refused
+fn takes_four<'x, T: Item + Copy, C: Push<T> + PushRef<T> + Push<&'x T>>(
+    column: &mut C,
+    one: T,
+    other: T,
+    read: &T,
+    lent: &'x T,
+) -> bool
+    requires sound { IsSound C.format (C.content column.old) }
+    requires one_valid { T.valid one }
+    requires other_valid { T.valid other }
+    requires read_valid { T.valid read.now }
+    requires lent_valid { T.valid lent.now }
+    ensures { IsSound C.format (C.content column.new) }
+{
+    takes(column, one) && takes(column, other) && takes_ref(column, read) && takes(column, lent)
+}
+
 #[test]
 fn some_and_none(rt: HostRuntime) -> Result<(), Fail> {
     let mut column = Held::empty(rt.alloc());
     holds!(rt; column.is_all_none());
-    holds!(rt; column.push(Some(7u64)).is_ok());
-    holds!(rt; column.push(None::<u64>).is_ok());
-    holds!(rt; column.push_ref(&Some(9u64)).is_ok());
-    holds!(rt; column.push(&None::<u64>).is_ok());
+    let (nine, none) = (Some(9u64), None);
+    holds!(rt; takes_four(&mut column, Some(7), None, &nine, &none));
     equal!(rt; count(&column), 4);
-    equal!(rt; row_at(&column, 0), Some(Some(7)));
-    equal!(rt; row_at(&&column, 0), Some(Some(&7)));
-    equal!(rt; row_at(&column, 1), Some(None));
-    equal!(rt; row_at(&column.borrow(), 2), Some(Some(9)));
+    let rows = [Some(7), None, nine, none];
+    holds!(rt; reads(&column, rows.as_slice()));
+    holds!(rt; reads(&&column, [Some(&7), None, Some(&9), None].as_slice()));
+    holds!(rt; reads(&column.borrow(), rows.as_slice()));
     equal!(rt; Index::last(&column.borrow()), Some(None));
     holds!(rt; !column.is_all_none());
     equal!(rt; column.somes.as_slice(), [7, 9].as_slice());
@@ -44,68 +108,66 @@ fn some_and_none(rt: HostRuntime) -> Result<(), Fail> {
     Ok(())
 }
 
-// The rows 1, none, 3, 4, none
-fn five<C: Storage + Push<Option<u64>> + Drop>(alloc: Global) -> Result<C, Fail>
-    ensures { IfOk result (λ c. IsSound C.format (C.content c)) }
-{
-    let mut column = C::empty(alloc);
-    let rows = [Some(1u64), None, Some(3), Some(4), None];
-    if Push::extend(&mut column, rows.iter().copied()).is_err() {
-        return Err(Fail::from("refused"));
-    }
-    Ok(column)
-}
-
 #[test]
 fn copies_of_ranges(rt: HostRuntime) -> Result<(), Fail> {
-    let column = five::<Held>(rt.alloc())?;
-    let mut copy = Held::with_capacity_for(rt.alloc(), [column.borrow()].iter().copied())?;
-    holds!(rt; copied(&mut copy, column.borrow(), 1, 4));
-    equal!(rt; copy.somes.as_slice(), [3, 4].as_slice());
-    equal!(rt; row_at(&copy, 0), Some(None));
+    let source = Numbers::five(rt.alloc())?;
+    let views = [source.column.borrow()];
+    let mut copy = Numbers {
+        column: Held::with_capacity_for(rt.alloc(), views.iter().copied())?,
+    };
+    holds!(rt; copy.copies(&source, 1, 4));
+    holds!(rt; copy.keeps([3, 4].as_slice()));
+    holds!(rt; copy.reads([None, Some(3), Some(4)].as_slice()));
     Ok(())
 }
 
 #[test]
 fn copies_behind_rows(rt: HostRuntime) -> Result<(), Fail> {
-    let mut copy = five::<Held>(rt.alloc())?;
-    holds!(rt; copied(&mut copy, five::<Held>(rt.alloc())?.borrow(), 2, 5));
-    equal!(rt; copy.len(), 8);
-    equal!(rt; copy.somes.as_slice(), [1, 3, 4, 3, 4].as_slice());
-    equal!(rt; row_at(&copy, 5), Some(Some(3)));
-    equal!(rt; row_at(&copy, 7), Some(None));
+    let mut copy = Numbers::five(rt.alloc())?;
+    let source = Numbers::five(rt.alloc())?;
+    holds!(rt; copy.copies(&source, 2, 5));
+    holds!(rt; copy.keeps([1, 3, 4, 3, 4].as_slice()));
+    let rows = [
+        Some(1),
+        None,
+        Some(3),
+        Some(4),
+        None,
+        Some(3),
+        Some(4),
+        None,
+    ];
+    holds!(rt; copy.reads(rows.as_slice()));
     Ok(())
 }
 
 #[test]
 fn copies_of_columns(rt: HostRuntime) -> Result<(), Fail> {
-    let mut column = five::<Held>(rt.alloc())?;
-    holds!(rt;
-        column
-            .reserve_for([five::<Held>(rt.alloc())?.borrow()].iter().copied())
-            .is_ok()
-    );
-    let same = column.duplicate(rt.alloc())?;
-    equal!(rt; row_at(&same, 2), Some(Some(3)));
-    let twin = same.clone()?;
-    holds!(rt; twin == same);
-    column.clear();
-    holds!(rt; twin != column);
+    let mut numbers = Numbers::five(rt.alloc())?;
+    let source = Numbers::five(rt.alloc())?;
+    let views = [source.column.borrow()];
+    holds!(rt; numbers.column.reserve_for(views.iter().copied()).is_ok());
+    let same = Numbers {
+        column: numbers.column.duplicate(rt.alloc())?,
+    };
+    holds!(rt; same.reads([Some(1), None, Some(3), Some(4), None].as_slice()));
+    let twin = same.column.clone()?;
+    holds!(rt; twin == same.column);
+    numbers.column.clear();
+    holds!(rt; twin != numbers.column);
     Ok(())
 }
 
 #[test]
 fn values_alone(rt: HostRuntime) -> Result<(), Fail> {
-    let mut all = Held::empty(rt.alloc());
-    holds!(rt; Push::extend(&mut all, [Some(1u64), Some(2)].iter().copied()).is_ok());
-    let values = match all.try_unwrap() {
+    let all = Numbers::of(rt.alloc(), [Some(1), Some(2)].as_slice())?;
+    let values = match all.column.try_unwrap() {
         Some(values) => values,
         None => return Err(Fail::from("none")),
     };
     equal!(rt; values.as_slice(), [1, 2].as_slice());
-    let mut one = Held::empty(rt.alloc());
-    holds!(rt; Push::extend(&mut one, [Some(1u64), None].iter().copied()).is_ok());
-    holds!(rt; one.try_unwrap().is_none());
+    let one = Numbers::of(rt.alloc(), [Some(1), None].as_slice())?;
+    holds!(rt; one.column.try_unwrap().is_none());
     Ok(())
 }
 

@@ -90,7 +90,7 @@ fn random_bits(alloc: Global, n: usize, sparse: u64, seed: &mut u64) -> Result<V
 }
 
 // a column of these bits
-fn column_of<C: Storage + Push<bool> + Drop>(alloc: Global, bits: &[bool]) -> Result<C, Fail>
+fn column_of<C: Storage + Push<bool>>(alloc: Global, bits: &[bool]) -> Result<C, Fail>
     ensures { IfOk result (λ c. IsSound C.format (C.content c)) }
 {
     let mut column = C::empty(alloc);

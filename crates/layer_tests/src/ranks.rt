@@ -9,7 +9,7 @@ use columnar_core::words::Words;
 use columnar_sums::rank_select::{Cursor, RankSelect, select_in_word};
 use std::alloc::Global;
 use std::test::Fail;
-use test_support::equal;
+use test_support::{equal, holds};
 
 type Held = RankSelect<Vec<u64>, Vec<u64>, [u64; 2]>;
 
@@ -27,35 +27,56 @@ fn column(alloc: Global, n: usize, places: &[usize]) -> Result<Held, Fail>
     Ok(column)
 }
 
-// a seek where it may be called
-fn seek_rank<CC: Words, VC: Words, WC: Words>(
-    cursor: &mut Cursor<'_, CC, VC, WC>,
-    rank: u64,
-) -> Result<Option<usize>, Fail> {
-    if cursor.rank() > rank {
-        return Err(Fail::from("behind"));
-    }
-    Ok(cursor.seek_to_rank(rank))
+// A move of a cursor and what it gives, or where the cursor stands
+#[derive(Clone, Copy)]
+enum Move {
+    Next(Option<usize>),
+    Step(Option<bool>),
+    ToRank(u64, Option<usize>),
+    ToPos(usize, bool),
+    Pos(usize),
+    Rank(u64),
 }
 
-fn seek_pos<CC: Words, VC: Words, WC: Words>(
+// Does a move give what it should? A seek does not where it would go back.
+fn gives<CC: Words, VC: Words, WC: Words>(
     cursor: &mut Cursor<'_, CC, VC, WC>,
-    pos: usize,
-) -> Result<bool, Fail> {
-    if cursor.pos() > pos {
-        return Err(Fail::from("behind"));
+    step: &Move,
+) -> bool {
+    match *step {
+        Move::Next(place) => cursor.next_one() == place,
+        Move::Step(bit) => cursor.step() == bit,
+        Move::ToRank(rank, place) => cursor.rank() <= rank && cursor.seek_to_rank(rank) == place,
+        Move::ToPos(pos, inside) => cursor.pos() <= pos && cursor.seek_to_pos(pos) == inside,
+        Move::Pos(pos) => cursor.pos() == pos,
+        Move::Rank(rank) => cursor.rank() == rank,
     }
-    Ok(cursor.seek_to_pos(pos))
+}
+
+// Do all moves of a cursor over n bits, of which these are set, give what they should?
+fn moves(alloc: Global, n: usize, places: &[usize], steps: &[Move]) -> Result<bool, Fail> {
+    let bits = column(alloc, n, places)?;
+    let mut cursor = bits.cursor();
+    for step in steps {
+        if !gives(&mut cursor, step) {
+            return Ok(false);
+        }
+    }
+    Ok(cursor.total_bits() == n)
 }
 
 #[test]
 fn places_of_few_bits(rt: HostRuntime) -> Result<(), Fail> {
     let bits = column(rt.alloc(), 3, &[0, 2])?;
-    equal!(rt; bits.select(0), Some(0));
-    equal!(rt; bits.select(1), Some(2));
-    equal!(rt; bits.select(2), None);
-    equal!(rt; bits.select(1000), None);
-    equal!(rt; bits.select(4294967296), None);
+    for (rank, place) in [
+        (0, Some(0)),
+        (1, Some(2)),
+        (2, None),
+        (1000, None),
+        (4294967296, None),
+    ] {
+        equal!(rt; bits.select(rank), place);
+    }
     equal!(rt; bits.rank(3), 2);
     equal!(rt; bits.get(1), false);
     Ok(())
@@ -63,12 +84,16 @@ fn places_of_few_bits(rt: HostRuntime) -> Result<(), Fail> {
 
 #[test]
 fn places_in_one_word(rt: HostRuntime) -> Result<(), Fail> {
-    equal!(rt; select_in_word(0b10110, 0), 1);
-    equal!(rt; select_in_word(0b10110, 1), 2);
-    equal!(rt; select_in_word(0b10110, 2), 4);
-    equal!(rt; select_in_word(0b10110, 3), 64);
-    equal!(rt; select_in_word(u64::MAX, 63), 63);
-    equal!(rt; select_in_word(u64::MAX, 64), 64);
+    for (word, rank, place) in [
+        (0b10110, 0, 1),
+        (0b10110, 1, 2),
+        (0b10110, 2, 4),
+        (0b10110, 3, 64),
+        (u64::MAX, 63, 63),
+        (u64::MAX, 64, 64),
+    ] {
+        equal!(rt; select_in_word(word, rank), place);
+    }
     Ok(())
 }
 
@@ -86,57 +111,60 @@ fn ranks_over_chunks(rt: HostRuntime) -> Result<(), Fail> {
 
 #[test]
 fn cursor_over_two_words(rt: HostRuntime) -> Result<(), Fail> {
-    let bits = column(rt.alloc(), 128, &[63, 64])?;
-    let mut cursor = bits.cursor();
-    equal!(rt; cursor.next_one(), Some(63));
-    equal!(rt; cursor.step(), Some(true));
-    equal!(rt; cursor.pos(), 65);
-    equal!(rt; cursor.rank(), 2);
-    equal!(rt; cursor.next_one(), None);
-    equal!(rt; cursor.pos(), 128);
-    equal!(rt; cursor.total_bits(), 128);
+    let steps = [
+        Move::Next(Some(63)),
+        Move::Step(Some(true)),
+        Move::Pos(65),
+        Move::Rank(2),
+        Move::Next(None),
+        Move::Pos(128),
+    ];
+    holds!(rt; moves(rt.alloc(), 128, &[63, 64], steps.as_slice())?);
     Ok(())
 }
 
 #[test]
 fn cursor_at_the_end_of_a_word(rt: HostRuntime) -> Result<(), Fail> {
-    let bits = column(rt.alloc(), 2, &[0])?;
-    let mut cursor = bits.cursor();
-    equal!(rt; cursor.next_one(), Some(0));
-    equal!(rt; cursor.next_one(), None);
-    equal!(rt; cursor.pos(), 1);
-    equal!(rt; cursor.step(), Some(false));
-    equal!(rt; cursor.step(), None);
+    let steps = [
+        Move::Next(Some(0)),
+        Move::Next(None),
+        Move::Pos(1),
+        Move::Step(Some(false)),
+        Move::Step(None),
+    ];
+    holds!(rt; moves(rt.alloc(), 2, &[0], steps.as_slice())?);
     Ok(())
 }
 
 #[test]
 fn cursor_seeks_ranks(rt: HostRuntime) -> Result<(), Fail> {
-    let bits = column(rt.alloc(), 64, &[1, 5, 13, 30, 50])?;
-    let mut cursor = bits.cursor();
-    equal!(rt; seek_rank(&mut cursor, 0)?, Some(1));
-    equal!(rt; seek_rank(&mut cursor, 2)?, Some(13));
-    equal!(rt; seek_rank(&mut cursor, 4)?, Some(50));
-    equal!(rt; cursor.next_one(), None);
-    equal!(rt; cursor.pos(), 64);
+    let steps = [
+        Move::ToRank(0, Some(1)),
+        Move::ToRank(2, Some(13)),
+        Move::ToRank(4, Some(50)),
+        Move::Next(None),
+        Move::Pos(64),
+    ];
+    holds!(rt; moves(rt.alloc(), 64, &[1, 5, 13, 30, 50], steps.as_slice())?);
     Ok(())
 }
 
 #[test]
 fn cursor_in_any_order(rt: HostRuntime) -> Result<(), Fail> {
-    let bits = column(rt.alloc(), 130, &[63, 64, 129])?;
-    let mut cursor = bits.cursor();
-    equal!(rt; seek_pos(&mut cursor, 63)?, true);
-    equal!(rt; cursor.rank(), 0);
-    equal!(rt; cursor.step(), Some(true));
-    equal!(rt; seek_rank(&mut cursor, 1)?, Some(64));
-    equal!(rt; cursor.next_one(), Some(129));
-    equal!(rt; cursor.pos(), 130);
-    equal!(rt; cursor.rank(), 3);
-    equal!(rt; cursor.step(), None);
-    equal!(rt; cursor.next_one(), None);
-    equal!(rt; seek_rank(&mut cursor, 3)?, None);
-    equal!(rt; seek_pos(&mut cursor, 130)?, false);
+    let steps = [
+        Move::ToPos(63, true),
+        Move::Rank(0),
+        Move::Step(Some(true)),
+        Move::ToRank(1, Some(64)),
+        Move::Next(Some(129)),
+        Move::Pos(130),
+        Move::Rank(3),
+        Move::Step(None),
+        Move::Next(None),
+        Move::ToRank(3, None),
+        Move::ToPos(130, false),
+    ];
+    holds!(rt; moves(rt.alloc(), 130, &[63, 64, 129], steps.as_slice())?);
     Ok(())
 }
 
@@ -146,11 +174,12 @@ fn cursor_seeks_past_the_end(rt: HostRuntime) -> Result<(), Fail> {
     for i in 0..100usize {
         trues.push(i)?;
     }
-    let bits = column(rt.alloc(), 100, trues.as_slice())?;
-    let mut cursor = bits.cursor();
-    equal!(rt; seek_pos(&mut cursor, 1000)?, false);
-    equal!(rt; cursor.pos(), 100);
-    equal!(rt; cursor.rank(), 100);
-    equal!(rt; cursor.step(), None);
+    let steps = [
+        Move::ToPos(1000, false),
+        Move::Pos(100),
+        Move::Rank(100),
+        Move::Step(None),
+    ];
+    holds!(rt; moves(rt.alloc(), 100, trues.as_slice(), steps.as_slice())?);
     Ok(())
 }

@@ -2,14 +2,16 @@
 // that is refused anywhere else in a test ends it.
 ghost use Rattle.std.specs.Prelude.{IfSome};
 ghost use Rattle.columnar_base.specs.Format.{IsSound};
+ghost use Rattle.columnar_bytes.specs.Stashes.{stash_content};
 
 use super::texts::{HELLO, Texts};
 use columnar_base::fault::GrowError;
 use columnar_bytes::stash::Stash;
-use columnar_core::container::{Borrow, ExtendFrom, Storage};
-use columnar_core::traits::{Column, Index, Len, Push};
+use columnar_core::container::{Borrow, ContainerBytes, ExtendFrom, Storage};
+use columnar_core::traits::{Column, Item, Len, Push};
 use std::alloc::Global;
 use std::test::Fail;
+use test_support::columns::row_at;
 use test_support::{equal, holds};
 
 type Rows = (Vec<u64>, Texts);
@@ -86,29 +88,40 @@ fn copies_of_strings(rt: HostRuntime) -> Result<(), Fail> {
     Ok(())
 }
 
-// Opened bytes are pushed to, or stay these bytes, and both rows are read back
+// Is an item pushed to opened bytes? Or was memory refused, and are they as they were?
+fn push_keeps_bytes<T: Item + Drop, C: ContainerBytes + Len + Drop + Push<T>>(
+    stash: &mut Stash<C, Vec<u8>>,
+    item: T,
+    bytes: &[u8],
+) -> bool
+    requires sound { IsSound C.format (stash_content stash.old) }
+    requires valid { T.valid item }
+    ensures { IsSound C.format (stash_content stash.new) }
+{
+    let rows = stash.len();
+    match stash.push(item) {
+        Ok(()) => rows.checked_add(1) == Some(stash.len()),
+        Err(error) => {
+            let kept = match stash {
+                Stash::Bytes(checked) => checked.bytes() == bytes,
+                _ => false,
+            };
+            error == GrowError::Memory && kept && stash.len() == rows
+        }
+    }
+}
+
+// Opened bytes of two rows are pushed to, or stay these bytes, and both rows are read back
 #[test]
 fn rows_with_a_string(rt: HostRuntime) -> Result<(), Fail> {
     let Ok(bytes) = HELLO.to_vec(rt.alloc()) else {
         return Ok(());
     };
-    let Ok(mut stash) = Stash::<Rows, Vec<u8>>::try_from_bytes(rt.alloc(), bytes) else {
-        holds!(rt; false);
-        return Ok(());
-    };
-    match stash.push((2u64, "ab")) {
-        Ok(()) => equal!(rt; stash.len(), 3),
-        Err(error) => {
-            equal!(rt; error, GrowError::Memory);
-            match &stash {
-                Stash::Bytes(checked) => equal!(rt; checked.bytes(), HELLO.as_slice()),
-                _ => holds!(rt; false),
-            }
-            equal!(rt; stash.len(), 2);
-        }
-    }
+    let mut stash = Stash::<Rows, Vec<u8>>::try_from_bytes(rt.alloc(), bytes).expect(&rt, "rows");
+    equal!(rt; stash.len(), 2);
+    holds!(rt; push_keeps_bytes(&mut stash, (2u64, "ab"), HELLO.as_slice()));
     let view = stash.borrow();
-    equal!(rt; view.get_checked(0), Some((0, b"hello".as_slice())));
-    equal!(rt; view.get_checked(1), Some((1, b"world".as_slice())));
+    equal!(rt; row_at(&view, 0), Some((0, b"hello".as_slice())));
+    equal!(rt; row_at(&view, 1), Some((1, b"world".as_slice())));
     Ok(())
 }

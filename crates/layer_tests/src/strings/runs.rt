@@ -17,7 +17,7 @@ use std::test::Fail;
 use test_support::{equal, holds};
 
 // Are all commands done, from no rows on, and is then written what the words are?
-fn runs<T: Item, V: Len + Copy, C: ContainerBytes + Storage + PushRef<T> + ExtendFrom<V>>(
+fn runs<T: Item, V: Len + Copy, C: ContainerBytes + PushRef<T> + ExtendFrom<V>>(
     alloc: Global,
     source: V,
     commands: &[Command<T>],
@@ -119,7 +119,7 @@ fn a_run_over_records(rt: HostRuntime) -> Result<(), Fail> {
 }
 
 // Makes each call that takes memory once, and gives what a stash of the first row then writes; none where it is not done.
-fn each_call<T: Item, V: Len + Copy, C: ContainerBytes + Storage + PushRef<T> + ExtendFrom<V>>(
+fn each_call<T: Item, V: Len + Copy, C: ContainerBytes + PushRef<T> + ExtendFrom<V>>(
     alloc: Global,
     item: &T,
     source: V,

@@ -1,13 +1,17 @@
 // Columns of strings: pushes, reads, copies, and worked stores.
-ghost use Rattle.columnar_base.specs.Format.{IsSound};
+ghost use Rattle.std.specs.Prelude.{IsTrue};
+ghost use Rattle.columnar_base.specs.Format.{IsSound, representable};
 
+use crate::rows::pushed;
 use columnar_base::fault::{GrowError, OwnError, StoreFault};
 use columnar_bytes::indexed::{encode, validate};
 use columnar_bytes::stash::Stash;
 use columnar_core::byte_slice::ByteSlice;
-use columnar_core::container::{Borrow, Storage};
-use columnar_core::traits::{Column, Index, Len, PushRef};
+use columnar_core::container::{Borrow, ContainerBytes, Storage, Truncate};
+use columnar_core::offsets::Offsets;
+use columnar_core::traits::{Column, Index, Item, Len, Push, PushRef};
 use columnar_strings::string::Strings;
+use std::alloc::Global;
 use std::boxed::BoxedStr;
 use std::fmt::{self, Display, Formatter, Write};
 use std::test::Fail;
@@ -37,10 +41,7 @@ fn ends_with<'a>(column: &'a Texts, bytes: &[u8]) -> bool
 
 #[test]
 fn three_strings_are_seven_words(rt: HostRuntime) -> Result<(), Fail> {
-    let mut texts = Texts::empty(rt.alloc());
-    holds!(rt; takes(&mut texts, "ab"));
-    holds!(rt; takes(&mut texts, ""));
-    holds!(rt; takes(&mut texts, "c"));
+    let texts: Texts = pushed(rt.alloc(), ["ab", "", "c"].as_slice())?;
     let mut words = Vec::new(rt.alloc());
     holds!(rt; encode(&mut words, &texts.borrow()).is_ok());
     equal!(rt; words.as_slice(), [24, 48, 51, 2, 2, 3, 6513249].as_slice());
@@ -63,21 +64,36 @@ fn bounds_end_at_the_bytes(rt: HostRuntime) -> Result<(), Fail> {
     Ok(())
 }
 
+// Pushes texts and bytes by value, behind a reference and by reference; which of them are taken?
+fn takes_each<BC: Offsets + Push<u64>, VC: Truncate + PushRef<u8>>(
+    texts: &mut Strings<BC, VC>,
+    bytes: &[u8],
+    boxed: &BoxedStr,
+    owned: String,
+) -> [bool; 9]
+    requires { IsSound ⟦<Strings<BC, VC> as Column>⟧.format (⟦<Strings<BC, VC> as Column>⟧.content texts.old) }
+    ensures { IsSound ⟦<Strings<BC, VC> as Column>⟧.format (⟦<Strings<BC, VC> as Column>⟧.content texts.new) }
+{
+    [
+        takes(texts, "ab"),
+        takes(texts, bytes),
+        takes(texts, &owned),
+        takes(texts, boxed),
+        takes_ref(texts, &"g"),
+        takes_ref(texts, &bytes),
+        takes_ref(texts, &owned),
+        takes_ref(texts, boxed),
+        takes(texts, owned),
+    ]
+}
+
 #[test]
 fn strings_are_pushed_from_texts_and_bytes(rt: HostRuntime) -> Result<(), Fail> {
     let owned = String::from_str(rt.alloc(), "de")?;
     let boxed = BoxedStr::from_str(rt.alloc(), "f")?;
-    let bytes = [0xffu8];
     let mut texts = Texts::empty(rt.alloc());
-    holds!(rt; takes(&mut texts, "ab"));
-    holds!(rt; takes(&mut texts, bytes.as_slice()));
-    holds!(rt; takes(&mut texts, &owned));
-    holds!(rt; takes(&mut texts, &boxed));
-    holds!(rt; takes_ref(&mut texts, &"g"));
-    holds!(rt; takes_ref(&mut texts, &bytes.as_slice()));
-    holds!(rt; takes_ref(&mut texts, &owned));
-    holds!(rt; takes_ref(&mut texts, &boxed));
-    holds!(rt; takes(&mut texts, owned));
+    let taken = takes_each(&mut texts, b"\xff".as_slice(), &boxed, owned);
+    equal!(rt; taken, [true; 9]);
     equal!(rt;
         texts.bounds.as_slice(),
         [2, 3, 5, 6, 7, 8, 10, 11, 13].as_slice()
@@ -88,9 +104,10 @@ fn strings_are_pushed_from_texts_and_bytes(rt: HostRuntime) -> Result<(), Fail> 
 
 #[test]
 fn strings_are_read_where_they_stand(rt: HostRuntime) -> Result<(), Fail> {
-    let mut texts = Texts::empty(rt.alloc());
-    holds!(rt; takes(&mut texts, "ab"));
-    holds!(rt; takes(&mut texts, [0xffu8].as_slice()));
+    let texts: Texts = pushed(
+        rt.alloc(),
+        [b"ab".as_slice(), b"\xff".as_slice()].as_slice(),
+    )?;
     equal!(rt; row_at(&texts.borrow(), 0), Some(b"ab".as_slice()));
     holds!(rt; ends_with(&texts, b"\xff".as_slice()));
     equal!(rt; row_at(&texts.borrow(), 2), None);
@@ -104,12 +121,8 @@ fn strings_are_read_where_they_stand(rt: HostRuntime) -> Result<(), Fail> {
 
 #[test]
 fn a_copy_moves_the_bounds(rt: HostRuntime) -> Result<(), Fail> {
-    let mut source = Texts::empty(rt.alloc());
-    holds!(rt; takes(&mut source, "ab"));
-    holds!(rt; takes(&mut source, "c"));
-    holds!(rt; takes(&mut source, "de"));
-    let mut texts = Texts::empty(rt.alloc());
-    holds!(rt; takes(&mut texts, "x"));
+    let source: Texts = pushed(rt.alloc(), ["ab", "c", "de"].as_slice())?;
+    let mut texts: Texts = pushed(rt.alloc(), ["x"].as_slice())?;
     holds!(rt; copied(&mut texts, source.borrow(), 1, 3));
     equal!(rt; texts.bounds.as_slice(), [1, 2, 4].as_slice());
     equal!(rt; texts.values.as_slice(), b"xcde".as_slice());
@@ -138,15 +151,31 @@ fn a_value_that_fails_leaves_nothing(rt: HostRuntime) -> Result<(), Fail> {
     Ok(())
 }
 
+// What a stash writes to which two rows are pushed by reference
+fn written<T: Item, C: ContainerBytes + Storage + PushRef<T>>(
+    alloc: Global,
+    first: &T,
+    second: &T,
+) -> Result<Vec<u8>, Fail>
+    requires representable { IsTrue (representable C.format) }
+    requires first_valid { T.valid first.now }
+    requires second_valid { T.valid second.now }
+{
+    let mut stash = Stash::<C, Vec<u8>>::empty(alloc);
+    stash.push_ref(first)?;
+    stash.push_ref(second)?;
+    let mut bytes = Vec::new(alloc);
+    if stash.write_bytes(&mut bytes).is_err() {
+        return Err(Fail::from("not written"));
+    }
+    Ok(bytes)
+}
+
 #[test]
 fn rows_with_a_string_are_eighty_bytes(rt: HostRuntime) -> Result<(), Fail> {
     let hello = String::from_str(rt.alloc(), "hello")?;
     let world = String::from_str(rt.alloc(), "world")?;
-    let mut stash = Stash::<Rows, Vec<u8>>::empty(rt.alloc());
-    holds!(rt; stash.push_ref(&(0u64, hello)).is_ok());
-    holds!(rt; stash.push_ref(&(1u64, world)).is_ok());
-    let mut bytes = Vec::new(rt.alloc());
-    holds!(rt; stash.write_bytes(&mut bytes).is_ok());
+    let bytes = written::<_, Rows>(rt.alloc(), &(0u64, hello), &(1, world))?;
     equal!(rt; bytes.as_slice(), HELLO.as_slice());
     Ok(())
 }

@@ -1,0 +1,41 @@
+// Columns of given rows, and which rows a column has.
+ghost use Rattle.std.specs.Prelude.{All, IfOk};
+ghost use Rattle.columnar_core.specs.Format.{IsSound};
+
+use columnar_core::container::Storage;
+use columnar_core::traits::{Index, Item, Len, Push};
+use std::alloc::Global;
+use std::test::Fail;
+use test_support::columns::{row_at, takes};
+
+// A column to which these rows are pushed, one by one
+pub(crate) fn pushed<T: Item + Copy, C: Storage + Push<T>>(
+    alloc: Global,
+    rows: &[T],
+) -> Result<C, Fail>
+    requires { All T.valid rows.now }
+    ensures { IfOk result (λ c. IsSound C.format (C.content c)) }
+{
+    let mut column = C::empty(alloc);
+    for i in 0..rows.len() {
+        if !takes(&mut column, rows[i]) {
+            return Err(Fail::from("refused"));
+        }
+    }
+    Ok(column)
+}
+
+// Has a column, or a view, these rows, and no other?
+pub(crate) fn reads<T: Item + PartialEq + Copy, V: Index<Ref = T> + Len>(
+    view: &V,
+    rows: &[T],
+) -> bool
+    requires { IsSound V.format (V.content view.now) }
+{
+    for i in 0..rows.len() {
+        if row_at(view, i) != Some(rows[i]) {
+            return false;
+        }
+    }
+    view.len() == rows.len()
+}

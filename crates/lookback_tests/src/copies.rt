@@ -1,39 +1,33 @@
 // Ranges of rows that are copied: which values are stored, by worked rows.
 
-use crate::rows::{Held, RUNS, numbers, reads};
+use crate::rows::RUNS;
 use crate::runs::Runs;
-use columnar_bytes::stash::Stash;
-use columnar_core::container::{Borrow, ExtendFrom, Storage};
+use crate::runs::stashes::RunStash;
 use std::test::Fail;
-use test_support::columns::{copied, copy_all};
-use test_support::stashes::opened;
-use test_support::{equal, holds};
+use test_support::holds;
 
 // The rows 7, 7, 7, of which the first two are both stored
 static TWO_SEVENS: [u64; 9] = [40, 40, 40, 56, 72, 3, 3, 7, 7];
 
 #[test]
 fn a_front_is_copied_as_it_stands(rt: HostRuntime) -> Result<(), Fail> {
-    let source = numbers::<Held>(rt.alloc(), RUNS.as_slice())?;
-    let mut copy = Held::with_capacity_for(rt.alloc(), [source.borrow()].iter().copied())?;
-    holds!(rt; copied(&mut copy, source.borrow(), 0, 4));
-    holds!(rt; reads(&copy, [1, 1, 2, 2].as_slice()));
-    equal!(rt; copy.inner.somes.as_slice(), [1, 2].as_slice());
-    let stash = opened::<Held>(rt.alloc(), TWO_SEVENS.as_slice()).expect(&rt, "opened");
-    let mut sevens = Held::empty(rt.alloc());
-    holds!(rt; copied(&mut sevens, stash.borrow(), 0, 3));
-    holds!(rt; reads(&sevens, [7, 7, 7].as_slice()));
-    equal!(rt; sevens.inner.somes.as_slice(), [7, 7].as_slice());
+    let source = Runs::of(rt.alloc(), RUNS.as_slice())?;
+    let mut copy = Runs::with_room_for(rt.alloc(), &source)?;
+    holds!(rt; copy.copies(&source, 0, 4));
+    holds!(rt; copy.reads([1, 1, 2, 2].as_slice()));
+    holds!(rt; copy.keeps([1, 2].as_slice()));
+    let stash = RunStash::opened(rt.alloc(), TWO_SEVENS.as_slice()).expect(&rt, "opened");
+    let mut sevens = Runs::empty(rt.alloc());
+    holds!(rt; stash.is_copied(&mut sevens, 0, 3));
+    holds!(rt; sevens.reads([7, 7, 7].as_slice()));
+    holds!(rt; sevens.keeps([7, 7].as_slice()));
     Ok(())
 }
 
 #[test]
 fn a_whole_column_is_copied(rt: HostRuntime) -> Result<(), Fail> {
-    let source = numbers::<Held>(rt.alloc(), RUNS.as_slice())?;
-    let mut copy = Held::empty(rt.alloc());
-    holds!(rt; copy.reserve_for([source.borrow()].iter().copied()).is_ok());
-    holds!(rt; copy_all(&mut copy, source.borrow()).is_ok());
-    holds!(rt; copy == source);
+    let source = Runs::of(rt.alloc(), RUNS.as_slice())?;
+    holds!(rt; source.is_copied_whole(rt.alloc()));
     Ok(())
 }
 

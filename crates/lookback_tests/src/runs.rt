@@ -3,13 +3,20 @@
 // a ghost field: so there are two.
 ghost use Rattle.columnar_core.specs.Format.{IsSound};
 
+pub(crate) mod stashes;
+
+use crate::calls::{
+    encodes, has_bytes, has_sizes, is_copied_whole, is_cut_and_cleared, twin_of, with_room,
+};
 use crate::rows::{Held, numbers, reads};
-use columnar_core::container::{Borrow, Storage};
-use columnar_core::traits::{Column, Len};
+use columnar_core::bytes::Check;
+use columnar_core::container::{Borrow, Reborrow, Storage};
+use columnar_core::traits::{Column, Index, Len};
 use columnar_lookback::lookbacks::Lookbacks;
 use std::alloc::Global;
 use std::test::Fail;
-use test_support::columns::{copied, cut, takes};
+use test_support::columns::{copied, count, cut, row_at, takes, takes_ref};
+use test_support::stores::is_written;
 
 type Far = Lookbacks<Vec<u64>, 255>;
 
@@ -34,13 +41,29 @@ impl Runs {
         })
     }
 
+    // An empty column with room for another
+    pub(crate) fn with_room_for(alloc: Global, source: &Runs) -> Result<Runs, Fail> {
+        Ok(Runs {
+            column: with_room(alloc, source.column.borrow())?,
+        })
+    }
+
     pub(crate) fn takes(&mut self, item: u64) -> bool {
+        takes(&mut self.column, item)
+    }
+
+    // Is an item taken through a reference?
+    pub(crate) fn takes_lent(&mut self, item: &u64) -> bool {
         takes(&mut self.column, item)
     }
 
     // Copies these rows of another column behind its own
     pub(crate) fn copies(&mut self, source: &Runs, start: usize, end: usize) -> bool {
         copied(&mut self.column, source.column.borrow(), start, end)
+    }
+
+    pub(crate) fn is_copied_whole(&self, alloc: Global) -> bool {
+        is_copied_whole(alloc, self.column.borrow(), &self.column)
     }
 
     pub(crate) fn cut(&mut self, n: usize) {
@@ -51,14 +74,83 @@ impl Runs {
         self.column.is_empty()
     }
 
+    pub(crate) fn count(&self) -> usize {
+        count(&self.column)
+    }
+
+    pub(crate) fn is_repeated(&self, item: u64) -> bool {
+        self.column.is_repeated(&item)
+    }
+
+    pub(crate) fn row(&self, index: usize) -> Option<u64> {
+        row_at(&self.column, index)
+    }
+
     // Has it these rows, and no other?
     pub(crate) fn reads(&self, rows: &[u64]) -> bool {
         reads(&self.column, rows)
     }
 
+    // Has it these rows, read through a reference?
+    pub(crate) fn reads_lent(&self, rows: &[&u64]) -> bool {
+        reads(&&self.column, rows)
+    }
+
+    // Have its view and a shorter one these rows, and is the view well formed?
+    pub(crate) fn views_read(&self, rows: &[u64]) -> bool {
+        let view = self.column.borrow();
+        reads(&view, rows) && reads(&view.reborrow(), rows) && view.check().is_ok()
+    }
+
+    // The last row, through a view
+    pub(crate) fn last(&self) -> Option<u64> {
+        Index::last(&self.column.borrow())
+    }
+
     // Are these the values that it keeps?
     pub(crate) fn keeps(&self, values: &[u64]) -> bool {
         self.column.inner.somes.as_slice() == values
+    }
+
+    // How many values it keeps
+    pub(crate) fn kept(&self) -> usize {
+        self.column.inner.somes.as_slice().len()
+    }
+
+    // Are these the words of its store?
+    pub(crate) fn is_written(&self, words: &[u64]) -> bool {
+        is_written(&self.column, words)
+    }
+
+    // Are these the words of its view's store?
+    pub(crate) fn encodes(&self, alloc: Global, words: &[u64]) -> bool {
+        encodes(alloc, &self.column.borrow(), words)
+    }
+
+    // Have its slices elements of these sizes?
+    pub(crate) fn has_sizes(alloc: Global, sizes: &[usize]) -> bool {
+        has_sizes::<Held>(alloc, sizes)
+    }
+
+    // Has slice `index` as many bytes, and so its view's?
+    pub(crate) fn has_bytes(&self, index: usize, bytes: usize) -> bool {
+        has_bytes(&self.column, &self.column.borrow(), index, bytes)
+    }
+
+    // The clone of its duplicate, where both have these rows and are equal
+    pub(crate) fn twin(&self, alloc: Global, rows: &[u64]) -> Option<Held> {
+        twin_of(alloc, &self.column, rows)
+    }
+
+    // Does it differ from its twin once it is cut? Is it an empty one once it is cleared, and takes an item then?
+    pub(crate) fn is_cut_and_cleared(
+        &mut self,
+        alloc: Global,
+        twin: &Held,
+        count: usize,
+        item: u64,
+    ) -> bool {
+        is_cut_and_cleared(alloc, &mut self.column, twin, count, item)
     }
 }
 
@@ -83,13 +175,34 @@ impl Backs {
         })
     }
 
+    // An empty column with room for another
+    pub(crate) fn with_room_for(alloc: Global, source: &Backs) -> Result<Backs, Fail> {
+        Ok(Backs {
+            column: with_room(alloc, source.column.borrow())?,
+        })
+    }
+
     pub(crate) fn takes(&mut self, item: u64) -> bool {
         takes(&mut self.column, item)
+    }
+
+    // Is an item taken through a reference?
+    pub(crate) fn takes_lent(&mut self, item: &u64) -> bool {
+        takes(&mut self.column, item)
+    }
+
+    // Is an item taken by reference?
+    pub(crate) fn takes_ref(&mut self, item: &u64) -> bool {
+        takes_ref(&mut self.column, item)
     }
 
     // Copies these rows of another column behind its own
     pub(crate) fn copies(&mut self, source: &Backs, start: usize, end: usize) -> bool {
         copied(&mut self.column, source.column.borrow(), start, end)
+    }
+
+    pub(crate) fn is_copied_whole(&self, alloc: Global) -> bool {
+        is_copied_whole(alloc, self.column.borrow(), &self.column)
     }
 
     pub(crate) fn cut(&mut self, n: usize) {
@@ -100,13 +213,77 @@ impl Backs {
         self.column.is_empty()
     }
 
+    pub(crate) fn count(&self) -> usize {
+        count(&self.column)
+    }
+
+    pub(crate) fn distance_to(&self, item: u64) -> Option<u8> {
+        self.column.distance_to(&item)
+    }
+
+    pub(crate) fn row(&self, index: usize) -> Option<u64> {
+        row_at(&self.column, index)
+    }
+
     // Has it these rows, and no other?
     pub(crate) fn reads(&self, rows: &[u64]) -> bool {
         reads(&self.column, rows)
     }
 
+    // Has it these rows, read through a reference?
+    pub(crate) fn reads_lent(&self, rows: &[&u64]) -> bool {
+        reads(&&self.column, rows)
+    }
+
+    // Have its view and a shorter one these rows, and is the view well formed?
+    pub(crate) fn views_read(&self, rows: &[u64]) -> bool {
+        let view = self.column.borrow();
+        reads(&view, rows) && reads(&view.reborrow(), rows) && view.check().is_ok()
+    }
+
+    // The last row, through a view
+    pub(crate) fn last(&self) -> Option<u64> {
+        Index::last(&self.column.borrow())
+    }
+
     // Are these the values that it keeps, and these the distances?
     pub(crate) fn keeps(&self, values: &[u64], distances: &[u8]) -> bool {
         self.column.inner.oks.as_slice() == values && self.column.inner.errs.as_slice() == distances
+    }
+
+    // Are these the words of its store?
+    pub(crate) fn is_written(&self, words: &[u64]) -> bool {
+        is_written(&self.column, words)
+    }
+
+    // Are these the words of its view's store?
+    pub(crate) fn encodes(&self, alloc: Global, words: &[u64]) -> bool {
+        encodes(alloc, &self.column.borrow(), words)
+    }
+
+    // Have its slices elements of these sizes?
+    pub(crate) fn has_sizes(alloc: Global, sizes: &[usize]) -> bool {
+        has_sizes::<Far>(alloc, sizes)
+    }
+
+    // Has slice `index` as many bytes, and so its view's?
+    pub(crate) fn has_bytes(&self, index: usize, bytes: usize) -> bool {
+        has_bytes(&self.column, &self.column.borrow(), index, bytes)
+    }
+
+    // The clone of its duplicate, where both have these rows and are equal
+    pub(crate) fn twin(&self, alloc: Global, rows: &[u64]) -> Option<Far> {
+        twin_of(alloc, &self.column, rows)
+    }
+
+    // Does it differ from its twin once it is cut? Is it an empty one once it is cleared, and takes an item then?
+    pub(crate) fn is_cut_and_cleared(
+        &mut self,
+        alloc: Global,
+        twin: &Far,
+        count: usize,
+        item: u64,
+    ) -> bool {
+        is_cut_and_cleared(alloc, &mut self.column, twin, count, item)
     }
 }

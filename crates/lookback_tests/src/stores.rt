@@ -1,20 +1,17 @@
 // Worked stores of runs, and which rule others break at which slice.
 
-use crate::rows::{Held, RUNS, numbers, reads};
-use columnar_bytes::indexed::{encode, validate};
-use columnar_bytes::stash::Stash;
-use columnar_core::bytes::{AsBytes, Check, Stored};
-use columnar_core::container::{Borrow, ContainerBytes, Storage};
+use crate::rows::{Held, RUNS};
+use crate::runs::Runs;
+use crate::runs::stashes::RunStash;
+use columnar_core::bytes::Check;
 use columnar_core::fault::StoreFault;
-use columnar_core::traits::Len;
 use columnar_core::view::View;
 use columnar_lookback::repeats::Repeats;
 use columnar_primitive::bools::Bools;
 use columnar_sums::option::Options;
 use columnar_sums::rank_select::RankSelect;
 use std::test::Fail;
-use test_support::stashes::{has, opened, reopened, variant, writes};
-use test_support::stores::{is_written, refusal};
+use test_support::stores::refusal;
 use test_support::{equal, holds};
 
 type Viewed<'a> = Repeats<View<'a, u64>, View<'a, u64>, View<'a, u64>, View<'a, u64>>;
@@ -31,24 +28,24 @@ static NO_FIRST: [u64; 7] = [40, 40, 40, 56, 56, 0, 1];
 #[test]
 fn a_store_that_is_accepted(rt: HostRuntime) -> Result<(), Fail> {
     equal!(rt;
-        refusal::<Held>(rt.alloc(), SEVENS_AND_NINE.as_slice())?,
-        (0, 0)
+        RunStash::refusal(rt.alloc(), SEVENS_AND_NINE.as_slice()),
+        Some((0, 0))
     );
-    let stash = opened::<Held>(rt.alloc(), SEVENS_AND_NINE.as_slice()).expect(&rt, "opened");
-    equal!(rt; variant(&stash), 1);
-    holds!(rt; has(&stash, [7, 7, 9].as_slice()));
+    let stash = RunStash::opened(rt.alloc(), SEVENS_AND_NINE.as_slice()).expect(&rt, "opened");
+    equal!(rt; stash.variant(), 1);
+    holds!(rt; stash.has([7, 7, 9].as_slice()));
     let none = [40, 40, 40, 56, 56, 0, 0];
-    equal!(rt; refusal::<Held>(rt.alloc(), none.as_slice())?, (0, 0));
-    let stash = opened::<Held>(rt.alloc(), none.as_slice()).expect(&rt, "opened");
+    equal!(rt; RunStash::refusal(rt.alloc(), none.as_slice()), Some((0, 0)));
+    let stash = RunStash::opened(rt.alloc(), none.as_slice()).expect(&rt, "opened");
     holds!(rt; stash.is_empty());
     Ok(())
 }
 
 #[test]
 fn the_first_row_is_a_value(rt: HostRuntime) -> Result<(), Fail> {
-    equal!(rt; refusal::<Held>(rt.alloc(), NO_FIRST.as_slice())?, (15, 0));
+    equal!(rt; RunStash::refusal(rt.alloc(), NO_FIRST.as_slice()), Some((15, 0)));
     let second = [40, 40, 40, 56, 64, 2, 2, 7];
-    equal!(rt; refusal::<Held>(rt.alloc(), second.as_slice())?, (15, 0));
+    equal!(rt; RunStash::refusal(rt.alloc(), second.as_slice()), Some((15, 0)));
     let behind_one = [48, 56, 56, 56, 72, 72, 5, 0, 1];
     equal!(rt;
         refusal::<(Vec<u64>, Held)>(rt.alloc(), behind_one.as_slice())?,
@@ -60,12 +57,12 @@ fn the_first_row_is_a_value(rt: HostRuntime) -> Result<(), Fail> {
 #[test]
 fn as_many_values_as_bits(rt: HostRuntime) -> Result<(), Fail> {
     let too_many = [40, 40, 40, 56, 80, 5, 3, 7, 9, 8];
-    equal!(rt; refusal::<Held>(rt.alloc(), too_many.as_slice())?, (10, 0));
+    equal!(rt; RunStash::refusal(rt.alloc(), too_many.as_slice()), Some((10, 0)));
     let too_few = [40, 40, 40, 56, 64, 5, 3, 7];
-    equal!(rt; refusal::<Held>(rt.alloc(), too_few.as_slice())?, (10, 0));
+    equal!(rt; RunStash::refusal(rt.alloc(), too_few.as_slice()), Some((10, 0)));
     // (this rule comes before that of the first row)
     let no_bit = [40, 40, 40, 56, 64, 0, 1, 7];
-    equal!(rt; refusal::<Held>(rt.alloc(), no_bit.as_slice())?, (10, 0));
+    equal!(rt; RunStash::refusal(rt.alloc(), no_bit.as_slice()), Some((10, 0)));
     Ok(())
 }
 
@@ -96,39 +93,31 @@ fn a_view_tests_itself(rt: HostRuntime) -> Result<(), Fail> {
 
 #[test]
 fn runs_are_written_tested_and_opened(rt: HostRuntime) -> Result<(), Fail> {
-    let column = numbers::<Held>(rt.alloc(), RUNS.as_slice())?;
-    holds!(rt; is_written(&column, RUNS_STORED.as_slice()));
-    let mut words = Vec::new(rt.alloc());
-    holds!(rt; encode(&mut words, &column.borrow()).is_ok());
-    equal!(rt; words.as_slice(), RUNS_STORED.as_slice());
-    let stash = reopened(rt.alloc(), &Stash::<_, Vec<u8>>::Typed(column)).expect(&rt, "reopened");
-    equal!(rt; variant(&stash), 1);
-    holds!(rt; has(&stash, RUNS.as_slice()));
-    holds!(rt; writes(&stash, RUNS_STORED.as_slice()));
+    let column = Runs::of(rt.alloc(), RUNS.as_slice())?;
+    holds!(rt; column.is_written(RUNS_STORED.as_slice()));
+    holds!(rt; column.encodes(rt.alloc(), RUNS_STORED.as_slice()));
+    let stash = RunStash::reopened(rt.alloc(), column).expect(&rt, "reopened");
+    equal!(rt; stash.variant(), 1);
+    holds!(rt; stash.has(RUNS.as_slice()));
+    holds!(rt; stash.writes(RUNS_STORED.as_slice()));
     Ok(())
 }
 
 #[test]
 fn a_store_is_loaded_as_it_stands(rt: HostRuntime) -> Result<(), Fail> {
     let two_sevens = [40, 40, 40, 56, 72, 3, 3, 7, 7];
-    let stash = opened::<Held>(rt.alloc(), two_sevens.as_slice()).expect(&rt, "opened");
-    let Stash::Typed(column) = stash.to_typed(rt.alloc())? else {
-        return Err(Fail::from("not a column"));
-    };
-    equal!(rt; column.inner.somes.as_slice(), [7, 7].as_slice());
-    holds!(rt; is_written(&column, two_sevens.as_slice()));
+    let stash = RunStash::opened(rt.alloc(), two_sevens.as_slice()).expect(&rt, "opened");
+    let column = stash.loaded(rt.alloc())?;
+    holds!(rt; column.keeps([7, 7].as_slice()));
+    holds!(rt; column.is_written(two_sevens.as_slice()));
     Ok(())
 }
 
 #[test]
 fn slices_of_runs(rt: HostRuntime) -> Result<(), Fail> {
-    let mut sizes = Vec::new(rt.alloc());
-    equal!(rt; Held::slice_count(), 4);
-    holds!(rt; Held::element_sizes(&mut sizes).is_ok());
-    equal!(rt; sizes.as_slice(), [8, 8, 8, 8].as_slice());
-    let column = numbers::<Held>(rt.alloc(), RUNS.as_slice())?;
-    equal!(rt; column.byte_slice(2).len(), 16);
-    equal!(rt; column.byte_slice(3).len(), 24);
-    equal!(rt; column.borrow().get_byte_slice(3).1.len(), 24);
+    holds!(rt; Runs::has_sizes(rt.alloc(), [8, 8, 8, 8].as_slice()));
+    let column = Runs::of(rt.alloc(), RUNS.as_slice())?;
+    holds!(rt; column.has_bytes(2, 16));
+    holds!(rt; column.has_bytes(3, 24));
     Ok(())
 }

@@ -1,40 +1,36 @@
 // Ranges of rows that are copied: which values and distances are stored, by worked rows.
 
-use super::{Far, RETURNS, Two, keeps};
+use super::{RETURNS, Two, keeps};
 use crate::rows::{numbers, reads};
 use crate::runs::Backs;
-use columnar_bytes::stash::Stash;
-use columnar_core::container::{Borrow, ExtendFrom, Storage};
+use crate::runs::stashes::BackStash;
+use columnar_core::container::Borrow;
 use std::test::Fail;
-use test_support::columns::{copied, copy_all};
+use test_support::columns::copied;
 use test_support::holds;
-use test_support::stashes::opened;
 
 // The rows 7, 7, 7, of which the first two are both stored
 static TWO_SEVENS: [u64; 11] = [48, 48, 48, 64, 80, 81, 3, 3, 7, 7, 0];
 
 #[test]
 fn a_front_is_copied_as_it_stands(rt: HostRuntime) -> Result<(), Fail> {
-    let source = numbers::<Far>(rt.alloc(), RETURNS.as_slice())?;
-    let mut copy = Far::with_capacity_for(rt.alloc(), [source.borrow()].iter().copied())?;
-    holds!(rt; copied(&mut copy, source.borrow(), 0, 4));
-    holds!(rt; reads(&copy, [10, 20, 10, 30].as_slice()));
-    holds!(rt; keeps(&copy, [10, 20, 30].as_slice(), [1].as_slice()));
-    let stash = opened::<Far>(rt.alloc(), TWO_SEVENS.as_slice()).expect(&rt, "opened");
-    let mut sevens = Far::empty(rt.alloc());
-    holds!(rt; copied(&mut sevens, stash.borrow(), 0, 3));
-    holds!(rt; reads(&sevens, [7, 7, 7].as_slice()));
-    holds!(rt; keeps(&sevens, [7, 7].as_slice(), [0].as_slice()));
+    let source = Backs::of(rt.alloc(), RETURNS.as_slice())?;
+    let mut copy = Backs::with_room_for(rt.alloc(), &source)?;
+    holds!(rt; copy.copies(&source, 0, 4));
+    holds!(rt; copy.reads([10, 20, 10, 30].as_slice()));
+    holds!(rt; copy.keeps([10, 20, 30].as_slice(), [1].as_slice()));
+    let stash = BackStash::opened(rt.alloc(), TWO_SEVENS.as_slice()).expect(&rt, "opened");
+    let mut sevens = Backs::empty(rt.alloc());
+    holds!(rt; stash.is_copied(&mut sevens, 0, 3));
+    holds!(rt; sevens.reads([7, 7, 7].as_slice()));
+    holds!(rt; sevens.keeps([7, 7].as_slice(), [0].as_slice()));
     Ok(())
 }
 
 #[test]
 fn a_whole_column_is_copied(rt: HostRuntime) -> Result<(), Fail> {
-    let source = numbers::<Far>(rt.alloc(), RETURNS.as_slice())?;
-    let mut copy = Far::empty(rt.alloc());
-    holds!(rt; copy.reserve_for([source.borrow()].iter().copied()).is_ok());
-    holds!(rt; copy_all(&mut copy, source.borrow()).is_ok());
-    holds!(rt; copy == source);
+    let source = Backs::of(rt.alloc(), RETURNS.as_slice())?;
+    holds!(rt; source.is_copied_whole(rt.alloc()));
     Ok(())
 }
 

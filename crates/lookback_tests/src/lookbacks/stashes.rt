@@ -3,40 +3,39 @@ ghost use Rattle.std.specs.Prelude.{All, IsTrue};
 ghost use Rattle.columnar_core.specs.Format.{IsSound, representable};
 ghost use Rattle.columnar_bytes.specs.Machine.{IsValid};
 
-use super::{Far, RETURNS};
+use super::RETURNS;
 use crate::rows::numbers;
+use crate::runs::Backs;
+use crate::runs::stashes::BackStash;
 use columnar_bytes::stash::{Command, Refusal, Reply, Stash, run};
 use columnar_core::container::{Borrow, ContainerBytes, ExtendFrom, Storage};
-use columnar_core::traits::{Clear, Item, Len, Push, PushRef};
+use columnar_core::traits::{Item, Len, PushRef};
+use columnar_lookback::lookbacks::Lookbacks;
 use std::alloc::Global;
 use std::test::Fail;
-use test_support::stashes::{has, opened, variant, writes};
+use test_support::stashes::writes;
 use test_support::{equal, holds};
+
+type Held = Lookbacks<Vec<u64>, 255>;
 
 // The rows 7, 9, 7: the bits 1, 1, 0, the values 7, 9 and the distance 1
 static SEVEN_AGAIN: [u64; 11] = [48, 48, 48, 64, 80, 81, 3, 3, 7, 9, 1];
 
 #[test]
 fn a_stash_grows_and_is_cut(rt: HostRuntime) -> Result<(), Fail> {
-    let source = numbers::<Far>(rt.alloc(), RETURNS.as_slice())?;
-    let mut stash = Stash::<Far, Vec<u8>>::empty(rt.alloc());
-    holds!(rt; stash.push(7u64).is_ok());
-    holds!(rt; stash.push(&9u64).is_ok());
-    holds!(rt; stash.push_ref(&7u64).is_ok());
-    holds!(rt; writes(&stash, SEVEN_AGAIN.as_slice()));
-    let view = source.borrow();
-    if view.len() < 3 {
-        return Err(Fail::from("too few"));
-    }
-    holds!(rt; stash.extend_from_self(view, 1..3).is_ok());
-    holds!(rt; has(&stash, [7, 9, 7, 20, 10].as_slice()));
+    let source = Backs::of(rt.alloc(), RETURNS.as_slice())?;
+    let mut stash = BackStash::empty(rt.alloc());
+    holds!(rt; stash.takes(7));
+    holds!(rt; stash.takes_lent(&9));
+    holds!(rt; stash.takes_ref(&7));
+    holds!(rt; stash.writes(SEVEN_AGAIN.as_slice()));
+    holds!(rt; stash.copies(&source, 1, 3));
+    holds!(rt; stash.has([7, 9, 7, 20, 10].as_slice()));
     equal!(rt; stash.length_in_bytes(), Some(104));
-    if stash.len() > 2 {
-        holds!(rt; stash.truncate(2).is_ok());
-    }
-    holds!(rt; writes(&stash, [48, 48, 48, 64, 80, 80, 3, 2, 7, 9].as_slice()));
+    holds!(rt; stash.is_cut(2));
+    holds!(rt; stash.writes([48, 48, 48, 64, 80, 80, 3, 2, 7, 9].as_slice()));
     stash.clear();
-    holds!(rt; writes(&stash, [48, 48, 48, 64, 64, 64, 0, 0].as_slice()));
+    holds!(rt; stash.writes([48, 48, 48, 64, 64, 64, 0, 0].as_slice()));
     Ok(())
 }
 
@@ -45,16 +44,16 @@ static NINE_AGAIN: [u64; 11] = [48, 48, 48, 64, 80, 82, 3, 4, 7, 9, 1];
 
 #[test]
 fn opened_bytes_grow(rt: HostRuntime) -> Result<(), Fail> {
-    let mut stash = opened::<Far>(rt.alloc(), SEVEN_AGAIN.as_slice()).expect(&rt, "opened");
-    equal!(rt; variant(&stash), 1);
-    holds!(rt; stash.make_aligned(rt.alloc()).is_ok());
-    equal!(rt; variant(&stash), 2);
-    holds!(rt; has(&stash, [7, 9, 7].as_slice()));
-    holds!(rt; stash.push(9u64).is_ok());
-    equal!(rt; variant(&stash), 0);
-    holds!(rt; has(&stash, [7, 9, 7, 9].as_slice()));
-    holds!(rt; writes(&stash, NINE_AGAIN.as_slice()));
-    holds!(rt; writes(&stash.clone()?, NINE_AGAIN.as_slice()));
+    let mut stash = BackStash::opened(rt.alloc(), SEVEN_AGAIN.as_slice()).expect(&rt, "opened");
+    equal!(rt; stash.variant(), 1);
+    holds!(rt; stash.aligns(rt.alloc()));
+    equal!(rt; stash.variant(), 2);
+    holds!(rt; stash.has([7, 9, 7].as_slice()));
+    holds!(rt; stash.takes(9));
+    equal!(rt; stash.variant(), 0);
+    holds!(rt; stash.has([7, 9, 7, 9].as_slice()));
+    holds!(rt; stash.writes(NINE_AGAIN.as_slice()));
+    holds!(rt; stash.clone_writes(NINE_AGAIN.as_slice()));
     Ok(())
 }
 
@@ -84,7 +83,7 @@ const RANGE: Reply = Reply::Refused(Refusal::Range);
 // Left are 10, 20, 10 and 20
 #[test]
 fn a_list_of_commands(rt: HostRuntime) -> Result<(), Fail> {
-    let source = numbers::<Far>(rt.alloc(), RETURNS.as_slice())?;
+    let source = numbers::<Held>(rt.alloc(), RETURNS.as_slice())?;
     let commands = [
         Command::Push(10u64),
         Command::Reopen,
@@ -98,7 +97,7 @@ fn a_list_of_commands(rt: HostRuntime) -> Result<(), Fail> {
     let wanted = [DONE, DONE, DONE, RANGE, DONE, DONE, DONE, DONE];
     let after = [48, 48, 48, 64, 80, 82, 3, 4, 10, 20, 1];
     holds!(rt;
-        tells::<_, _, Far>(
+        tells::<_, _, Held>(
             rt.alloc(),
             source.borrow(),
             commands.as_slice(),

@@ -1,22 +1,21 @@
 // Worked stores of distances, and which rule others break at which slice.
 
-use super::{Far, RETURNS, Two, keeps};
-use crate::rows::{numbers, reads};
-use columnar_bytes::indexed::encode;
-use columnar_bytes::stash::Stash;
-use columnar_core::bytes::{AsBytes, Check, Stored};
-use columnar_core::container::{Borrow, ContainerBytes};
+use super::{RETURNS, Two};
+use crate::runs::Backs;
+use crate::runs::stashes::BackStash;
+use columnar_core::bytes::Check;
 use columnar_core::fault::StoreFault;
-use columnar_core::traits::{Len, Push};
 use columnar_core::view::View;
 use columnar_lookback::lookbacks::Lookbacks;
 use columnar_primitive::bools::Bools;
 use columnar_sums::rank_select::RankSelect;
 use columnar_sums::result::Results;
 use std::test::Fail;
-use test_support::stashes::{has, opened, reopened, variant, writes};
-use test_support::stores::{is_written, refusal};
+use test_support::stashes::{has, opened};
+use test_support::stores::refusal;
 use test_support::{equal, holds};
+
+type Held = Lookbacks<Vec<u64>, 255>;
 
 type Viewed<'a> = Lookbacks<
     View<'a, u64>,
@@ -33,15 +32,15 @@ static RETURNS_STORED: [u64; 12] = [48, 48, 48, 64, 88, 90, 11, 5, 10, 20, 30, 2
 #[test]
 fn a_store_that_is_accepted(rt: HostRuntime) -> Result<(), Fail> {
     equal!(rt;
-        refusal::<Far>(rt.alloc(), RETURNS_STORED.as_slice())?,
-        (0, 0)
+        BackStash::refusal(rt.alloc(), RETURNS_STORED.as_slice()),
+        Some((0, 0))
     );
-    let stash = opened::<Far>(rt.alloc(), RETURNS_STORED.as_slice()).expect(&rt, "opened");
-    equal!(rt; variant(&stash), 1);
-    holds!(rt; has(&stash, RETURNS.as_slice()));
+    let stash = BackStash::opened(rt.alloc(), RETURNS_STORED.as_slice()).expect(&rt, "opened");
+    equal!(rt; stash.variant(), 1);
+    holds!(rt; stash.has(RETURNS.as_slice()));
     let none = [48, 48, 48, 64, 64, 64, 0, 0];
-    equal!(rt; refusal::<Far>(rt.alloc(), none.as_slice())?, (0, 0));
-    let stash = opened::<Far>(rt.alloc(), none.as_slice()).expect(&rt, "opened");
+    equal!(rt; BackStash::refusal(rt.alloc(), none.as_slice()), Some((0, 0)));
+    let stash = BackStash::opened(rt.alloc(), none.as_slice()).expect(&rt, "opened");
     holds!(rt; stash.is_empty());
     Ok(())
 }
@@ -50,14 +49,14 @@ fn a_store_that_is_accepted(rt: HostRuntime) -> Result<(), Fail> {
 fn each_distance_is_below_the_values_before_it(rt: HostRuntime) -> Result<(), Fail> {
     let alloc = rt.alloc();
     let first_too_far = [48, 48, 48, 64, 88, 90, 11, 5, 10, 20, 30, 258];
-    equal!(rt; refusal::<Far>(alloc, first_too_far.as_slice())?, (15, 0));
+    equal!(rt; BackStash::refusal(alloc, first_too_far.as_slice()), Some((15, 0)));
     let last_too_far = [48, 48, 48, 64, 88, 90, 11, 5, 10, 20, 30, 769];
-    equal!(rt; refusal::<Far>(alloc, last_too_far.as_slice())?, (15, 0));
+    equal!(rt; BackStash::refusal(alloc, last_too_far.as_slice()), Some((15, 0)));
     let no_value = [48, 48, 48, 64, 64, 65, 0, 1, 0];
-    equal!(rt; refusal::<Far>(alloc, no_value.as_slice())?, (15, 0));
+    equal!(rt; BackStash::refusal(alloc, no_value.as_slice()), Some((15, 0)));
     let behind_one = [56, 64, 64, 64, 80, 80, 81, 5, 0, 1, 0];
     equal!(rt;
-        refusal::<(Vec<u64>, Far)>(alloc, behind_one.as_slice())?,
+        refusal::<(Vec<u64>, Held)>(alloc, behind_one.as_slice())?,
         (15, 1)
     );
     Ok(())
@@ -69,9 +68,9 @@ fn a_distance_may_be_further_than_a_push_looks(rt: HostRuntime) -> Result<(), Fa
     let alloc = rt.alloc();
     let words = [48, 48, 48, 64, 88, 90, 11, 5, 10, 20, 30, 513];
     let rows = [10, 20, 10, 30, 10];
-    equal!(rt; refusal::<Far>(alloc, words.as_slice())?, (0, 0));
-    let far = opened::<Far>(alloc, words.as_slice()).expect(&rt, "opened");
-    holds!(rt; has(&far, rows.as_slice()));
+    equal!(rt; BackStash::refusal(alloc, words.as_slice()), Some((0, 0)));
+    let far = BackStash::opened(alloc, words.as_slice()).expect(&rt, "opened");
+    holds!(rt; far.has(rows.as_slice()));
     equal!(rt; refusal::<Two>(alloc, words.as_slice())?, (0, 0));
     let two = opened::<Two>(alloc, words.as_slice()).expect(&rt, "opened");
     holds!(rt; has(&two, rows.as_slice()));
@@ -82,15 +81,10 @@ fn a_distance_may_be_further_than_a_push_looks(rt: HostRuntime) -> Result<(), Fa
 #[test]
 fn the_least_distance_is_kept(rt: HostRuntime) -> Result<(), Fail> {
     let words = [48, 48, 48, 64, 88, 88, 7, 3, 7, 7, 9];
-    let mut stash = opened::<Far>(rt.alloc(), words.as_slice()).expect(&rt, "opened");
-    holds!(rt; stash.push(7u64).is_ok());
-    holds!(rt; has(&stash, [7, 7, 9, 7].as_slice()));
-    holds!(rt;
-        writes(
-            &stash,
-            [48, 48, 48, 64, 88, 89, 7, 4, 7, 7, 9, 1].as_slice()
-        )
-    );
+    let mut stash = BackStash::opened(rt.alloc(), words.as_slice()).expect(&rt, "opened");
+    holds!(rt; stash.takes(7));
+    holds!(rt; stash.has([7, 7, 9, 7].as_slice()));
+    holds!(rt; stash.writes([48, 48, 48, 64, 88, 89, 7, 4, 7, 7, 9, 1].as_slice()));
     Ok(())
 }
 
@@ -98,15 +92,15 @@ fn the_least_distance_is_kept(rt: HostRuntime) -> Result<(), Fail> {
 fn as_many_values_and_distances_as_bits(rt: HostRuntime) -> Result<(), Fail> {
     let alloc = rt.alloc();
     let one_value_more = [48, 48, 48, 64, 96, 98, 11, 5, 10, 20, 30, 40, 257];
-    equal!(rt; refusal::<Far>(alloc, one_value_more.as_slice())?, (10, 0));
+    equal!(rt; BackStash::refusal(alloc, one_value_more.as_slice()), Some((10, 0)));
     let one_distance_less = [48, 48, 48, 64, 88, 89, 11, 5, 10, 20, 30, 1];
     equal!(rt;
-        refusal::<Far>(alloc, one_distance_less.as_slice())?,
-        (10, 0)
+        BackStash::refusal(alloc, one_distance_less.as_slice()),
+        Some((10, 0))
     );
     // (this rule comes before that of the distances)
     let no_bit = [48, 48, 48, 64, 72, 73, 0, 1, 7, 1];
-    equal!(rt; refusal::<Far>(alloc, no_bit.as_slice())?, (10, 0));
+    equal!(rt; BackStash::refusal(alloc, no_bit.as_slice()), Some((10, 0)));
     Ok(())
 }
 
@@ -154,39 +148,32 @@ fn a_view_tests_itself(rt: HostRuntime) -> Result<(), Fail> {
 
 #[test]
 fn distances_are_written_tested_and_opened(rt: HostRuntime) -> Result<(), Fail> {
-    let column = numbers::<Far>(rt.alloc(), RETURNS.as_slice())?;
-    holds!(rt; is_written(&column, RETURNS_STORED.as_slice()));
-    let mut words = Vec::new(rt.alloc());
-    holds!(rt; encode(&mut words, &column.borrow()).is_ok());
-    equal!(rt; words.as_slice(), RETURNS_STORED.as_slice());
-    let stash = reopened(rt.alloc(), &Stash::<_, Vec<u8>>::Typed(column)).expect(&rt, "reopened");
-    equal!(rt; variant(&stash), 1);
-    holds!(rt; has(&stash, RETURNS.as_slice()));
-    holds!(rt; writes(&stash, RETURNS_STORED.as_slice()));
+    let column = Backs::of(rt.alloc(), RETURNS.as_slice())?;
+    holds!(rt; column.is_written(RETURNS_STORED.as_slice()));
+    holds!(rt; column.encodes(rt.alloc(), RETURNS_STORED.as_slice()));
+    let stash = BackStash::reopened(rt.alloc(), column).expect(&rt, "reopened");
+    equal!(rt; stash.variant(), 1);
+    holds!(rt; stash.has(RETURNS.as_slice()));
+    holds!(rt; stash.writes(RETURNS_STORED.as_slice()));
     Ok(())
 }
 
 #[test]
 fn a_store_is_loaded_as_it_stands(rt: HostRuntime) -> Result<(), Fail> {
     let two_sevens = [48, 48, 48, 64, 80, 81, 3, 3, 7, 7, 1];
-    let stash = opened::<Far>(rt.alloc(), two_sevens.as_slice()).expect(&rt, "opened");
-    let Stash::Typed(column) = stash.to_typed(rt.alloc())? else {
-        return Err(Fail::from("not a column"));
-    };
-    holds!(rt; keeps(&column, [7, 7].as_slice(), [1].as_slice()));
-    holds!(rt; is_written(&column, two_sevens.as_slice()));
+    let stash = BackStash::opened(rt.alloc(), two_sevens.as_slice()).expect(&rt, "opened");
+    let column = stash.loaded(rt.alloc())?;
+    holds!(rt; column.keeps([7, 7].as_slice(), [1].as_slice()));
+    holds!(rt; column.is_written(two_sevens.as_slice()));
     Ok(())
 }
 
 #[test]
 fn slices_of_distances(rt: HostRuntime) -> Result<(), Fail> {
-    let mut sizes = Vec::new(rt.alloc());
-    equal!(rt; Far::slice_count(), 5);
-    holds!(rt; Far::element_sizes(&mut sizes).is_ok());
-    equal!(rt; sizes.as_slice(), [8, 8, 8, 8, 1].as_slice());
-    let column = numbers::<Far>(rt.alloc(), RETURNS.as_slice())?;
-    equal!(rt; column.byte_slice(2).len(), 16);
-    equal!(rt; column.byte_slice(3).len(), 24);
-    equal!(rt; column.borrow().get_byte_slice(4).1.len(), 2);
+    holds!(rt; Backs::has_sizes(rt.alloc(), [8, 8, 8, 8, 1].as_slice()));
+    let column = Backs::of(rt.alloc(), RETURNS.as_slice())?;
+    holds!(rt; column.has_bytes(2, 16));
+    holds!(rt; column.has_bytes(3, 24));
+    holds!(rt; column.has_bytes(4, 2));
     Ok(())
 }

@@ -1,4 +1,4 @@
-use Rattle.std.proofs.Common.{◌≡◌, ℕ, ◌<◌, ◌≤◌, Bool, true, false, ◌&&◌, List, [], ◌∷◌, ◌++◌, length, refl, sym, ◌∙◌, ap, arith}
+use Rattle.std.proofs.Common.{◌≡◌, ℕ, ◌<◌, ◌≤◌, true, List, [], ◌∷◌, length, refl, sym, ◌∙◌, ap, arith}
 use Rattle.std.specs.Prelude.{nat_eq, Result, Ok, Err, IfErr}
 use Rattle.std.proofs.lemmas.Bool.{and_parts, and_from, eqb-true, eq-eqb}
 use Rattle.columnar_base.specs.Row.{Row}
@@ -8,7 +8,7 @@ use Rattle.columnar_base.specs.ChangeLaws.{true_from, unchanged}
 use Rattle.columnar_base.specs.TwoParts.{TwoParts, two_parts, two_sound}
 use Rattle.columnar_base.specs.declared.fault.GrowError.{GrowError}
 use Rattle.columnar_base.specs.Tuples.{tuples, pair_format}
-use Rattle.columnar_base.specs.TupleLaws.{pair_parts, pair_sound, pair_lawful, pair_storable, pair_stayed, pair_cut, length-tuples}
+use Rattle.columnar_base.specs.TupleLaws.{pair_parts, pair_sound, pair_stayed, pair_cut, length-tuples}
 use Rattle.columnar_base.specs.LongTuples.{under, nested, sides, are_level, tuple_level, tuple_format, PartOf, Parts, PartsStayed, PartsCut}
 
 -- the same columns under other rules

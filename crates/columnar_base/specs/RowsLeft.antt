@@ -1,5 +1,5 @@
 -- The rows that an iterator over a column has left.
-use Rattle.std.specs.Prelude.{List, [], ◌∷◌, ◌≡◌, drop, Option, MatchOption, IfSome}
+use Rattle.std.specs.Prelude.{List, [], ◌∷◌, drop, Option, IfSome}
 use Rattle.std.specs.Iterator.{YieldsFirstBy}
 use Rattle.columnar_base.specs.Row.{Row}
 use Rattle.columnar_base.specs.declared.iter.IterOwn.{IterOwn}

@@ -1,13 +1,12 @@
-use Rattle.std.proofs.Common.{◌≡◌, ℕ, zero, suc, ◌+◌, ◌<◌, ◌≤◌, Bool, true, false, ◌&&◌, List, [], ◌∷◌, ◌++◌, length, take, drop, refl, sym, ◌∙◌, ap, arith}
+use Rattle.std.proofs.Common.{◌≡◌, ℕ, ◌+◌, Bool, true, List, [], ◌∷◌, ◌++◌, length, take, drop, refl, sym, ◌∙◌, ap, arith}
 use Rattle.std.specs.Prelude.{slice_get, Some, Result, Ok, Err, OnOk, IfErr}
 use Rattle.std.proofs.lemmas.List.{map-append, length-map, take-map, drop-map}
 use Rattle.std.proofs.lemmas.Option.{slice_get-map}
 use Rattle.std.proofs.lemmas.Bool.{and_parts, and_from}
 use Rattle.columnar_base.specs.Row.{Row, solo, row_eq}
-use Rattle.columnar_base.specs.RowLaws.{row_eq-refl}
 use Rattle.columnar_base.specs.AlikeLaws.{same_pulled, same_both, row_eq_same}
-use Rattle.columnar_base.specs.Format.{Format, Content, IsSound, IsLawful, IsStorable, IsSame, Fits, lengths, all_alike, Excess, refuses_more}
-use Rattle.columnar_base.specs.Change.{Keeps, Grew, Stayed, WasCut, Took, Copied, Refused}
+use Rattle.columnar_base.specs.Format.{Format, Content, IsSound, IsLawful, IsStorable, IsSame, Fits, all_alike, Excess, refuses_more}
+use Rattle.columnar_base.specs.Change.{Keeps, Stayed, WasCut, Took, Copied, Refused}
 use Rattle.columnar_base.specs.ChangeLaws.{true_from}
 use Rattle.columnar_base.specs.declared.fault.GrowError.{GrowError}
 use Rattle.columnar_base.specs.Solos.{only_of, bare_solo, solos, onlies, solo_alike, solo_format}

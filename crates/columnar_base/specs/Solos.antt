@@ -1,7 +1,7 @@
 -- A column alone in a tuple: each row is the tuple of its one row.
-use Rattle.std.specs.Prelude.{ℕ, Bool, List, ◌&&◌, map}
+use Rattle.std.specs.Prelude.{Bool, List, ◌&&◌, map}
 use Rattle.columnar_base.specs.Row.{Row, unit, solo, row_eq}
-use Rattle.columnar_base.specs.Format.{Format, Content, Excess}
+use Rattle.columnar_base.specs.Format.{Format}
 
 -- the one part of a tuple
 abbrev pub only_of : Row → Row

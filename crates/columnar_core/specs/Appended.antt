@@ -1,7 +1,7 @@
 -- Elements behind those of a `Vec`, read from bytes.
 use Rattle.std.proofs.Common.{◌≡◌, ℕ, suc, ◌+◌, ◌*◌, List, [], ◌∷◌, ◌++◌, take, drop, map, zero, refl, sym, ◌∙◌, arith, append-nil, append_assoc}
 use Rattle.std.specs.List.{flat_map}
-use Rattle.std.proofs.lemmas.List.{map-append, take-map}
+use Rattle.std.proofs.lemmas.List.{take-map}
 use Rattle.columnar_base.specs.Row.{Row}
 use Rattle.columnar_base.specs.Elements.{elements, elements_rows}
 use Rattle.columnar_base.specs.ElementLaws.{IsElement, rows_typed, read_more}

@@ -4,8 +4,7 @@ use Rattle.std.proofs.Common.{◌≡◌, ℕ, ◌+◌, ◌*◌, ◌≤◌, Bool,
 use Rattle.std.specs.Prelude.{Option, Some, None, nat_eq}
 use Rattle.std.proofs.lemmas.Bool.{eq-eqb}
 use Rattle.std.proofs.Math.Nat.{mul-le-mul_right}
-use Rattle.columnar_base.specs.Format.{Format, Content, both, Fault, fault, first, moved, Fits, IsSound, bytes_held}
-use Rattle.columnar_base.specs.FaultLaws.{fits_from}
+use Rattle.columnar_base.specs.Format.{Format, Content, both, Fault, fault, first, moved, bytes_held}
 use Rattle.columnar_base.specs.TwoParts.{TwoParts, two_built, two_moved, both_broken, both_right, judged_part, judged_own, judged_fine}
 use Rattle.columnar_base.specs.LongTuples.{sides, are_level}
 use Rattle.columnar_base.specs.LongTupleLaws.{sides_two}

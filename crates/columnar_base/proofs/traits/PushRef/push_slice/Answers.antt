@@ -1,6 +1,4 @@
 use Rattle.std.proofs.Common.{map, arith}
-use Rattle.std.proofs.Math.Seq.{take-length}
-use Rattle.std.proofs.lemmas.List.{length-map}
 use Rattle.columnar_base.specs.ChangeLaws.{took_more}
 use Rattle.columnar_base.specs.ExtendLaws.{row_at, items_refused}
 use Rattle.columnar_base.proofs.traits.PushRef.push_slice.Goals as goal

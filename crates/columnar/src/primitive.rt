@@ -2,9 +2,9 @@
 
 pub mod offsets;
 
+pub use columnar_bits::bools::Bools;
 pub use columnar_core::byte_slice::flat::SlicedArray;
 pub use columnar_core::vector::Sliced;
-pub use columnar_primitive::bools::Bools;
 pub use columnar_primitive::chars::Chars;
 pub use columnar_primitive::codes::{Coded, Codes};
 pub use columnar_primitive::count::Count;

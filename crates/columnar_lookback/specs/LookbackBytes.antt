@@ -13,7 +13,7 @@ use Rattle.columnar_base.specs.TwoParts.{two_turns, two_fits_left}
 use Rattle.columnar_sums.specs.Counting.{ones}
 use Rattle.columnar_sums.specs.RankColumns.{ranks_bits, ranks_format}
 use Rattle.columnar_base.specs.WordViewLaws.{length-words_in}
-use Rattle.columnar_primitive.specs.BoolLaws.{bits_length}
+use Rattle.columnar_bits.specs.BoolLaws.{bits_length}
 use Rattle.columnar_sums.specs.RankLaws.{ranks_parts, ranks_form}
 use Rattle.columnar_sums.specs.CountLaws.{ones_le}
 use Rattle.columnar_sums.specs.Results.{turned, zeros, weave_results, results_format}

@@ -19,8 +19,3 @@ pub mod StrideLaws
 pub mod StrideCopies
 pub mod Tried
 pub mod TriedLaws
-pub mod Bits
-pub mod BitLaws
-pub mod BoolColumns
-pub mod BoolLaws
-pub mod BoolBytes

@@ -1,7 +1,6 @@
-//! Columns of the values of the language: numbers by other names, characters, durations, units, truth values and offsets.
+//! Columns of the values of the language: numbers by other names, characters, durations, units and offsets.
 #![tactic(auto)]
 
-pub mod bools;
 pub mod chars;
 pub mod codes;
 pub mod count;

@@ -8,8 +8,8 @@ use Rattle.std.proofs.lemmas.Bool.{cases_lt, cases_Bool, true≢false}
 use Rattle.std.proofs.lemmas.Nat.{leading_length, shr-shr, pow-add, one_shl, and_mask, ones_cat, mod_below, pow_pos, pow_below, mod-pow-add, ones_le_self}
 use Rattle.std.proofs.Math.Nat.{mul-le-mul_left}
 use lib.Count.{ones as ones_of_number, ones_in}
-use Rattle.columnar_primitive.specs.Bits.{bit, bit_in, truths, bits_of}
-use Rattle.columnar_primitive.specs.BitLaws.{bit_in_word, bit_shr, length-truths, get_or-truths}
+use Rattle.columnar_bits.specs.Bits.{bit, bit_in, truths, bits_of}
+use Rattle.columnar_bits.specs.BitLaws.{bit_in_word, bit_shr, length-truths, get_or-truths}
 use Rattle.columnar_sums.specs.Counting.{ones, place, ones_below, CountWords, AreCounts, count_before, digits}
 
 -- one bit, counted

@@ -3,7 +3,7 @@ use Rattle.std.specs.Prelude.{◌≡◌, ℕ, zero, suc, ◌+◌, ◌-◌, ◌*�
 use Rattle.std.specs.Int.{w64, leading_zeros}
 use Rattle.std.specs.List.{range_with_len}
 use Rattle.columnar_core.specs.Reads.{Reads}
-use Rattle.columnar_primitive.specs.Bits.{bit_in}
+use Rattle.columnar_bits.specs.Bits.{bit_in}
 
 -- how many of the first p are true
 unfoldable pub ones : List Bool → ℕ → ℕ

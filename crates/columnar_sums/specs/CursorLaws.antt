@@ -4,9 +4,9 @@ use Rattle.std.specs.Prelude.{slice_index_or, Some}
 use Rattle.std.proofs.lemmas.Bool.{cases_lt}
 use Rattle.columnar_core.specs.Format.{slice, both, IsSound}
 use Rattle.columnar_core.specs.WordViews.{bit_words}
-use Rattle.columnar_primitive.specs.Bits.{bit_in}
-use Rattle.columnar_primitive.specs.BoolColumns.{bits_in}
-use Rattle.columnar_primitive.specs.BoolLaws.{SoundBools, bits_length}
+use Rattle.columnar_bits.specs.Bits.{bit_in}
+use Rattle.columnar_bits.specs.BoolColumns.{bits_in}
+use Rattle.columnar_bits.specs.BoolLaws.{SoundBools, bits_length}
 use Rattle.columnar_sums.specs.Counting.{ones, ones_below, place}
 use Rattle.columnar_sums.specs.CountLaws.{ones_le, ones_more, ones_zero}
 use Rattle.columnar_sums.specs.CountsKept.{place_found}

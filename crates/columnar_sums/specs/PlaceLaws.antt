@@ -8,8 +8,8 @@ use Rattle.std.proofs.lemmas.List.{append-nil, append_assoc, map-id}
 use Rattle.std.proofs.lemmas.List.FromFn.{map-range_with_len_more}
 use Rattle.std.proofs.lemmas.Bool.{cases_lt, eq-eqb, true≢false, cases_eq}
 use Rattle.std.proofs.lemmas.Nat.Bits.{bit_at-trailing_zeros, bit_at_clear_same, bit_at_clear_other, bit_at-zero}
-use Rattle.columnar_primitive.specs.Bits.{bit, bit_in}
-use Rattle.columnar_primitive.specs.BitLaws.{bit_in_word, bit_shown}
+use Rattle.columnar_bits.specs.Bits.{bit, bit_in}
+use Rattle.columnar_bits.specs.BitLaws.{bit_in_word, bit_shown}
 use Rattle.columnar_core.specs.Reads.{Reads}
 use Rattle.columnar_sums.specs.Counting.{ones_below, Adds}
 use Rattle.columnar_sums.specs.CountLaws.{ones_below_add}

@@ -9,9 +9,9 @@ use Rattle.columnar_core.specs.TwoParts.{two_right, two_own, two_fine}
 use Rattle.columnar_core.specs.StoreLaws.{drop_at}
 use Rattle.columnar_core.specs.Elements.{elements_broken, first_slice}
 use Rattle.columnar_core.specs.WordViews.{words_in, bit_words, le_bytes}
-use Rattle.columnar_primitive.specs.Bits.{bit_in}
-use Rattle.columnar_primitive.specs.BoolColumns.{bits_in, bools_broken, bools_format}
-use Rattle.columnar_primitive.specs.BoolLaws.{SoundBools, bits_length}
+use Rattle.columnar_bits.specs.Bits.{bit_in}
+use Rattle.columnar_bits.specs.BoolColumns.{bits_in, bools_broken, bools_format}
+use Rattle.columnar_bits.specs.BoolLaws.{SoundBools, bits_length}
 use Rattle.columnar_sums.specs.Counting.{ones_below, counts_of, AreCounts, CountWords}
 use Rattle.columnar_sums.specs.RankColumns.{ranks_broken, ranks_format}
 use Rattle.columnar_sums.specs.RankLaws.{ranks_two, ranks_parts, counts_test, counts_in_words}

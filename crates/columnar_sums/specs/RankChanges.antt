@@ -13,9 +13,9 @@ use Rattle.columnar_core.specs.WordViews.{words_in, bit_words, le_bytes}
 use Rattle.columnar_core.specs.WordViewLaws.{length-words_in, length-le_bytes, words_cut}
 use Rattle.columnar_core.specs.declared.fault.GrowError.{GrowError}
 use Rattle.columnar_core.specs.declared.fault.GrowError.TheVariants.{Memory, Length, Offset, Format as FormatError}
-use Rattle.columnar_primitive.specs.Bits.{bit_in}
-use Rattle.columnar_primitive.specs.BoolColumns.{IsOfGrowth, bit_count, bits_in, bools_format}
-use Rattle.columnar_primitive.specs.BoolLaws.{SoundBools, length_words_back, bools_parts, bools_took, bools_past, bits_length, bits_from_rows, words_of_bits, words_grown}
+use Rattle.columnar_bits.specs.Bits.{bit_in}
+use Rattle.columnar_bits.specs.BoolColumns.{IsOfGrowth, bit_count, bits_in, bools_format}
+use Rattle.columnar_bits.specs.BoolLaws.{SoundBools, length_words_back, bools_parts, bools_took, bools_past, bits_length, bits_from_rows, words_of_bits, words_grown}
 use Rattle.columnar_sums.specs.Counting.{ones, ones_below, AreCounts, CountWords, counts_of, count_before}
 use Rattle.columnar_sums.specs.CountLaws.{ones_word_whole, ones_below_le, count_before_is}
 use Rattle.columnar_sums.specs.CountsKept.{counts_stay, counts_grow, counts_cut, counts_none}

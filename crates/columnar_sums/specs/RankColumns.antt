@@ -6,8 +6,8 @@ use Rattle.columnar_sums.specs.Agree.{numbers_eq}
 use Rattle.columnar_core.specs.Format.{Format, Content, slice, both, part, plain, Fault, two_broken, IsSound}
 use Rattle.columnar_core.specs.Elements.{first_slice, past_count, words_format}
 use Rattle.columnar_core.specs.WordViews.{words_in, bytes_of, le_bytes}
-use Rattle.columnar_primitive.specs.Bits.{bit, bit_in}
-use Rattle.columnar_primitive.specs.BoolColumns.{bools_bits, bools_format, bools_content, bits_held}
+use Rattle.columnar_bits.specs.Bits.{bit, bit_in}
+use Rattle.columnar_bits.specs.BoolColumns.{bools_bits, bools_format, bools_content, bits_held}
 use Rattle.columnar_sums.specs.Counting.{counts_of}
 use Rattle.columnar_sums.specs.declared.rank_select.RankSelect.{RankSelect}
 

@@ -11,7 +11,7 @@ use Rattle.columnar_core.specs.TwoParts.{TwoParts, two_form, two_parts, two_soun
 use Rattle.columnar_base.specs.TupleLaws.{or_both}
 use Rattle.columnar_core.specs.Elements.{past_count}
 use Rattle.columnar_core.specs.declared.fault.GrowError.{GrowError}
-use Rattle.columnar_primitive.specs.BoolLaws.{bits_from_rows}
+use Rattle.columnar_bits.specs.BoolLaws.{bits_from_rows}
 use Rattle.columnar_sums.specs.Counting.{ones}
 use Rattle.columnar_sums.specs.CountLaws.{ones_zero}
 use Rattle.columnar_sums.specs.RankColumns.{ranks_bits, ranks_format}

@@ -2,7 +2,7 @@
 ghost use Rattle.std.specs.Prelude.{◌≡◌, ℕ, ◌+◌, ◌-◌, ◌*◌, ◌/◌, ◌%◌, ◌^◌, ◌<◌, ◌≤◌, [], ◌∷◌, ◌++◌, length, slice_index, slice_index_or, slice_range, false, true, take, drop, OnOk, OnErr, IfErr, IsOk, IfSome, IfNone, IsNone, Some, None, refl};
 ghost use Rattle.columnar_core.specs.Change.{Stayed};
 ghost use Rattle.columnar_core.specs.WordViews.{words_in, bit_words, le_bytes};
-ghost use Rattle.columnar_primitive.specs.BoolColumns.{IsOfGrowth};
+ghost use Rattle.columnar_bits.specs.BoolColumns.{IsOfGrowth};
 ghost use Rattle.columnar_sums.specs.Counting.{ones, place, Adds, digits};
 ghost use Rattle.columnar_sums.specs.RankColumns.{ranks_format, ranks_content, bits_ranked, IsRanked, owned_ranks, ranked_bits};
 ghost use Rattle.columnar_sums.specs.RankLaws.{ranks_lawful};
@@ -13,12 +13,12 @@ mod grow;
 mod search;
 
 pub(crate) use bytes::trues_in;
+use columnar_bits::bools::{Bools, bit_at, count_bits};
 use columnar_core::fault::GrowError;
 use columnar_core::metered::{MeteredCounts, MeteredWords};
 use columnar_core::tally::Tally;
 use columnar_core::traits::{Column, Index, Len};
 use columnar_core::words::Words;
-use columnar_primitive::bools::{Bools, bit_at, count_bits};
 pub use cursor::{Cursor, Cursor as RankSelectCursor};
 pub use search::select_in_word;
 use search::{rank_in, select_in};

@@ -3,12 +3,12 @@ ghost use Rattle.std.specs.Prelude.{IfOk};
 ghost use Rattle.columnar_core.specs.Format.{IsSound};
 
 use crate::rows::reads;
+use columnar_bits::bools::Bools;
 use columnar_core::bytes::{Check, Stored};
 use columnar_core::container::{Borrow, ExtendFrom, Storage};
 use columnar_core::fault::StoreFault;
 use columnar_core::traits::{Clear, Column, Index, Item, Len, Push, PushRef};
 use columnar_core::view::View;
-use columnar_primitive::bools::Bools;
 use columnar_sums::option::Options;
 use columnar_sums::rank_select::RankSelect;
 use std::alloc::Global;

@@ -1,11 +1,11 @@
 // Which rows are the same as an item, for each column that can tell.
 ghost use Rattle.columnar_core.specs.Format.{IsSound};
 
+use columnar_bits::bools::Bools;
 use columnar_core::boxed::Boxed;
 use columnar_core::container::Storage;
 use columnar_core::traits::{Item, Len, Push};
 use columnar_lookback::same::SameAs;
-use columnar_primitive::bools::Bools;
 use columnar_primitive::chars::Chars;
 use columnar_primitive::durations::Durations;
 use columnar_primitive::empties::Empties;

@@ -3,11 +3,11 @@
 use crate::rows::{Held, RUNS};
 use crate::runs::Runs;
 use crate::runs::stashes::RunStash;
+use columnar_bits::bools::Bools;
 use columnar_core::bytes::Check;
 use columnar_core::fault::StoreFault;
 use columnar_core::view::View;
 use columnar_lookback::repeats::Repeats;
-use columnar_primitive::bools::Bools;
 use columnar_sums::option::Options;
 use columnar_sums::rank_select::RankSelect;
 use std::test::Fail;

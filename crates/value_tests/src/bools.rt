@@ -1,14 +1,14 @@
 //! Columns of truth values, by worked rows.
 ghost use Rattle.std.specs.Prelude.{◌≡◌, ◌<◌, length, IfOk};
 ghost use Rattle.columnar_core.specs.Format.{IsSound};
-ghost use Rattle.columnar_primitive.specs.BoolColumns.{bools_format, owned_content, owned_bits};
+ghost use Rattle.columnar_bits.specs.BoolColumns.{bools_format, owned_content, owned_bits};
 
+use columnar_bits::bools::Bools;
 use columnar_core::bytes::Check;
 use columnar_core::container::{Borrow, Storage, Truncate};
 use columnar_core::fault::StoreFault;
 use columnar_core::traits::{Index, Len};
 use columnar_core::view::View;
-use columnar_primitive::bools::Bools;
 use std::alloc::Global;
 use std::test::Fail;
 use test_support::{equal, holds};

@@ -5,13 +5,14 @@ ghost use Rattle.columnar_core.specs.Format.{slice, both, first, moved, Fits};
 ghost use Rattle.columnar_core.specs.Store.{slices_in};
 ghost use Rattle.columnar_core.specs.Faults.{verdict};
 ghost use Rattle.columnar_core.specs.WordViews.{view_bytes, view_words};
-ghost use Rattle.columnar_primitive.specs.BoolColumns.{bits_in};
-ghost use Rattle.columnar_primitive.specs.BoolLaws.{SoundBools};
+ghost use Rattle.columnar_bits.specs.BoolColumns.{bits_in};
+ghost use Rattle.columnar_bits.specs.BoolLaws.{SoundBools};
 ghost use Rattle.columnar_sums.specs.Counting.{counts_of, ones};
 ghost use Rattle.columnar_sums.specs.RankColumns.{ranks_broken, ranks_bits, ranks_format};
 ghost use Rattle.columnar_sums.specs.RankLaws.{ranks_storable};
 
 use super::RankSelect;
+use columnar_bits::bools::{Bools, count_bits, judged};
 use columnar_core::byte_slice::ByteSlice;
 use columnar_core::bytes::{AsBytes, Check, FromBytes, Stored};
 use columnar_core::container::ContainerBytes;
@@ -22,7 +23,6 @@ use columnar_core::tally::Tally;
 use columnar_core::two::{byte_slice_of_two, load_two, sizes_of_two, slice_of_two};
 use columnar_core::view::View;
 use columnar_core::words::{Words, byte_count, word_at, word_count};
-use columnar_primitive::bools::{Bools, count_bits, judged};
 use std::alloc::Global;
 
 // Where word `at` ends a chunk: is the sum the chunk's count?

@@ -2,7 +2,7 @@
 ghost use Rattle.std.specs.Prelude.{◌≡◌, ℕ, ◌+◌, ◌-◌, ◌*◌, ◌/◌, ◌%◌, ◌<◌, ◌≤◌, ◌^◌, ◌↔◌, [], ◌∷◌, ◌++◌, length, max, min, slice_index_or, true, false, IsTrue, IfSome, IfNone, MatchOption};
 ghost use Rattle.std.specs.List.{range_with_len};
 ghost use Rattle.columnar_core.specs.WordViews.{words_in};
-ghost use Rattle.columnar_primitive.specs.Bits.{bit as bit_of, bit_in};
+ghost use Rattle.columnar_bits.specs.Bits.{bit as bit_of, bit_in};
 ghost use Rattle.columnar_sums.specs.Counting.{ones, ones_below, place, Adds, digits};
 ghost use Rattle.columnar_sums.specs.RankColumns.{bits_ranked, IsRanked, IsAt, AreClear, IsNextTrue, AreFalseFrom, Standing};
 

@@ -4,13 +4,14 @@ ghost use Rattle.columnar_core.specs.Row.{truth};
 ghost use Rattle.columnar_core.specs.Format.{IsSound};
 ghost use Rattle.columnar_core.specs.Change.{Refused, Stayed, Took};
 ghost use Rattle.columnar_core.specs.WordViews.{words_in, bit_words, le_bytes, view_bytes, view_words};
-ghost use Rattle.columnar_primitive.specs.BoolColumns.{IsOfGrowth};
+ghost use Rattle.columnar_bits.specs.BoolColumns.{IsOfGrowth};
 ghost use Rattle.columnar_sums.specs.Counting.{CountWords, count_before};
 ghost use Rattle.columnar_sums.specs.RankColumns.{ranks_format, bits_ranked, IsRanked, owned_ranks, ranked_bits};
 ghost use Rattle.columnar_sums.specs.RankLaws.{ranks_lawful};
 
 use super::RankSelect;
 use super::search::one_of;
+use columnar_bits::bools::Bools;
 use columnar_core::container::{Borrow, ExtendFrom, Reborrow, Reserve, Storage, Truncate};
 use columnar_core::fault::GrowError;
 use columnar_core::metered::word_or_tail;
@@ -18,7 +19,6 @@ use columnar_core::tally::Tally;
 use columnar_core::traits::{Clear, Len, Push, PushRef};
 use columnar_core::view::View;
 use columnar_core::words::{Words, word_at, word_count};
-use columnar_primitive::bools::Bools;
 use std::alloc::Global;
 use std::ops::Range;
 

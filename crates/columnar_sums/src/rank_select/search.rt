@@ -1,6 +1,6 @@
 //! Counting and finding set bits, over metered words and counts.
 ghost use Rattle.std.specs.Prelude.{◌≡◌, ℕ, ◌+◌, ◌-◌, ◌*◌, ◌/◌, ◌%◌, ◌^◌, ◌<◌, ◌≤◌, length, slice_index, true, MatchOption, count_ones, cond};
-ghost use Rattle.columnar_primitive.specs.Bits.{bit as bit_of, bit_in};
+ghost use Rattle.columnar_bits.specs.Bits.{bit as bit_of, bit_in};
 ghost use Rattle.columnar_sums.specs.Counting.{ones_below, CountWords, count_before, Adds, digits};
 
 use columnar_core::metered::{MeteredCounts, MeteredWords};

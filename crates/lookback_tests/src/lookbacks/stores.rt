@@ -3,11 +3,11 @@
 use super::{RETURNS, Two};
 use crate::runs::Backs;
 use crate::runs::stashes::BackStash;
+use columnar_bits::bools::Bools;
 use columnar_core::bytes::Check;
 use columnar_core::fault::StoreFault;
 use columnar_core::view::View;
 use columnar_lookback::lookbacks::Lookbacks;
-use columnar_primitive::bools::Bools;
 use columnar_sums::rank_select::RankSelect;
 use columnar_sums::result::Results;
 use std::test::Fail;

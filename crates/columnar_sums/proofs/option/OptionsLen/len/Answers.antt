@@ -3,7 +3,7 @@ use Rattle.columnar_sums.specs.OptionLaws.{length-options}
 use Rattle.columnar_sums.specs.RankColumns.{ranks_content}
 use Rattle.std.proofs.lemmas.List.{length-map}
 use Rattle.columnar_core.specs.Row.{truth}
-use Rattle.columnar_primitive.specs.BoolColumns.{bits_in}
+use Rattle.columnar_bits.specs.BoolColumns.{bits_in}
 use Rattle.columnar_sums.proofs.option.OptionsLen.len.Goals as goal
 
 pub returns : goal.returns

@@ -1,5 +1,5 @@
 use Rattle.std.proofs.Common.{arith}
-use Rattle.columnar_primitive.specs.BoolLaws.{two_words}
+use Rattle.columnar_bits.specs.BoolLaws.{two_words}
 use Rattle.columnar_sums.specs.RankLaws.{ranks_parts}
 use Rattle.columnar_sums.proofs.rank_select.RankSelect.metered_words.Goals as goal
 

@@ -1,7 +1,7 @@
 use Rattle.std.proofs.Common.{◌≡◌, ◌+◌, ℕ, List, length, arith, sym, refl}
 use Rattle.std.specs.Prelude.{count_ones}
 use Rattle.columnar_core.specs.WordViews.{bit_words, view_bytes, view_words}
-use Rattle.columnar_primitive.specs.BoolLaws.{two_words}
+use Rattle.columnar_bits.specs.BoolLaws.{two_words}
 use Rattle.columnar_sums.specs.Counting.{ones_below}
 use Rattle.columnar_sums.specs.RankChanges.{sum_more, sum_fits, words_short}
 use Rattle.columnar_sums.specs.RankBytes.{right_more, right_all, wrong_number, wrong_count}

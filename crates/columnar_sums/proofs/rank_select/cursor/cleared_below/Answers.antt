@@ -1,4 +1,4 @@
-use Rattle.columnar_primitive.specs.BitLaws.{cleared_low, cleared_high}
+use Rattle.columnar_bits.specs.BitLaws.{cleared_low, cleared_high}
 use Rattle.columnar_sums.proofs.rank_select.cursor.cleared_below.Goals as goal
 
 pub returns-clause-low : goal.returns-clause-low

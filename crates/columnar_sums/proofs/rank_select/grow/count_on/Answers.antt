@@ -2,8 +2,8 @@ use Rattle.std.proofs.Common.{◌≡◌, ◌+◌, ◌*◌, ◌<◌, ◌^◌, ◌
 use Rattle.std.specs.Prelude.{count_ones}
 use Rattle.std.proofs.lemmas.List.{take_all}
 use Rattle.columnar_core.specs.WordViews.{bit_words, view_bytes, le_bytes, words_in}
-use Rattle.columnar_primitive.specs.Bits.{bit_in}
-use Rattle.columnar_primitive.specs.BoolLaws.{length_words_back}
+use Rattle.columnar_bits.specs.Bits.{bit_in}
+use Rattle.columnar_bits.specs.BoolLaws.{length_words_back}
 use Rattle.columnar_sums.specs.Counting.{ones_below}
 use Rattle.columnar_sums.specs.RankChanges.{counted_end, counted_within, sum_more, sum_fits, sum_start}
 use Rattle.columnar_sums.proofs.rank_select.grow.count_on.Goals as goal

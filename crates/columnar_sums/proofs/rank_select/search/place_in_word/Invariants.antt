@@ -1,5 +1,5 @@
 use Rattle.std.proofs.Common.{◌≡◌, ◌+◌, ◌/◌, ◌^◌, ◌<◌, ◌≤◌}
-use Rattle.columnar_primitive.specs.Bits.{bit}
+use Rattle.columnar_bits.specs.Bits.{bit}
 use Rattle.columnar_sums.specs.Counting.{ones_below}
 use Rattle.columnar_sums.proofs.rank_select.search.place_in_word.Given as goal
 

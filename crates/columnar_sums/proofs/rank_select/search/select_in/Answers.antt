@@ -1,6 +1,6 @@
 use Rattle.std.proofs.Common.{◌≡◌, ℕ, ◌*◌, ◌∙◌, ap, length, take, arith}
 use Rattle.std.proofs.lemmas.List.{take_all}
-use Rattle.columnar_primitive.specs.Bits.{bit_in}
+use Rattle.columnar_bits.specs.Bits.{bit_in}
 use Rattle.columnar_sums.specs.Counting.{ones_below}
 use Rattle.columnar_sums.specs.CountLaws.{count_before_is, found_in, none_left}
 use Rattle.columnar_sums.proofs.rank_select.search.select_in.Goals as goal

@@ -1,6 +1,6 @@
 use Rattle.std.proofs.Common.{[], refl}
 use Rattle.columnar_sums.specs.OptionLaws.{options_none}
-use Rattle.columnar_primitive.specs.BoolLaws.{bits_from_rows}
+use Rattle.columnar_bits.specs.BoolLaws.{bits_from_rows}
 use Rattle.columnar_sums.proofs.option.grow.OptionsVecU64VecU64ArrayU642Clear.clear.Goals as goal
 
 pub returns-clause-sound : goal.returns-clause-sound

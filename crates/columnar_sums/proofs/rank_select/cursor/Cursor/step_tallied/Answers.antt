@@ -1,6 +1,6 @@
 use Rattle.std.proofs.Common.{◌<◌, ℕ, List, length, arith}
-use Rattle.columnar_primitive.specs.BoolColumns.{bits_in}
-use Rattle.columnar_primitive.specs.BoolLaws.{bits_length}
+use Rattle.columnar_bits.specs.BoolColumns.{bits_in}
+use Rattle.columnar_bits.specs.BoolLaws.{bits_length}
 use Rattle.columnar_sums.specs.RankLaws.{length-ranks}
 use Rattle.columnar_sums.specs.CursorLaws.{stands_words, stands_stepped}
 use Rattle.columnar_sums.proofs.rank_select.cursor.Cursor.step_tallied.Goals as goal

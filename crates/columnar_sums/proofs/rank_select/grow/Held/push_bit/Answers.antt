@@ -1,7 +1,7 @@
 use Rattle.std.proofs.Common.{◌≡◌, ◌+◌, ◌%◌, ◌<◌, ◌^◌, ℕ, List, length, arith, refl}
 use Rattle.columnar_core.specs.WordViews.{le_bytes}
-use Rattle.columnar_primitive.specs.BoolColumns.{bits_in, last_count}
-use Rattle.columnar_primitive.specs.BoolLaws.{bools_parts, bits_length, two_words}
+use Rattle.columnar_bits.specs.BoolColumns.{bits_in, last_count}
+use Rattle.columnar_bits.specs.BoolLaws.{bools_parts, bits_length, two_words}
 use Rattle.columnar_sums.specs.RankLaws.{ranks_parts, ranks_sound}
 use Rattle.columnar_sums.specs.RankChanges.{ranked_plain}
 use Rattle.columnar_sums.proofs.rank_select.grow.Held.push_bit.Goals as goal

@@ -2,8 +2,8 @@ use Rattle.std.proofs.Common.{◌≡◌, ◌+◌, ◌%◌, ◌<◌, ◌^◌, ℕ
 use Rattle.std.proofs.Math.Path.{ap₂}
 use Rattle.columnar_core.specs.Format.{Content, slice, both}
 use Rattle.columnar_core.specs.WordViews.{le_bytes}
-use Rattle.columnar_primitive.specs.BoolColumns.{bits_in}
-use Rattle.columnar_primitive.specs.BoolLaws.{bools_parts, words_grown}
+use Rattle.columnar_bits.specs.BoolColumns.{bits_in}
+use Rattle.columnar_bits.specs.BoolLaws.{bools_parts, words_grown}
 use Rattle.columnar_sums.specs.CountLaws.{ones_le}
 use Rattle.columnar_sums.specs.RankLaws.{ranks_parts, ranks_sound}
 use Rattle.columnar_sums.specs.RankChanges.{ranked_count, ranks_same, items_back, counts_many, length-truths_rows}

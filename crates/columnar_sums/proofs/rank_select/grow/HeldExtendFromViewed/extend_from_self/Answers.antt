@@ -1,7 +1,7 @@
 use Rattle.std.proofs.lemmas.Result.{on_ok_weaker}
 use Rattle.columnar_core.specs.WordViews.{view_bytes}
-use Rattle.columnar_primitive.specs.BoolColumns.{bits_in}
-use Rattle.columnar_primitive.specs.BoolLaws.{rows_between}
+use Rattle.columnar_bits.specs.BoolColumns.{bits_in}
+use Rattle.columnar_bits.specs.BoolLaws.{rows_between}
 use Rattle.columnar_sums.specs.RankLaws.{ranks_parts}
 use Rattle.columnar_sums.specs.RankChanges.{ranks_copied}
 use Rattle.columnar_sums.proofs.rank_select.grow.HeldExtendFromViewed.extend_from_self.Goals as goal

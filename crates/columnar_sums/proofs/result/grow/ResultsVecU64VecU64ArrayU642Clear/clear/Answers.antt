@@ -1,5 +1,5 @@
 use Rattle.std.proofs.Common.{[], refl}
-use Rattle.columnar_primitive.specs.BoolLaws.{bits_from_rows}
+use Rattle.columnar_bits.specs.BoolLaws.{bits_from_rows}
 use Rattle.columnar_sums.specs.ResultLaws.{results_none}
 use Rattle.columnar_sums.proofs.result.grow.ResultsVecU64VecU64ArrayU642Clear.clear.Goals as goal
 

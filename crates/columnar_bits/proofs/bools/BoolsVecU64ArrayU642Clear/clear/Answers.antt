@@ -1,0 +1,10 @@
+use Rattle.std.proofs.Common.{ap, map}
+use Rattle.columnar_core.specs.Row.{truth}
+use Rattle.columnar_bits.specs.BoolLaws.{bools_none, bools_sound}
+use Rattle.columnar_bits.proofs.bools.BoolsVecU64ArrayU642Clear.clear.Goals as goal
+
+pub returns-clause-sound : goal.returns-clause-sound
+returns-clause-sound c = bools_sound (bools_none c.clear.new.self.items c.tail_of-self.result c.clear.ensures.items c.tail_of-self.ensures).0
+
+pub returns-clause-rows : goal.returns-clause-rows
+returns-clause-rows c = ap (map truth) (bools_none c.clear.new.self.items c.tail_of-self.result c.clear.ensures.items c.tail_of-self.ensures).1

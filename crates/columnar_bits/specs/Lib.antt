@@ -1,0 +1,5 @@
+pub mod Bits
+pub mod BitLaws
+pub mod BoolColumns
+pub mod BoolLaws
+pub mod BoolBytes

@@ -1,0 +1,437 @@
+//! Truth values, packed as bits.
+ghost use Rattle.std.specs.Prelude.{◌≡◌, ℕ, ◌+◌, ◌-◌, ◌*◌, ◌/◌, ◌%◌, ◌^◌, ◌<◌, ◌≤◌, [], ◌∷◌, ◌++◌, length, slice_index_or, slice_range, false, OnOk, OnErr, IfErr, IsOk, refl};
+ghost use Rattle.columnar_core.specs.Row.{truth};
+ghost use Rattle.columnar_core.specs.Format.{IsSound};
+ghost use Rattle.columnar_core.specs.Change.{Stayed, Took, Refused};
+ghost use Rattle.columnar_core.specs.WordViews.{le_bytes, view_bytes};
+ghost use Rattle.columnar_bits.specs.Bits.{bit as bit_of, truths, number_of_bits};
+ghost use Rattle.columnar_bits.specs.BoolColumns.{bools_format, bools_content, IsOfGrowth, bits_held, bits_in, owned_content, owned_bits, last_word, last_count};
+ghost use Rattle.columnar_bits.specs.BoolLaws.{SoundBools, Tail, bools_lawful};
+
+use columnar_core::container::{
+    Borrow, Container, ExtendFrom, Reborrow, Reserve, Storage, Truncate,
+};
+use columnar_core::fault::GrowError;
+use columnar_core::metered::word_or_tail;
+use columnar_core::tally::Tally;
+use columnar_core::traits::{Clear, Column, Index, Len, Push, PushRef};
+use columnar_core::view::View;
+use columnar_core::words::{Words, word_at, word_count};
+use std::alloc::Global;
+use std::ops::Range;
+
+mod bytes;
+
+pub use bytes::judged;
+
+/// Truth values, packed as bits, the lowest first.
+#[derive(Clone, Copy, PartialEq, Drop)]
+pub struct Bools<VC = Vec<u64>, TC = [u64; 2]> {
+    /// Whole words of 64 bits.
+    pub values: VC,
+    /// Two words: the last bits, and how many of them count. That is below 64, and no bit from there on is set.
+    pub tail: TC,
+}
+
+impl<VC: Words, TC: Words> Column for Bools<VC, TC> {
+    ghost format = { bools_format };
+
+    ghost content = { bools_content VC.bytes TC.bytes };
+}
+
+/// How many bits whole words and a tail hold.
+pub fn count_bits(values: View<'_, u64>, tail: View<'_, u64>) -> usize
+    requires { SoundBools (view_bytes values) (view_bytes tail) }
+    ensures { result ≡ length (bits_in (view_bytes values.entry) (view_bytes tail.entry)) }
+{
+    64 * word_count(values) + word_at(tail, 1) as usize
+}
+
+/// Bit `index` of whole words and a tail.
+pub fn bit_at(values: View<'_, u64>, tail: View<'_, u64>, index: usize) -> bool
+    requires sound { SoundBools (view_bytes values) (view_bytes tail) }
+    requires in_range { index < length (bits_in (view_bytes values) (view_bytes tail)) }
+    ensures { result ≡ slice_index_or (bits_in (view_bytes values.entry) (view_bytes tail.entry)) index false }
+{
+    (word_or_tail(values, tail, index / 64) >> (index % 64)) & 1 == 1
+}
+
+impl<VC: Words, TC: Words> Len for Bools<VC, TC> {
+    fn len(&self) -> usize {
+        count_bits(self.values.words(), self.tail.words())
+    }
+}
+
+impl<VC: Words, TC: Words> Index for Bools<VC, TC> {
+    type Ref = bool;
+
+    fn get(&self, index: usize) -> bool {
+        bit_at(self.values.words(), self.tail.words(), index)
+    }
+}
+
+// The lowest `count` bits of the word, and zero above.
+#[tactic(auto, using(crate::specs::BitLaws::bit_low, crate::specs::BitLaws::low_below))]
+fn low_bits(word: u64, count: u64) -> u64
+    requires { count < 64 }
+    ensures same { (j : ℕ) → j < count → bit_of result j ≡ bit_of word j }
+    ensures below { result < 2 ^ count }
+{
+    word & ((1 << count) - 1)
+}
+
+// `low`, and above its lowest `at` bits those of `high`.
+#[tactic(auto, using(crate::specs::BitLaws::join_low, crate::specs::BitLaws::join_high, crate::specs::BitLaws::join_below))]
+fn joined(low: u64, high: u64, at: u64) -> u64
+    requires within { at < 64 }
+    requires apart { low < 2 ^ at }
+    ensures low { (j : ℕ) → j < at → bit_of result j ≡ bit_of low j }
+    ensures high { (j : ℕ) → at ≤ j → j < 64 → bit_of result j ≡ bit_of high (j - at) }
+    ensures below { (n : ℕ) → high < 2 ^ n → at + n ≤ 64 → result < 2 ^ (at + n) }
+{
+    low | high << at
+}
+
+// What of `bits`, of which there are `count`, does not go into a word that has `at` bits already.
+#[tactic(auto, using(crate::specs::BitLaws::spill_bit, crate::specs::BitLaws::spill_below))]
+fn spilled(bits: u64, at: u64, count: u64) -> u64
+    requires within { (at < 64) × (count ≤ 64) }
+    requires over { 64 ≤ at + count }
+    requires below { bits < 2 ^ count }
+    ensures same { (j : ℕ) → j < at + count - 64 → bit_of result j ≡ bit_of bits (j + (64 - at)) }
+    ensures below { result < 2 ^ (at + count - 64) }
+{
+    if at == 0 { 0 } else { bits >> (64 - at) }
+}
+
+// A word whose lowest `count` bits are those from `index` on.
+#[tactic(auto, using(crate::specs::BitLaws::bit_shr, crate::specs::BitLaws::high_part, crate::specs::BoolLaws::bits_length))]
+fn window(values: View<'_, u64>, tail: View<'_, u64>, index: usize, count: usize) -> u64
+    requires sound { SoundBools (view_bytes values) (view_bytes tail) }
+    requires short { (0 < count) × (count ≤ 64) }
+    requires in_range { index + count ≤ length (bits_in (view_bytes values) (view_bytes tail)) }
+    ensures { (j : ℕ) → j < count → bit_of result j ≡ slice_index_or (bits_in (view_bytes values.entry) (view_bytes tail.entry)) (index + j) false }
+{
+    let at = (index % 64) as u64;
+    let low = word_or_tail(values, tail, index / 64) >> at;
+    if at + count as u64 <= 64 {
+        low
+    } else {
+        joined(low, word_or_tail(values, tail, index / 64 + 1), 64 - at)
+    }
+}
+
+// The number of the `count` bits from `index` on.
+#[tactic(auto, using(crate::specs::BitLaws::range_truths))]
+fn taken(values: View<'_, u64>, tail: View<'_, u64>, index: usize, count: usize) -> u64
+    requires sound { SoundBools (view_bytes values) (view_bytes tail) }
+    requires short { count ≤ 64 }
+    requires in_range { index + count ≤ length (bits_in (view_bytes values) (view_bytes tail)) }
+    ensures bits { truths (bit_of result) count ≡ slice_range (bits_in (view_bytes values.entry) (view_bytes tail.entry)) index (index + count) }
+    ensures below { result < 2 ^ count }
+{
+    if count == 0 {
+        return 0;
+    }
+    let window = window(values, tail, index, count);
+    if count == 64 {
+        window
+    } else {
+        low_bits(window, count as u64)
+    }
+}
+
+impl<VC: Words, TC: Words> Bools<VC, TC> {
+    /// The number whose lowest bits are the `count` bits from `index` on, the first lowest. Asks that there are as
+    /// many, and at most 64.
+    #[tactic(auto, using(crate::specs::BitLaws::number_of))]
+    pub fn bits_at(&self, index: usize, count: usize) -> u64
+        requires sound { IsSound bools_format (bools_content VC.bytes TC.bytes self.now) }
+        requires short { count ≤ 64 }
+        requires in_range { index + count ≤ length (bits_held VC.bytes TC.bytes self.now) }
+        ensures bits { truths (bit_of result) count ≡ slice_range (bits_held VC.bytes TC.bytes self.now) index (index + count) }
+        ensures below { result < 2 ^ count }
+        ensures number { result ≡ number_of_bits (slice_range (bits_held VC.bytes TC.bytes self.now) index (index + count)) }
+    {
+        taken(self.values.words(), self.tail.words(), index, count)
+    }
+}
+
+// The last bits that a tail holds, and how many of them count.
+pub(crate) fn tail_parts(tail: View<'_, u64>) -> (u64, u64)
+    requires { length (view_bytes tail) ≡ 16 }
+    ensures word { result.0 ≡ last_word (view_bytes tail.entry) }
+    ensures count { result.1 ≡ last_count (view_bytes tail.entry) }
+{
+    (word_at(tail, 0), word_at(tail, 1))
+}
+
+// The tail of these two words.
+pub(crate) fn tail_of(word: u64, count: u64) -> [u64; 2]
+    ensures { Tail (le_bytes result) word count }
+{
+    [word, count]
+}
+
+// The number of one bit.
+#[tactic(auto, using(crate::specs::BoolLaws::bit_one, crate::specs::BoolLaws::bit_zero))]
+fn one_bit(bit: bool) -> u64
+    ensures bits { truths (bit_of result) 1 ≡ bit ∷ [] }
+    ensures below { result < 2 ^ 1 }
+{
+    if bit { 1 } else { 0 }
+}
+
+impl Bools<Vec<u64>, [u64; 2]> {
+    /// Appends the lowest `count` bits of the number, the lowest first; all or none. Asks for at most 64, and that no
+    /// bit of the number is set from there on. Where they fill no word, they need no memory. It answers Length
+    /// exactly where there would be more than 2^64 - 1 bits.
+    pub fn push_bits(&mut self, bits: u64, count: usize) -> Result<(), GrowError>
+        requires sound { IsSound bools_format (owned_content self.old) }
+        requires short { count ≤ 64 }
+        requires below { bits < 2 ^ count }
+        ensures ok { OnOk result (owned_bits self.new ≡ owned_bits self.old ++ truths (bit_of bits) count) }
+        ensures err { OnErr result (owned_content self.new ≡ owned_content self.old) }
+        ensures length { result ≡ Err GrowError.Length → 2 ^ 64 ≤ length (owned_bits self.old) + count }
+        ensures full { 2 ^ 64 ≤ length (owned_bits self.old) + count → result ≡ Err GrowError.Length }
+        ensures kinds { IfErr result IsOfGrowth }
+        ensures no_memory { length (owned_bits self.old) % 64 + count < 64 → IsOk result }
+        ensures sound { IsSound bools_format (owned_content self.new) }
+    {
+        let (word, have) = tail_parts(self.tail.words());
+        let total = have + count as u64;
+        let full = joined(word, bits, have);
+        if total < 64 {
+            self.tail = tail_of(full, total);
+            return Ok(());
+        }
+        if self.values.len() == usize::MAX / 64 {
+            return Err(GrowError::Length);
+        }
+        let rest = spilled(bits, have, count as u64);
+        self.values.push(full)?;
+        self.tail = tail_of(rest, total - 64);
+        Ok(())
+    }
+
+    /// Appends one bit, and is refused as `push_bits` of one.
+    pub fn push_bit(&mut self, bit: bool) -> Result<(), GrowError>
+        requires { IsSound bools_format (owned_content self.old) }
+        ensures ok { OnOk result (owned_bits self.new ≡ owned_bits self.old ++ bit ∷ []) }
+        ensures err { OnErr result (owned_content self.new ≡ owned_content self.old) }
+        ensures length { result ≡ Err GrowError.Length → 2 ^ 64 ≤ length (owned_bits self.old) + 1 }
+        ensures full { 2 ^ 64 ≤ length (owned_bits self.old) + 1 → result ≡ Err GrowError.Length }
+        ensures kinds { IfErr result IsOfGrowth }
+        ensures no_memory { length (owned_bits self.old) % 64 < 63 → IsOk result }
+        ensures sound { IsSound bools_format (owned_content self.new) }
+    {
+        self.push_bits(one_bit(bit), 1)
+    }
+
+    /// Appends the bits of the range of `other`, up to 64 at a time: all of them or none. After a refusal the bits are
+    /// as before. It answers Length exactly where there would be more than 2^64 - 1 bits. The turns that it takes are
+    /// added to the tally: at most one for each 64 bits, and one.
+    pub fn extend_bits_from_tallied<V: Words, T: Words, L>(
+        &mut self,
+        other: &Bools<V, T>,
+        range: Range<usize>,
+        tally: &mut Tally<L>,
+    ) -> Result<(), GrowError>
+        requires sound { IsSound bools_format (owned_content self.old) }
+        requires other { IsSound bools_format (bools_content V.bytes T.bytes other.now) }
+        requires ordered { range.start ≤ range.«end» }
+        requires in_range { range.«end» ≤ length (bits_held V.bytes T.bytes other.now) }
+        ensures ok { OnOk result (owned_bits self.new ≡ owned_bits self.old ++ slice_range (bits_held V.bytes T.bytes other.now) range.start range.«end») }
+        ensures err { OnErr result (Stayed bools_format (owned_content self.old) (owned_content self.new)) }
+        ensures length { result ≡ Err GrowError.Length → 2 ^ 64 ≤ length (owned_bits self.old) + (range.«end» - range.start) }
+        ensures full { 2 ^ 64 ≤ length (owned_bits self.old) + (range.«end» - range.start) → result ≡ Err GrowError.Length }
+        ensures kinds { IfErr result IsOfGrowth }
+        ensures sound { IsSound bools_format (owned_content self.new) }
+        ensures turns { tally.new.turns ≤ tally.old.turns + ((range.«end» - range.start) / 64 + 1) }
+    {
+        let end = range.end;
+        let mut at = range.start;
+        let start = self.len();
+        if end - at > usize::MAX - start {
+            return Err(GrowError::Length);
+        }
+        while at < end {
+            tally.tick();
+            let count = (end - at).min(64);
+            match self.push_bits(other.bits_at(at, count), count) {
+                Ok(()) => {}
+                Err(error) => {
+                    self.truncate(start);
+                    return Err(error);
+                }
+            }
+            at += count;
+        }
+        Ok(())
+    }
+
+    /// Appends the bits of the range of `other`, up to 64 at a time: all of them or none. After a refusal the bits are
+    /// as before. It answers Length exactly where there would be more than 2^64 - 1 bits.
+    pub fn extend_bits_from<V: Words, T: Words>(
+        &mut self,
+        other: &Bools<V, T>,
+        range: Range<usize>,
+    ) -> Result<(), GrowError>
+        requires sound { IsSound bools_format (owned_content self.old) }
+        requires other { IsSound bools_format (bools_content V.bytes T.bytes other.now) }
+        requires ordered { range.start ≤ range.«end» }
+        requires in_range { range.«end» ≤ length (bits_held V.bytes T.bytes other.now) }
+        ensures ok { OnOk result (owned_bits self.new ≡ owned_bits self.old ++ slice_range (bits_held V.bytes T.bytes other.now) range.start range.«end») }
+        ensures err { OnErr result (Stayed bools_format (owned_content self.old) (owned_content self.new)) }
+        ensures length { result ≡ Err GrowError.Length → 2 ^ 64 ≤ length (owned_bits self.old) + (range.«end» - range.start) }
+        ensures full { 2 ^ 64 ≤ length (owned_bits self.old) + (range.«end» - range.start) → result ≡ Err GrowError.Length }
+        ensures kinds { IfErr result IsOfGrowth }
+        ensures sound { IsSound bools_format (owned_content self.new) }
+    {
+        self.extend_bits_from_tallied(other, range, &mut Tally::new())
+    }
+}
+
+impl Clear for Bools<Vec<u64>, [u64; 2]> {
+    fn clear(&mut self) {
+        self.values.clear();
+        self.tail = tail_of(0, 0);
+    }
+}
+
+impl Truncate for Bools<Vec<u64>, [u64; 2]> {
+    ghost lawful = { bools_lawful };
+
+    fn truncate(&mut self, n: usize) {
+        let count = (n % 64) as u64;
+        let word = low_bits(
+            word_or_tail(self.values.words(), self.tail.words(), n / 64),
+            count,
+        );
+        self.values.truncate(n / 64);
+        self.tail = tail_of(word, count);
+    }
+}
+
+impl Storage for Bools<Vec<u64>, [u64; 2]> {
+    fn empty(alloc: Global) -> Self {
+        Bools {
+            values: Vec::new(alloc),
+            tail: tail_of(0, 0),
+        }
+    }
+
+    fn duplicate(&self, alloc: Global) -> Result<Self, GrowError> {
+        let values = Vec::from_slice(alloc, self.values.as_slice())?;
+        Ok(Bools {
+            values,
+            tail: self.tail,
+        })
+    }
+}
+
+impl Reserve for Bools<Vec<u64>, [u64; 2]> {
+    type Room = usize;
+
+    fn no_room() -> usize {
+        0
+    }
+
+    fn reserve_room(&mut self, room: usize) -> Result<(), GrowError> {
+        self.values.reserve(room)?;
+        Ok(())
+    }
+}
+
+impl Push<bool> for Bools<Vec<u64>, [u64; 2]> {
+    /// A bit that fills no word needs no memory.
+    fn push(&mut self, item: bool) -> Result<(), GrowError>
+        requires sound { IsSound bools_format (owned_content self.old) }
+        ensures ok { OnOk result (Took bools_format (owned_content self.old) (owned_content self.new) (truth item ∷ [])) }
+        ensures err { IfErr result (λ e. Refused bools_format (owned_content self.old) (owned_content self.new) (truth item ∷ []) e) }
+        ensures no_memory { length (owned_bits self.old) % 64 < 63 → IsOk result }
+    {
+        self.push_bit(item)
+    }
+}
+
+impl<'x> Push<&'x bool> for Bools<Vec<u64>, [u64; 2]> {
+    /// A bit that fills no word needs no memory.
+    fn push(&mut self, item: &'x bool) -> Result<(), GrowError>
+        requires sound { IsSound bools_format (owned_content self.old) }
+        ensures ok { OnOk result (Took bools_format (owned_content self.old) (owned_content self.new) (truth item.now ∷ [])) }
+        ensures err { IfErr result (λ e. Refused bools_format (owned_content self.old) (owned_content self.new) (truth item.now ∷ []) e) }
+        ensures no_memory { length (owned_bits self.old) % 64 < 63 → IsOk result }
+    {
+        self.push_ref(item)
+    }
+}
+
+impl PushRef<bool> for Bools<Vec<u64>, [u64; 2]> {
+    /// A bit that fills no word needs no memory.
+    fn push_ref(&mut self, item: &bool) -> Result<(), GrowError>
+        requires sound { IsSound bools_format (owned_content self.old) }
+        ensures ok { OnOk result (Took bools_format (owned_content self.old) (owned_content self.new) (truth item.now ∷ [])) }
+        ensures err { IfErr result (λ e. Refused bools_format (owned_content self.old) (owned_content self.new) (truth item.now ∷ []) e) }
+        ensures no_memory { length (owned_bits self.old) % 64 < 63 → IsOk result }
+    {
+        self.push_bit(*item)
+    }
+}
+
+impl<'x> ExtendFrom<Bools<View<'x, u64>, View<'x, u64>>> for Bools<Vec<u64>, [u64; 2]> {
+    fn add_room(room: usize, view: Bools<View<'x, u64>, View<'x, u64>>) -> usize {
+        room.saturating_add(word_count(view.values))
+    }
+
+    fn extend_from_self(
+        &mut self,
+        view: Bools<View<'x, u64>, View<'x, u64>>,
+        range: Range<usize>,
+    ) -> Result<(), GrowError> {
+        self.extend_bits_from(&view, range)
+    }
+}
+
+impl<'a> Borrow<'a> for Bools<Vec<u64>, [u64; 2]> {
+    type Ref = bool;
+
+    type Borrowed = Bools<View<'a, u64>, View<'a, u64>>;
+
+    type Parts = bool;
+
+    ghost same_format = { refl };
+
+    fn borrow(&'a self) -> Bools<View<'a, u64>, View<'a, u64>> {
+        Bools {
+            values: View::from_slice(self.values.as_slice()),
+            tail: View::from_slice(&self.tail),
+        }
+    }
+}
+
+impl<'a> Container<'a> for Bools<Vec<u64>, [u64; 2]> {}
+
+impl<'a, 'b> Reborrow<'b> for Bools<View<'a, u64>, View<'a, u64>>
+where
+    'a: 'b,
+{
+    type Short = Bools<View<'b, u64>, View<'b, u64>>;
+
+    ghost same_short = { refl };
+
+    fn reborrow(self) -> Bools<View<'b, u64>, View<'b, u64>> {
+        Bools {
+            values: self.values,
+            tail: self.tail,
+        }
+    }
+}
+
+impl<'x, VC: Words, TC: Words> Index for &'x Bools<VC, TC> {
+    type Ref = bool;
+
+    fn get(&self, index: usize) -> bool {
+        bit_at(self.values.words(), self.tail.words(), index)
+    }
+}

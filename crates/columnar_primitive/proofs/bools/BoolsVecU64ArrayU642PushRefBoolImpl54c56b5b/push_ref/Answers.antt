@@ -1,6 +1,0 @@
-use Rattle.std.proofs.lemmas.Result.{on_ok_weaker}
-use Rattle.columnar_primitive.specs.BoolLaws.{bools_parts, bools_took}
-use Rattle.columnar_primitive.proofs.bools.BoolsVecU64ArrayU642PushRefBoolImpl54c56b5b.push_ref.Goals as goal
-
-pub returns-clause-ok : goal.returns-clause-ok
-returns-clause-ok c = on_ok_weaker c.push_bit.result (λ e. bools_took (record { sound = bools_parts c.push_bit.ensures.sound; bits = e })) c.push_bit.ensures.ok

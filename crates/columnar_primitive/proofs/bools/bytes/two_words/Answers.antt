@@ -1,5 +1,0 @@
-use Rattle.columnar_primitive.specs.BoolBytes.{two_read}
-use Rattle.columnar_primitive.proofs.bools.bytes.two_words.Goals as goal
-
-pub returns : goal.returns
-returns c = two_read c.args.bytes.now c.element_in-word.result c.element_in-count.result c.requires c.element_in-word.ensures c.element_in-count.ensures

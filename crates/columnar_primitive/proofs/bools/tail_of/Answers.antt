@@ -1,5 +1,0 @@
-use Rattle.columnar_primitive.specs.BoolLaws.{tail_made}
-use Rattle.columnar_primitive.proofs.bools.tail_of.Goals as goal
-
-pub returns : goal.returns
-returns c = tail_made c.args.word c.args.count c.ranges.word.fits c.ranges.count.fits

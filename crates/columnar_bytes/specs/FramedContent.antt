@@ -2,7 +2,7 @@
 use Rattle.std.proofs.Common.{◌≡◌, ℕ, zero, suc, ◌<◌, List, [], ◌∷◌, length, replicate, refl, sym, ◌∙◌, ap, arith}
 use Rattle.std.specs.Prelude.{slice_get, slice_index_or, Some}
 use Rattle.std.proofs.Math.Seq.{take-length}
-use Rattle.columnar_core.specs.Format.{Format, Content, Fits, IsSound, IsStorable, slices_of}
+use Rattle.columnar_core.specs.Format.{Format, Content, Fits, IsStorable, slices_of}
 use Rattle.columnar_core.specs.Store.{slices_in}
 use Rattle.columnar_core.specs.declared.traits.Column.{Ghosts as ColumnOf}
 use Rattle.columnar_bytes.specs.declared.stash.framed.Framed.{Framed}

@@ -1,5 +1,5 @@
 -- What the test of lookbacks finds.
-use Rattle.std.proofs.Common.{◌≡◌, ℕ, zero, suc, ◌+◌, ◌-◌, ◌*◌, ◌/◌, ◌^◌, ◌<◌, ◌≤◌, Bool, true, false, List, [], ◌∷◌, ◌++◌, length, take, drop, refl, sym, ◌∙◌, ap, arith}
+use Rattle.std.proofs.Common.{◌≡◌, ℕ, suc, ◌+◌, ◌-◌, ◌*◌, ◌^◌, ◌<◌, ◌≤◌, Bool, true, false, List, [], ◌∷◌, length, take, drop, refl, ◌∙◌, ap, arith}
 use Rattle.std.specs.Prelude.{slice_get, Some, None, map, not}
 use Rattle.std.specs.Int.{w8}
 use Rattle.std.proofs.Math.Nat.{mod-eq_of_lt}
@@ -15,12 +15,11 @@ use Rattle.columnar_sums.specs.RankColumns.{ranks_bits, ranks_format}
 use Rattle.columnar_base.specs.WordViewLaws.{length-words_in}
 use Rattle.columnar_bits.specs.BoolLaws.{bits_length}
 use Rattle.columnar_sums.specs.RankLaws.{ranks_parts, ranks_form}
-use Rattle.columnar_sums.specs.CountLaws.{ones_le}
 use Rattle.columnar_sums.specs.Results.{turned, zeros, weave_results, results_format}
 use Rattle.columnar_sums.specs.ResultLaws.{results_two}
 use Rattle.columnar_sums.specs.WeaveLaws.{ones_most, ones_before, bit_of_row}
 use Rattle.columnar_sums.specs.WeaveBoth.{ones_zeros, zeros_all, turned_at, weave_ok, weave_err}
-use Rattle.columnar_lookback.specs.Recall.{latest, recall, reaches}
+use Rattle.columnar_lookback.specs.Recall.{latest, reaches}
 use Rattle.columnar_lookback.specs.RecallLaws.{recall_fine, recall_fault, recall_own, reaches_next, reaches_not}
 use Rattle.columnar_lookback.specs.LatestLaws.{onto, length-onto}
 use Rattle.columnar_lookback.specs.RepeatLaws.{ones_set, ones_clear}

@@ -1,12 +1,11 @@
-use Rattle.std.proofs.Common.{◌≡◌, ℕ, zero, suc, ◌+◌, ◌-◌, ◌*◌, ◌/◌, ◌<◌, ◌≤◌, Bool, true, false, ◌&&◌, List, [], ◌∷◌, ◌++◌, length, take, drop, append-nil, refl, sym, ◌∙◌, ap, arith, ◌⊎◌, inl, inr}
-use Rattle.std.specs.Prelude.{slice_get, Some, None, Option, nat_lt, cond, map, min, option_map, ◌^◌, ◌||◌}
-use Rattle.std.proofs.lemmas.Bool.{and_parts, and_from, lt-ltb, ltb-true, cases_lt}
+use Rattle.std.proofs.Common.{◌≡◌, ℕ, zero, suc, ◌+◌, ◌-◌, ◌<◌, ◌≤◌, Bool, true, false, ◌&&◌, List, [], ◌∷◌, ◌++◌, length, take, drop, append-nil, refl, sym, ◌∙◌, ap, arith, ◌⊎◌, inl, inr}
+use Rattle.std.specs.Prelude.{slice_get, Some, None, Option, cond, map, min, option_map, ◌^◌}
+use Rattle.std.proofs.lemmas.Bool.{and_parts, and_from, lt-ltb, cases_lt}
 use Rattle.std.proofs.lemmas.Option.{slice_get_within}
 use Rattle.std.proofs.lemmas.List.{length-take-le, length-append, length-map}
 use Rattle.columnar_base.specs.Row.{Row, unit, number, number_of, truth, none, some, ok, err, row_eq}
-use Rattle.columnar_base.specs.Format.{Format, Content, both, IsSound, IsLawful, IsStorable, IsSame, all_alike, Excess, refuses_more}
+use Rattle.columnar_base.specs.Format.{Format, Content, both, IsSound, IsLawful, IsStorable, all_alike, Excess}
 use Rattle.columnar_base.specs.AlikeLaws.{row_eq_exact, alike_length}
-use Rattle.columnar_base.specs.RowLaws.{row_eq-is}
 use Rattle.columnar_base.specs.Elements.{past_count, elements_format}
 use Rattle.columnar_base.specs.Change.{Took, Copied, Refused}
 use Rattle.columnar_base.specs.ChangeLaws.{slice_get_some}
@@ -16,13 +15,13 @@ use Rattle.std.proofs.Math.Nat.{mod-eq_of_lt}
 use Rattle.columnar_base.specs.declared.fault.GrowError.{GrowError}
 use Rattle.columnar_sums.specs.Counting.{ones}
 use Rattle.columnar_sums.specs.RankColumns.{ranks_bits}
-use Rattle.columnar_sums.specs.CountLaws.{ones_zero, ones_true, ones_false}
-use Rattle.columnar_sums.specs.Options.{value_of, somes, inner_of, bare_option, option_alike}
+use Rattle.columnar_sums.specs.CountLaws.{ones_true, ones_false}
+use Rattle.columnar_sums.specs.Options.{value_of, inner_of, bare_option, option_alike}
 use Rattle.columnar_sums.specs.Results.{turned, zeros, weave_results, ok_part, err_part, bare_result, oks, errs, result_alike, results_refuses, results_format}
-use Rattle.columnar_sums.specs.ResultLaws.{results_parts, results_oks, results_errs, results_clear, results_clear_of, results_ok_value, results_err_value, results_ok, results_err, results_ok_top, results_err_top, results_lawful, results_storable, length-results}
-use Rattle.columnar_sums.specs.WeaveLaws.{ones_nil, ones_most, ones_taken}
-use Rattle.columnar_sums.specs.WeaveBoth.{ones_zeros, zeros_taken, length-weave_results, weave_results-take, oks-append, errs-append}
-use Rattle.columnar_lookback.specs.Recall.{Code, recent, latest, recall, reaches, recalled}
+use Rattle.columnar_sums.specs.ResultLaws.{results_parts, results_oks, results_errs, results_clear, results_clear_of, results_ok_value, results_err_value, results_ok, results_err, results_ok_top, results_err_top, results_lawful, results_storable}
+use Rattle.columnar_sums.specs.WeaveLaws.{ones_nil, ones_taken}
+use Rattle.columnar_sums.specs.WeaveBoth.{zeros_taken, length-weave_results, weave_results-take, oks-append, errs-append}
+use Rattle.columnar_lookback.specs.Recall.{recent, latest, recall, reaches}
 use Rattle.columnar_lookback.specs.RecallLaws.{IsCode, IsStoring, ReadsAlike, Each, each_taken, each_dropped, range_recalled, recall_parts, recall_lawful, recall_storable, recall_took, recall_took_as, recall_refused, recall_refused_as, recall_front, recall_at, reaches_at, reaches-take, length-recall, recall-take}
 use Rattle.columnar_lookback.specs.LatestLaws.{onto, length-onto, recent_onto, taken_at}
 use Rattle.columnar_lookback.specs.RepeatLaws.{option_values, option_is, ones_set, ones_clear}

@@ -2,7 +2,7 @@
 -- them, and is read as the rows that these stand for.
 use Rattle.std.specs.Prelude.{ℕ, zero, suc, Bool, true, false, List, [], ◌∷◌, ◌++◌, length, ◌&&◌, ◌||◌, nat_lt}
 use Rattle.columnar_base.specs.Row.{Row, unit}
-use Rattle.columnar_base.specs.Format.{Format, Content, Fault, fault, unless, Excess}
+use Rattle.columnar_base.specs.Format.{Format, Content, Fault, fault, unless}
 
 -- What inner rows are. `value` is the value that a row brings, if it is one; `back` is how far back the row reads, 0 for
 -- the last value up to it; `forms` are the inner rows that a pushed row may be stored as.

@@ -1,12 +1,12 @@
-use Rattle.std.proofs.Common.{◌≡◌, ℕ, zero, suc, ◌+◌, ◌-◌, ◌<◌, ◌≤◌, Bool, true, false, ◌&&◌, List, [], ◌∷◌, ◌++◌, length, take, drop, refl, sym, ◌∙◌, ap, arith, ◌⊎◌, inl, inr}
-use Rattle.std.specs.Prelude.{slice_get, Some, None, ◌||◌, nat_lt}
+use Rattle.std.proofs.Common.{◌≡◌, ℕ, zero, suc, ◌+◌, ◌-◌, ◌<◌, ◌≤◌, Bool, true, false, List, [], ◌∷◌, ◌++◌, length, take, drop, refl, sym, ◌∙◌, ap, arith, ◌⊎◌, inl, inr}
+use Rattle.std.specs.Prelude.{slice_get, Some, None, nat_lt}
 use Rattle.std.proofs.lemmas.Bool.{and_parts, and_from, or_left, or_right, lt-ltb, ltb-true}
 use Rattle.std.proofs.lemmas.List.{nil_from_length, length-append, map-append}
 use Rattle.columnar_base.specs.Row.{Row, unit}
 use Rattle.columnar_base.specs.Format.{Format, Content, Fault, fault, first, moved, moved_one, unless, IsSound, IsLawful, IsStorable, IsSame, lengths, all_alike, Excess, refuses_more}
 use Rattle.columnar_base.specs.FaultLaws.{first_none, first_found, nothing_left, nothing_both, nothing_moved, unless_true, true_unless}
 use Rattle.columnar_base.specs.AlikeLaws.{all_alike-append, alike_length, alike_all, alike_on}
-use Rattle.columnar_base.specs.Change.{Keeps, Grew, Stayed, WasCut, Took, Copied, Refused}
+use Rattle.columnar_base.specs.Change.{Keeps, Stayed, WasCut, Took, Copied, Refused}
 use Rattle.columnar_base.specs.ChangeLaws.{true_from, took_none, undone, grew_stayed, refused_more}
 use Rattle.columnar_base.specs.TupleLaws.{or_both}
 use Rattle.columnar_base.specs.declared.fault.GrowError.{GrowError}

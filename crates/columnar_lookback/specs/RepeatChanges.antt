@@ -1,21 +1,20 @@
 -- What pushes to and copies of repeats leave.
-use Rattle.std.proofs.Common.{◌≡◌, ℕ, zero, suc, ◌+◌, ◌-◌, ◌<◌, ◌≤◌, Bool, true, false, ◌&&◌, List, [], ◌∷◌, ◌++◌, length, take, drop, append-nil, refl, sym, ◌∙◌, ap, arith, ◌⊎◌, inl, inr}
+use Rattle.std.proofs.Common.{◌≡◌, ℕ, zero, suc, ◌+◌, ◌-◌, ◌<◌, ◌≤◌, Bool, true, false, List, [], ◌∷◌, ◌++◌, length, take, drop, append-nil, refl, sym, ◌∙◌, ap, arith, ◌⊎◌, inl, inr}
 use Rattle.std.specs.Prelude.{slice_get, Some, nat_lt, cond}
 use Rattle.std.proofs.lemmas.Bool.{and_parts, and_from, lt-ltb, ltb-true}
 use Rattle.std.proofs.lemmas.List.{length-append, nil_from_length}
 use Rattle.columnar_base.specs.Row.{Row, unit, none, some}
-use Rattle.columnar_base.specs.Format.{Format, Content, both, IsSound, IsLawful, IsSame, all_alike}
-use Rattle.columnar_base.specs.AlikeLaws.{alike_all, alike_length}
-use Rattle.columnar_base.specs.Change.{Stayed, WasCut, Took, Copied, Refused}
+use Rattle.columnar_base.specs.Format.{Format, Content, both, IsSound, IsLawful, all_alike}
+use Rattle.columnar_base.specs.AlikeLaws.{alike_length}
+use Rattle.columnar_base.specs.Change.{WasCut, Took, Copied, Refused}
 use Rattle.columnar_base.specs.ChangeLaws.{true_from, took_twice, took_none, grew_stayed, undone, slice_get_some}
 use Rattle.columnar_base.specs.declared.fault.GrowError.{GrowError}
 use Rattle.columnar_sums.specs.RankColumns.{ranks_bits}
-use Rattle.columnar_sums.specs.Counting.{ones}
 use Rattle.columnar_sums.specs.Options.{weave, value_of, somes, option_alike, options_format}
 use Rattle.columnar_sums.specs.OptionLaws.{options_somes}
 use Rattle.columnar_sums.specs.WeaveLaws.{somes-append}
-use Rattle.columnar_lookback.specs.Recall.{Code, recent, latest, recall, reaches, recalled}
-use Rattle.columnar_lookback.specs.RecallLaws.{Among, IsStoring, SoundRecall, recall_parts, recall_stayed, recall_took, recall_refused, recall_at, reaches_at, reaches-take, length-recall, recall-take, recall_front, range_recalled, Each, each_taken, each_dropped}
+use Rattle.columnar_lookback.specs.Recall.{recent, latest, recall, reaches}
+use Rattle.columnar_lookback.specs.RecallLaws.{Among, IsStoring, recall_parts, recall_stayed, recall_took, recall_refused, recall_at, reaches-take, length-recall, recall-take, recall_front, range_recalled, Each, each_taken, each_dropped}
 use Rattle.columnar_lookback.specs.Repeats.{repeats_code, repeats_format, last_is, values_between}
 use Rattle.columnar_lookback.specs.RepeatLaws.{option_values, repeats_alike, repeats_lawful, reaches_near, recall_near, latest_grows}
 

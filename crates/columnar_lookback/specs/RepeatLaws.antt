@@ -1,22 +1,19 @@
-use Rattle.std.proofs.Common.{◌≡◌, ℕ, zero, suc, ◌+◌, ◌-◌, ◌<◌, ◌≤◌, Bool, true, false, ◌&&◌, List, [], ◌∷◌, ◌++◌, length, take, drop, refl, sym, ◌∙◌, ap, arith, ◌⊎◌, inl, inr}
+use Rattle.std.proofs.Common.{◌≡◌, ℕ, zero, suc, ◌+◌, ◌-◌, ◌<◌, ◌≤◌, Bool, true, false, List, [], ◌∷◌, ◌++◌, length, take, refl, sym, ◌∙◌, ap, arith, inl, inr}
 use Rattle.std.specs.Prelude.{slice_get, Some, None, nat_lt, cond, map}
 use Rattle.std.proofs.lemmas.Bool.{and_parts, and_from, lt-ltb, ltb-true}
 use Rattle.std.proofs.lemmas.List.{length-take-le, length-append}
 use Rattle.columnar_base.specs.Row.{Row, number, integer, character, truth, unit, duration, tuple, none, some, ok, err, empty, more, variant, solo, team, tree, row_eq}
 use Rattle.columnar_base.specs.RowLaws.{row_eq-is}
 use Rattle.columnar_base.specs.Format.{Format, Content, both, first, moved, IsSound, IsLawful, IsStorable, IsSame, IsExact, all_alike}
-use Rattle.columnar_base.specs.AlikeLaws.{alike_all}
-use Rattle.columnar_base.specs.Change.{Took, Refused}
 use Rattle.columnar_base.specs.ChangeLaws.{slice_get_some}
-use Rattle.columnar_base.specs.declared.fault.GrowError.{GrowError}
 use Rattle.columnar_sums.specs.Counting.{ones}
 use Rattle.columnar_sums.specs.RankColumns.{ranks_bits}
 use Rattle.columnar_sums.specs.CountLaws.{ones_zero, ones_true, ones_false}
 use Rattle.columnar_sums.specs.Options.{weave, value_of, inner_of, bare_option, option_alike, options_format}
-use Rattle.columnar_sums.specs.OptionLaws.{options_parts, options_lawful, options_storable, length-options}
+use Rattle.columnar_sums.specs.OptionLaws.{options_parts, options_lawful, options_storable}
 use Rattle.columnar_sums.specs.WeaveLaws.{ones_nil, ones_most, ones_taken, weave-take, length-weave, bit_of_row}
-use Rattle.columnar_lookback.specs.Recall.{Code, recent, latest, recall, reaches, recalled}
-use Rattle.columnar_lookback.specs.RecallLaws.{IsCode, IsStoring, ReadsAlike, recall_parts, recall_fine, recall_lawful, recall_storable, recall_took, recall_refused, recall_at, reaches_at, length-recall}
+use Rattle.columnar_lookback.specs.Recall.{recent, latest, recall, reaches}
+use Rattle.columnar_lookback.specs.RecallLaws.{IsCode, ReadsAlike, recall_parts, recall_fine, recall_lawful, recall_storable, recall_at, reaches_at, length-recall}
 use Rattle.columnar_lookback.specs.LatestLaws.{onto, length-onto, recent_onto, taken_at}
 use Rattle.columnar_lookback.specs.Repeats.{repeats_code, repeats_format, starts, last_is}
 

@@ -1,5 +1,5 @@
 -- Trees, and their nodes level by level.
-use Rattle.std.specs.Prelude.{ℕ, suc, zero, List, [], ◌∷◌, ◌++◌}
+use Rattle.std.specs.Prelude.{ℕ, suc, List, [], ◌∷◌, ◌++◌}
 
 -- trees side by side: none, or a tree (its value and its kids) and the rest
 pub data Forest (A : Type 0) : Type 0 where

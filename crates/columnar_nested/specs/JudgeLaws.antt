@@ -1,17 +1,17 @@
 -- Which rule of trees is broken first, and how many turns its test takes.
-use Rattle.std.proofs.Common.{◌≡◌, ℕ, zero, suc, ◌+◌, ◌*◌, ◌/◌, ◌-◌, ◌<◌, ◌≤◌, Bool, true, false, List, [], ◌∷◌, ◌++◌, length, drop, refl, sym, ◌∙◌, ap, subst, arith, append_assoc, append-nil}
-use Rattle.std.specs.Prelude.{Option, Some, None, slice_index_or}
+use Rattle.std.proofs.Common.{◌≡◌, ℕ, ◌+◌, ◌*◌, ◌-◌, ◌≤◌, true, false, List, [], ◌∷◌, ◌++◌, length, drop, refl, sym, ◌∙◌, ap, subst, arith, append_assoc, append-nil}
+use Rattle.std.specs.Prelude.{Some, None, slice_index_or}
 use Rattle.std.proofs.lemmas.List.{drop-drop}
 use Rattle.std.proofs.Math.Nat.{mul-le-mul_right}
 use Rattle.columnar_base.specs.Format.{Format, Content, slice, both, IsSound, IsStorable, Fits, Fault, fault, moved, first, unless, bytes_held}
-use Rattle.columnar_base.specs.FaultLaws.{first_found, first_none, sound_from, nothing_moved}
+use Rattle.columnar_base.specs.FaultLaws.{first_found, first_none}
 use Rattle.columnar_base.specs.TwoParts.{two_moved, both_broken, two_fits_left, two_fits_right}
 use Rattle.columnar_base.specs.Elements.{words_format, first_slice}
 use Rattle.columnar_base.specs.WordViews.{words_in}
 use Rattle.columnar_base.specs.WordViewLaws.{length-words_in}
 use Rattle.columnar_core.specs.StoreLaws.{first_at}
 use Rattle.columnar_nested.specs.Pass.{accepts}
-use Rattle.columnar_nested.specs.Trees.{nodes_format, trees_keep, trees_format, trees_rows, words_of}
+use Rattle.columnar_nested.specs.Trees.{nodes_format, trees_keep, trees_format}
 use Rattle.columnar_nested.specs.TreesLaws.{nodes_two, trees_two, len_trees}
 
 -- the rules of the words, then those of the values, then the own one, with slices counted from `o`

@@ -1,5 +1,5 @@
 -- How trees are laid out in three lists, and which lists such a layout makes.
-use Rattle.std.specs.Prelude.{ℕ, suc, zero, List, [], ◌∷◌, ◌++◌, map, length, ◌+◌, ◌≡◌, ◌≤◌, ◌<◌, Bool, true, false, ◌&&◌, nat_eq, nat_le, cond, slice_index}
+use Rattle.std.specs.Prelude.{ℕ, suc, List, [], ◌∷◌, ◌++◌, map, length, ◌+◌, ◌≡◌, ◌≤◌, ◌<◌, Bool, false, ◌&&◌, nat_eq, nat_le, cond, slice_index}
 use Rattle.columnar_nested.specs.Forest.{Forest, no_trees, tree_and, Node, width, level_order}
 
 -- a list of trees: the nodes of each tree level by level, tree after tree

@@ -1,13 +1,13 @@
 -- The theorem: three lists keep the rule exactly where one and only one list of trees has that layout.
-use Rattle.std.proofs.Common.{◌≡◌, ℕ, zero, suc, ◌+◌, ◌-◌, ◌<◌, ◌≤◌, Bool, true, false, cond, ◌&&◌, List, [], ◌∷◌, ◌++◌, length, map, refl, sym, ◌∙◌, ap, subst, arith, inl, inr, get_or}
+use Rattle.std.proofs.Common.{◌≡◌, ℕ, zero, suc, ◌+◌, ◌-◌, ◌<◌, ◌≤◌, true, false, ◌&&◌, List, [], ◌∷◌, length, map, refl, sym, ◌∙◌, ap, subst, arith}
 use Rattle.std.specs.Prelude.{nat_eq, nat_le, slice_index}
-use Rattle.std.proofs.lemmas.Bool.{and_parts, and_from, eqb-true, eq-eqb, leb-true, le-leb, false≢true}
+use Rattle.std.proofs.lemmas.Bool.{and_parts, and_from, eqb-true, eq-eqb, leb-true, false≢true}
 use Rattle.std.proofs.lemmas.List.{length-map}
-use Rattle.columnar_nested.specs.Forest.{Forest, no_trees, tree_and, Node, width, roots, level_order}
-use Rattle.columnar_nested.specs.Layout.{IsLayout, IsTreeRule, bounds_keep, nodes, values_of, kid_counts, totals, starts, kid_ends, own_places, keeps}
+use Rattle.columnar_nested.specs.Forest.{Forest, no_trees, tree_and, width}
+use Rattle.columnar_nested.specs.Layout.{IsLayout, IsTreeRule, bounds_keep, nodes, values_of, starts, kid_ends, own_places, keeps}
 use Rattle.columnar_nested.specs.Reading.{pending, trees_from, trees_of}
 use Rattle.columnar_nested.specs.Walk.{walk_nodes, walk_ends, walk_starts, walk_nodes-whole, walk_ends-whole, walk_starts-whole}
-use Rattle.columnar_nested.specs.OneForest.{IsRead, IsKept, IsMade, read_all, kept_all, made_all, keeps-step, eq-false}
+use Rattle.columnar_nested.specs.OneForest.{read_all, kept_all, made_all, keeps-step}
 
 -- one and only one list of trees has this layout
 pub record IsOne {A : Type 0} (groups bounds : List ℕ) (values : List A) : Type 0 where

@@ -1,15 +1,14 @@
 -- What the numbers of a layout say of its trees and nodes, and the layout of one more tree.
-use Rattle.std.proofs.Common.{◌≡◌, ℕ, zero, suc, ◌+◌, ◌-◌, ◌<◌, ◌≤◌, Bool, true, false, cond, ◌&&◌, List, [], ◌∷◌, ◌++◌, length, map, refl, sym, ◌∙◌, ap, subst, arith, inl, inr, get_or, append_assoc, length-append, append-nil}
-use Rattle.std.specs.Prelude.{nat_eq, nat_le, slice_index, slice_get, Some, None, Option}
-use Rattle.std.proofs.lemmas.Bool.{eq-eqb, eqb-true, cases_lt, cases_eq, ne_eqb}
+use Rattle.std.proofs.Common.{◌≡◌, ℕ, zero, suc, ◌+◌, ◌-◌, ◌<◌, ◌≤◌, true, false, List, [], ◌∷◌, ◌++◌, length, map, refl, sym, ◌∙◌, ap, subst, arith, inl, inr, append_assoc, length-append, append-nil}
+use Rattle.std.specs.Prelude.{nat_eq, slice_index, slice_get, Some}
+use Rattle.std.proofs.lemmas.Bool.{eq-eqb, cases_eq, ne_eqb}
 use Rattle.std.proofs.lemmas.Option.{slice_get_within, slice_get-map}
 use Rattle.std.proofs.lemmas.List.{length-map, map-append}
-use Rattle.columnar_nested.specs.Forest.{Forest, no_trees, tree_and, Node, width, roots, level_order, levels, in_line, beside}
-use Rattle.columnar_nested.specs.Layout.{IsLayout, IsTreeRule, nodes, values_of, kid_counts, totals, starts, kid_ends, own_places, keeps}
-use Rattle.columnar_nested.specs.ForestLaws.{joined, joined-no_trees, width-joined, level_order-tree}
-use Rattle.columnar_nested.specs.Walk.{walk_nodes-whole, walk_ends-whole, walk_starts-whole}
+use Rattle.columnar_nested.specs.Forest.{Forest, no_trees, tree_and, Node, width, roots, level_order}
+use Rattle.columnar_nested.specs.Layout.{IsLayout, nodes, values_of, kid_counts, totals, starts, kid_ends, own_places}
+use Rattle.columnar_nested.specs.ForestLaws.{joined}
+use Rattle.columnar_nested.specs.Walk.{walk_nodes-whole, walk_ends-whole}
 use Rattle.columnar_nested.specs.Nodes.{IsTold, told_all, get-after, first_kid, first_kid-after}
-use Rattle.columnar_nested.specs.Layouts.{layout_passes, passed_rule}
 
 -- node i of the trees ts is x: its value, its number of kids, and each kid's number, by the columns
 pub record IsNode {A : Type 0} (ts : Forest A) (bounds : List ℕ) (values : List A) (i : ℕ) (x : Node A) : Type 0 where

@@ -1,5 +1,5 @@
 -- A node of stored trees: what it means, and what its reads ask.
-use Rattle.std.specs.Prelude.{ℕ, List, length, ◌≡◌}
+use Rattle.std.specs.Prelude.{ℕ, List, length}
 use Rattle.columnar_base.specs.Row.{Row}
 use Rattle.columnar_base.specs.Format.{Format, Content, IsSound}
 use Rattle.columnar_base.specs.WordViews.{words_in}

@@ -1,12 +1,12 @@
 -- Reading a node of a layout by numbers.
-use Rattle.std.proofs.Common.{◌≡◌, ℕ, zero, suc, ◌+◌, ◌-◌, ◌<◌, ◌≤◌, Bool, true, false, cond, ◌&&◌, List, [], ◌∷◌, ◌++◌, length, map, refl, sym, ◌∙◌, ap, subst, arith, inl, inr, get_or, append_assoc, length-append, append-nil}
-use Rattle.std.specs.Prelude.{nat_eq, nat_le, slice_index, slice_get, Some, None, Option}
+use Rattle.std.proofs.Common.{◌≡◌, ℕ, zero, suc, ◌+◌, ◌-◌, ◌<◌, ◌≤◌, true, false, cond, List, [], ◌∷◌, ◌++◌, length, refl, sym, ◌∙◌, ap, arith, inl, inr, append_assoc, append-nil}
+use Rattle.std.specs.Prelude.{nat_eq, slice_index, slice_get, Some}
 use Rattle.std.proofs.lemmas.Bool.{eq-eqb, cases_lt}
 use Rattle.std.proofs.lemmas.Option.{slice_get_within}
 use Rattle.columnar_nested.specs.Forest.{Forest, no_trees, tree_and, Node, width, roots, level_order, levels, in_line, beside}
-use Rattle.columnar_nested.specs.Layout.{IsLayout, IsTreeRule, nodes, values_of, kid_counts, totals, starts, kid_ends, own_places, keeps}
-use Rattle.columnar_nested.specs.ForestLaws.{joined, joined-no_trees, width-joined}
-use Rattle.columnar_nested.specs.Walk.{walk_nodes, walk_ends, walk_starts, nodes-root, nodes-next, ends-root, ends-next, starts-root, starts-next, nodes-done, ends-done, starts-done, walk_nodes-whole, walk_ends-whole, walk_starts-whole, walk_all}
+use Rattle.columnar_nested.specs.Layout.{nodes}
+use Rattle.columnar_nested.specs.ForestLaws.{joined, width-joined}
+use Rattle.columnar_nested.specs.Walk.{walk_nodes, walk_ends, nodes-root, nodes-next, ends-root, ends-next, nodes-done, ends-done, walk_all}
 use Rattle.columnar_nested.specs.OneForest.{eq-false}
 
 -- the number of the first kid of the node j, whose bound is b: a root is skipped

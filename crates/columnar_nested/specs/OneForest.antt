@@ -1,12 +1,12 @@
 -- The rule of layouts holds exactly where one and only one list of trees has that layout.
-use Rattle.std.proofs.Common.{◌≡◌, ℕ, zero, suc, ◌+◌, ◌-◌, ◌<◌, ◌≤◌, Bool, true, false, cond, ◌&&◌, List, [], ◌∷◌, ◌++◌, length, map, refl, sym, ◌∙◌, ap, arith, inl, inr}
+use Rattle.std.proofs.Common.{◌≡◌, ℕ, zero, suc, ◌+◌, ◌-◌, ◌<◌, ◌≤◌, true, false, ◌&&◌, List, [], ◌∷◌, length, refl, sym, ◌∙◌, ap, arith, inl, inr}
 use Rattle.std.specs.Prelude.{nat_eq, nat_le}
 use Rattle.std.proofs.lemmas.Bool.{cases_lt, ne_eqb, and_parts, and_from, eqb-true, eq-eqb, leb-true, le-leb}
-use Rattle.columnar_nested.specs.Forest.{Forest, no_trees, tree_and, Node, width, roots, level_order}
-use Rattle.columnar_nested.specs.Layout.{nodes, values_of, kid_counts, totals, starts, kid_ends, own_places, keeps}
-use Rattle.columnar_nested.specs.ForestLaws.{joined, joined-no_trees, width-joined}
-use Rattle.columnar_nested.specs.Reading.{first_trees, later_trees, pending, trees_from, trees_of}
-use Rattle.columnar_nested.specs.Walk.{walk_nodes, walk_ends, walk_starts, nodes-root, nodes-next, ends-root, ends-next, starts-root, starts-next, nodes-done, ends-done, starts-done, walk_nodes-whole, walk_ends-whole, walk_starts-whole, walk_all}
+use Rattle.columnar_nested.specs.Forest.{Forest, no_trees, tree_and, width}
+use Rattle.columnar_nested.specs.Layout.{nodes, values_of, starts, own_places, keeps}
+use Rattle.columnar_nested.specs.ForestLaws.{joined, width-joined}
+use Rattle.columnar_nested.specs.Reading.{first_trees, later_trees, pending, trees_from}
+use Rattle.columnar_nested.specs.Walk.{walk_nodes, walk_ends, walk_starts, nodes-root, nodes-next, ends-root, ends-next, starts-root, starts-next, nodes-done, ends-done, starts-done, walk_all}
 
 pub eq-false : (m n : ℕ) → n < m → nat_eq m n ≡ false
 eq-false m n h = ne_eqb m n (λ e. omega arith)

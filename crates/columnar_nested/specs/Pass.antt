@@ -1,10 +1,10 @@
 -- The rule as one pass over the bounds tests it, beside the groups.
-use Rattle.std.proofs.Common.{◌≡◌, ℕ, zero, suc, ◌+◌, ◌-◌, ◌<◌, ◌≤◌, Bool, true, false, cond, ◌&&◌, List, [], ◌∷◌, ◌++◌, length, map, refl, sym, ◌∙◌, ap, subst, arith, inl, inr, get_or, drop}
+use Rattle.std.proofs.Common.{◌≡◌, ℕ, zero, suc, ◌+◌, ◌-◌, ◌<◌, ◌≤◌, Bool, true, false, cond, ◌&&◌, List, [], ◌∷◌, length, refl, sym, ◌∙◌, ap, arith, inl, inr, get_or, drop}
 use Rattle.std.proofs.Math.Seq.{drop-cons, drop-length}
 use Rattle.std.specs.Prelude.{nat_eq, nat_le, slice_index}
-use Rattle.std.proofs.lemmas.Bool.{and_parts, and_from, eq-eqb, eqb-true, leb-true, le-leb, cases_lt, cases_eq, ne_eqb, false≢true}
-use Rattle.columnar_nested.specs.Layout.{IsTreeRule, own_places, keeps, bounds_keep}
-use Rattle.columnar_nested.specs.Layouts.{IsPassed, IsOne, rule_one, one_rule, rule_passed, passed_rule}
+use Rattle.std.proofs.lemmas.Bool.{and_parts, and_from, eq-eqb, eqb-true, le-leb, cases_eq, ne_eqb, false≢true}
+use Rattle.columnar_nested.specs.Layout.{IsTreeRule, own_places, keeps}
+use Rattle.columnar_nested.specs.Layouts.{rule_passed, passed_rule}
 
 abbrev pub is_nil : List ℕ → Bool
 is_nil [] = true

@@ -1,10 +1,10 @@
 -- One turn of the loop that pushes trees level by level; m says what a value means.
-use Rattle.std.proofs.Common.{◌≡◌, ℕ, zero, suc, ◌+◌, ◌<◌, ◌≤◌, List, [], ◌∷◌, ◌++◌, map, refl, ap, ◌∙◌, length, arith, sym, append_assoc, length-append, take, append-nil, drop}
-use Rattle.std.proofs.lemmas.List.{take-append-le, length-map}
-use Rattle.columnar_nested.specs.Forest.{Forest, no_trees, tree_and, Node, width, level_order}
+use Rattle.std.proofs.Common.{◌≡◌, ℕ, suc, ◌+◌, ◌<◌, List, [], ◌∷◌, ◌++◌, map, refl, ap, ◌∙◌, length, arith, sym, length-append}
+use Rattle.std.proofs.lemmas.List.{length-map}
+use Rattle.columnar_nested.specs.Forest.{tree_and, Node, width, level_order}
 use Rattle.columnar_nested.specs.Layout.{values_of, kid_counts, totals}
-use Rattle.columnar_nested.specs.ForestLaws.{joined, level_order-tree, width-joined}
-use Rattle.columnar_nested.specs.TreeValues.{forest_of, node_step, node_of, trees_as_forest, in_order, added_values, added_bounds}
+use Rattle.columnar_nested.specs.ForestLaws.{joined, level_order-tree}
+use Rattle.columnar_nested.specs.TreeValues.{node_step, node_of, trees_as_forest, in_order, added_values, added_bounds}
 use Rattle.columnar_nested.specs.declared.tree.Tree.{Tree}
 use Rattle.columnar_nested.specs.declared.tree.Tree.TheViews.{out-Tree}
 use Rattle.columnar_nested.specs.declared.tree.Tree.TheFolds.{fold_out-Tree}

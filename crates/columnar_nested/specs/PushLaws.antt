@@ -1,10 +1,10 @@
-use Rattle.std.proofs.Common.{◌≡◌, ℕ, zero, suc, ◌+◌, ◌-◌, ◌^◌, ◌<◌, ◌≤◌, Bool, true, false, ◌||◌, List, [], ◌∷◌, ◌++◌, map, length, take, refl, sym, ◌∙◌, ap, subst, arith, append_assoc, length-append, append-nil}
-use Rattle.std.specs.Prelude.{All, nat_lt}
+use Rattle.std.proofs.Common.{◌≡◌, ℕ, suc, ◌+◌, ◌-◌, ◌^◌, ◌<◌, ◌≤◌, true, List, [], ◌∷◌, ◌++◌, length, take, refl, sym, ◌∙◌, ap, subst, arith, append_assoc, length-append, append-nil}
+use Rattle.std.specs.Prelude.{All}
 use Rattle.std.proofs.Math.Seq.{take-length}
 use Rattle.std.proofs.lemmas.Bool.{or_left, or_right, lt-ltb}
-use Rattle.std.proofs.lemmas.List.{take-append-le, length-map}
+use Rattle.std.proofs.lemmas.List.{take-append-le}
 use Rattle.columnar_base.specs.Row.{Row}
-use Rattle.columnar_base.specs.Format.{Format, Content, both, IsSound, IsLawful, Excess, too_many, refuses_more}
+use Rattle.columnar_base.specs.Format.{Format, Content, both, IsSound, IsLawful, too_many, refuses_more}
 use Rattle.columnar_base.specs.Change.{Took, IsTrueOf}
 use Rattle.columnar_base.specs.ChangeLaws.{took_none, took_twice, true_from}
 use Rattle.columnar_base.specs.AlikeLaws.{alike_length}
@@ -12,10 +12,10 @@ use Rattle.columnar_base.specs.Elements.{past_count}
 use Rattle.columnar_base.specs.WordViews.{words_in, le_bytes}
 use Rattle.columnar_base.specs.WordViewLaws.{words_pushed}
 use Rattle.columnar_base.specs.declared.fault.GrowError.{GrowError}
-use Rattle.columnar_nested.specs.Forest.{Forest, no_trees, tree_and, Node, width, roots, level_order}
+use Rattle.columnar_nested.specs.Forest.{width, roots}
 use Rattle.columnar_nested.specs.Nodes.{order-roots, length-roots, below}
 use Rattle.columnar_nested.specs.Forest.{levels}
-use Rattle.columnar_nested.specs.TreeValues.{in_order, trees_as_forest, added_values, added_bounds, values_in}
+use Rattle.columnar_nested.specs.TreeValues.{trees_as_forest, added_values, added_bounds, values_in}
 use Rattle.columnar_nested.specs.Push.{turn_values, turn_bounds, count_values, width-as_forest}
 use Rattle.columnar_nested.specs.PushTurns.{Laid}
 use Rattle.columnar_nested.specs.Trees.{nodes_format}

@@ -1,5 +1,5 @@
 -- What a push of a tree leaves, done and refused.
-use Rattle.std.proofs.Common.{◌≡◌, ℕ, zero, suc, ◌+◌, ◌^◌, ◌<◌, ◌≤◌, List, [], ◌∷◌, ◌++◌, length, take, refl, sym, ◌∙◌, ap, subst, arith}
+use Rattle.std.proofs.Common.{◌≡◌, ℕ, suc, ◌+◌, ◌^◌, ◌<◌, List, [], ◌∷◌, ◌++◌, length, take, refl, ◌∙◌, ap, subst, arith}
 use Rattle.columnar_base.specs.Row.{Row}
 use Rattle.columnar_base.specs.Format.{Format, Content, slice, both, IsSound, IsLawful}
 use Rattle.columnar_base.specs.Change.{Took, WasCut, Stayed, Refused, IsTrueOf}
@@ -15,7 +15,7 @@ use Rattle.columnar_nested.specs.Layouts.{layout_rule}
 use Rattle.columnar_nested.specs.NodeLaws.{layout_none}
 use Rattle.columnar_nested.specs.TreeValues.{node_of, in_order, tree_meaning, added_values, added_bounds}
 use Rattle.columnar_nested.specs.Trees.{trees_format, nodes_format}
-use Rattle.columnar_nested.specs.TreesLaws.{trees_took, trees_refused, trees_parts, trees_sound, tree_values, count_trees, OneMore}
+use Rattle.columnar_nested.specs.TreesLaws.{trees_took, trees_refused, trees_parts, trees_sound, tree_values, count_trees}
 use Rattle.columnar_nested.specs.declared.tree.Tree.{Tree}
 
 words_sound : (xs : List ℕ) → IsSound words_format (slice (le_bytes xs))

@@ -1,11 +1,11 @@
-use Rattle.std.proofs.Common.{◌≡◌, ℕ, zero, suc, ◌+◌, ◌-◌, ◌<◌, ◌≤◌, Bool, true, false, cond, List, [], ◌∷◌, ◌++◌, map, refl, ap, subst, ◌∙◌, length, arith, sym, get_or, inl, inr}
-use Rattle.std.specs.Prelude.{nat_eq, slice_index, slice_index_or, slice_get, Some, None, Option}
-use Rattle.std.proofs.lemmas.Bool.{eq-eqb, eqb-true, ne_eqb, cases_eq}
+use Rattle.std.proofs.Common.{◌≡◌, ℕ, zero, suc, ◌+◌, ◌-◌, ◌<◌, ◌≤◌, true, false, List, [], ◌∷◌, map, refl, ap, subst, ◌∙◌, length, arith, sym, get_or, inl, inr}
+use Rattle.std.specs.Prelude.{nat_eq, slice_index, slice_index_or, slice_get, Some}
+use Rattle.std.proofs.lemmas.Bool.{eq-eqb, ne_eqb, cases_eq}
 use Rattle.std.proofs.lemmas.List.{length-map}
 use Rattle.std.proofs.lemmas.Option.{slice_get_within, slice_get-get_or, get_or_from_slice_get}
 use Rattle.columnar_base.specs.Row.{Row, unit}
-use Rattle.columnar_nested.specs.Forest.{Forest, no_trees, tree_and, Node, width, roots, level_order}
-use Rattle.columnar_nested.specs.Layout.{IsLayout, IsTreeRule, nodes, values_of, starts, own_places}
+use Rattle.columnar_nested.specs.Forest.{no_trees, Node, width, roots}
+use Rattle.columnar_nested.specs.Layout.{IsLayout, IsTreeRule, nodes, starts, own_places}
 use Rattle.columnar_nested.specs.Reading.{trees_of}
 use Rattle.columnar_nested.specs.Layouts.{passed_layout, rule_passed}
 use Rattle.columnar_nested.specs.Nodes.{first_kid, length-roots, first_kid-after}

@@ -1,7 +1,7 @@
 -- A node that is read by its number.
-use Rattle.std.specs.Prelude.{ℕ, zero, suc, List, [], ◌∷◌, ◌+◌, ◌<◌, ◌≤◌, ◌≡◌, length, slice_index, slice_index_or}
+use Rattle.std.specs.Prelude.{ℕ, suc, List, [], ◌∷◌, ◌<◌, ◌≤◌, ◌≡◌, slice_index, slice_index_or}
 use Rattle.columnar_base.specs.Row.{Row, unit}
-use Rattle.columnar_nested.specs.Forest.{Forest, no_trees, Node}
+use Rattle.columnar_nested.specs.Forest.{no_trees, Node}
 use Rattle.columnar_nested.specs.Layout.{IsTreeRule, nodes, own_places}
 use Rattle.columnar_nested.specs.Reading.{trees_of}
 use Rattle.columnar_nested.specs.Nodes.{first_kid}

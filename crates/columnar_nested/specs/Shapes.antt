@@ -1,9 +1,7 @@
 -- Trees of one shape: other values in the same places.
-use Rattle.std.proofs.Common.{◌≡◌, ℕ, zero, suc, ◌+◌, ◌-◌, Bool, true, false, cond, List, [], ◌∷◌, ◌++◌, map, length, refl, sym, ◌∙◌, ap, subst, arith, append-nil}
+use Rattle.std.proofs.Common.{◌≡◌, ℕ, zero, suc, ◌+◌, ◌-◌, Bool, true, false, cond, List, [], ◌∷◌, map, length, refl, sym, ◌∙◌, ap, subst, arith, append-nil}
 use Rattle.std.specs.Prelude.{nat_eq}
-use Rattle.std.proofs.lemmas.List.{length-map}
-use Rattle.columnar_base.specs.Row.{Row, tree, more, unit, list, row_eq}
-use Rattle.columnar_base.specs.RowLaws.{is-row_eq}
+use Rattle.columnar_base.specs.Row.{Row, more, unit, list}
 use Rattle.columnar_nested.specs.Forest.{Forest, no_trees, tree_and, Node, width, level_order}
 use Rattle.columnar_nested.specs.Layout.{IsLayout, IsTreeRule, nodes, values_of, kid_counts, totals, starts, kid_ends}
 use Rattle.columnar_nested.specs.Reading.{first_trees, later_trees, pending, trees_from, trees_of}

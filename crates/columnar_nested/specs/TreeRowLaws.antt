@@ -1,17 +1,16 @@
-use Rattle.std.proofs.Common.{◌≡◌, ℕ, zero, suc, ◌+◌, Bool, true, false, List, [], ◌∷◌, ◌++◌, map, length, refl, sym, ◌∙◌, ap, arith, append_assoc, append-nil}
+use Rattle.std.proofs.Common.{◌≡◌, ℕ, suc, ◌+◌, Bool, List, [], ◌∷◌, ◌++◌, map, length, refl, ◌∙◌, ap, append-nil}
 use Rattle.std.specs.Prelude.{slice_get, Some}
 use Rattle.std.proofs.lemmas.Bool.{and_parts, and_from}
-use Rattle.std.proofs.lemmas.List.{map-append, length-map}
+use Rattle.std.proofs.lemmas.List.{map-append}
 use Rattle.std.proofs.lemmas.Option.{slice_get-map}
-use Rattle.columnar_base.specs.Row.{Row, tree, more, unit, list, items_of, row_eq}
+use Rattle.columnar_base.specs.Row.{Row, tree, more, list, items_of, row_eq}
 use Rattle.columnar_base.specs.RowLaws.{items_of-list}
 use Rattle.columnar_base.specs.Format.{all_alike, IsSame}
 use Rattle.columnar_base.specs.AlikeLaws.{row_eq_same, same_pulled, alike_all, alike_back, alike_on}
 use Rattle.columnar_nested.specs.Forest.{Forest, no_trees, tree_and, Node, width, roots, level_order}
 use Rattle.columnar_nested.specs.Layout.{nodes, values_of}
 use Rattle.columnar_nested.specs.ForestLaws.{joined}
-use Rattle.columnar_nested.specs.NodeLaws.{nodes-joined}
-use Rattle.columnar_nested.specs.TreeRows.{tree_rows, tree_row, value_of, kids_of, forest_at, forest_in, level_values, bare_tree, tree_alike}
+use Rattle.columnar_nested.specs.TreeRows.{tree_rows, tree_row, kids_of, forest_in, level_values, bare_tree, tree_alike}
 
 pub tree_rows-joined : (f g : Forest Row) → tree_rows (joined f g) ≡ tree_rows f ++ tree_rows g
 tree_rows-joined no_trees g = refl

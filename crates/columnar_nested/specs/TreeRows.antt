@@ -1,5 +1,5 @@
 -- Trees as rows: a tree is its value and the list of its kids.
-use Rattle.std.specs.Prelude.{ℕ, List, [], ◌∷◌, Bool, ◌&&◌, map}
+use Rattle.std.specs.Prelude.{List, [], ◌∷◌, Bool, ◌&&◌}
 use Rattle.columnar_base.specs.Row.{Row, tree, more, unit, list, items_of, row_eq}
 use Rattle.columnar_base.specs.Format.{all_alike}
 use Rattle.columnar_nested.specs.Forest.{Forest, no_trees, tree_and, Node}

@@ -1,5 +1,5 @@
 -- The trees of the code, as forests of what their values mean.
-use Rattle.std.specs.Prelude.{ℕ, List, [], ◌∷◌, ◌++◌, map, length, ◌+◌}
+use Rattle.std.specs.Prelude.{ℕ, List, [], ◌∷◌, map, length, ◌+◌}
 use Rattle.columnar_base.specs.Row.{Row}
 use Rattle.columnar_nested.specs.Forest.{Forest, no_trees, tree_and, Node, level_order}
 use Rattle.columnar_nested.specs.Layout.{values_of, kid_counts, totals}

@@ -1,11 +1,10 @@
 -- Columns of trees: where each tree begins, where the kids of each node end, and the values of the nodes.
-use Rattle.std.specs.Prelude.{ℕ, suc, Bool, true, false, List, [], ◌∷◌, ◌++◌, length, ◌+◌, ◌*◌, drop, ◌||◌, slice_index, Vec}
+use Rattle.std.specs.Prelude.{ℕ, suc, Bool, true, false, List, [], ◌∷◌, length, ◌+◌, ◌*◌, drop, ◌||◌, slice_index, Vec}
 use Rattle.std.specs.Global.{Global}
 use Rattle.columnar_base.specs.Row.{Row}
-use Rattle.columnar_base.specs.Format.{Format, Content, slice, both, part, plain, Fault, two_broken, Excess, IsSound}
+use Rattle.columnar_base.specs.Format.{Format, Content, slice, both, part, plain, two_broken, Excess}
 use Rattle.columnar_base.specs.Elements.{words_format, past_count, first_slice}
 use Rattle.columnar_base.specs.WordViews.{words_in, bytes_of, le_bytes}
-use Rattle.columnar_nested.specs.Layout.{IsTreeRule}
 use Rattle.columnar_nested.specs.Pass.{accepts}
 use Rattle.columnar_nested.specs.Reading.{trees_of}
 use Rattle.columnar_nested.specs.TreeRows.{tree_rows, level_values, tree_alike}

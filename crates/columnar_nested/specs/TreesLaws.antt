@@ -1,17 +1,16 @@
 -- What the soundness of a column of trees is made of, and what its growth and a refusal leave.
-use Rattle.std.proofs.Common.{◌≡◌, ℕ, zero, suc, ◌+◌, ◌-◌, ◌*◌, ◌<◌, ◌≤◌, Bool, true, false, ◌&&◌, ◌||◌, List, [], ◌∷◌, ◌++◌, map, length, refl, sym, ◌∙◌, ap, subst, arith, length-append}
+use Rattle.std.proofs.Common.{◌≡◌, ℕ, suc, ◌+◌, ◌-◌, ◌<◌, ◌≤◌, true, ◌||◌, List, [], ◌∷◌, ◌++◌, map, length, refl, sym, ◌∙◌, ap, arith, length-append}
 use Rattle.std.specs.Prelude.{slice_index, slice_get, Some}
-use Rattle.std.proofs.lemmas.Bool.{and_from, or_left, or_right}
+use Rattle.std.proofs.lemmas.Bool.{and_from, or_right}
 use Rattle.std.proofs.lemmas.List.{length-map, get_or_append_left}
-use Rattle.std.proofs.Math.Seq.{get_or-append_seam}
 use Rattle.columnar_base.specs.Row.{Row, row_eq}
 use Rattle.columnar_base.specs.RowLaws.{is-row_eq}
-use Rattle.columnar_base.specs.Format.{Format, Content, slice, both, part, plain, IsSound, IsStorable, Excess, too_many, misplaced, refuses_more, all_alike, slices_of}
-use Rattle.columnar_base.specs.Change.{Keeps, Grew, Stayed, Took, Refused, IsTrueOf}
+use Rattle.columnar_base.specs.Format.{Format, Content, slice, both, IsSound, IsStorable, Excess, refuses_more, all_alike, slices_of}
+use Rattle.columnar_base.specs.Change.{Keeps, Stayed, Took, Refused, IsTrueOf}
 use Rattle.columnar_base.specs.ChangeLaws.{true_from}
 use Rattle.columnar_base.specs.AlikeLaws.{alike_length}
 use Rattle.columnar_base.specs.TupleLaws.{or_both}
-use Rattle.columnar_base.specs.TwoParts.{TwoParts, SoundTwo, two_parts, two_sound, two_storable}
+use Rattle.columnar_base.specs.TwoParts.{TwoParts, two_parts, two_sound, two_storable}
 use Rattle.columnar_base.specs.Elements.{words_format, word_row_of, past_count}
 use Rattle.columnar_base.specs.ElementLaws.{elements_storable}
 use Rattle.columnar_base.specs.declared.fault.GrowError.{GrowError}
@@ -20,14 +19,14 @@ use Rattle.columnar_nested.specs.Layout.{IsLayout, IsTreeRule, nodes, values_of,
 use Rattle.columnar_nested.specs.ForestLaws.{joined}
 use Rattle.columnar_nested.specs.Reading.{trees_of}
 use Rattle.columnar_nested.specs.Layouts.{layout_read, layout_rule, passed_layout, rule_passed}
-use Rattle.columnar_nested.specs.NodeLaws.{layout_pushed, starts-length}
-use Rattle.columnar_nested.specs.Pass.{accepts, accepts_rule, rule_accepts}
+use Rattle.columnar_nested.specs.NodeLaws.{layout_pushed}
+use Rattle.columnar_nested.specs.Pass.{accepts_rule, rule_accepts}
 use Rattle.columnar_nested.specs.RefLaws.{count_groups, group_within, IsRoot, root_facts}
 use Rattle.columnar_nested.specs.Refs.{node_at, IsRef}
 use Rattle.columnar_nested.specs.Shapes.{Refit, refit}
 use Rattle.columnar_nested.specs.TreeRows.{tree_rows, tree_row, level_values, bare_tree, tree_alike}
 use Rattle.columnar_nested.specs.TreeRowLaws.{tree_rows-joined, length-tree_rows, level_values-more, level_values-one, tree_rows_get}
-use Rattle.columnar_nested.specs.Trees.{words_of, nodes_format, trees_keep, trees_format, trees_rows, end_of_trees, trees_refuses, nodes_refuses}
+use Rattle.columnar_nested.specs.Trees.{words_of, nodes_format, trees_keep, trees_format, trees_rows, end_of_trees, nodes_refuses}
 
 pub nodes_two : (v : Format) → TwoParts (nodes_format v) words_format v (λ y z. true) 0
 nodes_two v = record { count = refl; sizes = refl; aligns = refl; build = λ ss. refl; broken = λ c. refl }

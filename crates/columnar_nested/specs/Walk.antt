@@ -1,8 +1,8 @@
 -- A walk over the nodes of a layout: at node j the trees q of the current tree are still to be met, and after it the trees ts.
-use Rattle.std.proofs.Common.{◌≡◌, ℕ, zero, suc, ◌+◌, ◌-◌, ◌<◌, ◌≤◌, List, [], ◌∷◌, ◌++◌, length, take, drop, map, refl, sym, ◌∙◌, ap, arith, length-append, append_assoc, append-nil}
-use Rattle.columnar_nested.specs.Forest.{Forest, no_trees, tree_and, Node, width, roots, beside, levels, in_line, level_order}
-use Rattle.columnar_nested.specs.Layout.{nodes, values_of, kid_counts, totals, starts, kid_ends}
-use Rattle.columnar_nested.specs.ForestLaws.{joined, joined-no_trees, width-joined, level_order-tree}
+use Rattle.std.proofs.Common.{◌≡◌, ℕ, zero, suc, ◌+◌, ◌-◌, ◌<◌, List, [], ◌∷◌, ◌++◌, length, refl, ◌∙◌, ap, arith}
+use Rattle.columnar_nested.specs.Forest.{Forest, no_trees, tree_and, Node, width, level_order}
+use Rattle.columnar_nested.specs.Layout.{nodes, kid_counts, totals, starts, kid_ends}
+use Rattle.columnar_nested.specs.ForestLaws.{joined, width-joined, level_order-tree}
 
 unfoldable pub walk_nodes : {A : Type 0} → Forest A → Forest A → List (Node A)
 walk_nodes q ts = level_order q ++ nodes ts

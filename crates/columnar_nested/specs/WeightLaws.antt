@@ -1,9 +1,8 @@
-use Rattle.std.proofs.Common.{◌≡◌, ℕ, zero, suc, ◌+◌, ◌<◌, ◌≤◌, List, [], ◌∷◌, ◌++◌, map, length, refl, sym, ◌∙◌, ap, arith}
+use Rattle.std.proofs.Common.{◌≡◌, ℕ, ◌+◌, ◌<◌, ◌≤◌, List, [], ◌∷◌, ◌++◌, map, length, refl, sym, ◌∙◌, ap, arith}
 use Rattle.std.specs.Prelude.{sum, sum_by, slice_index_or, drop}
 use Rattle.std.proofs.lemmas.List.{drop_more}
 use Rattle.std.proofs.lemmas.List.Sums.{sum_by-cons, sum-map}
 use Rattle.columnar_nested.specs.Forest.{Node, beside, in_line, levels, level_order}
-use Rattle.columnar_nested.specs.Layout.{values_of}
 use Rattle.columnar_nested.specs.ForestLaws.{levels-joined}
 use Rattle.columnar_nested.specs.TreeValues.{node_of, trees_as_forest, in_order, values_in}
 use Rattle.columnar_nested.specs.Push.{in_order-step, as_forest-append, node_of-out}

@@ -1,4 +1,4 @@
-use Rattle.std.proofs.Common.{ap, sym, length, ◌∙◌}
+use Rattle.std.proofs.Common.{sym, length, ◌∙◌}
 use Rattle.columnar_sums.specs.Discriminants.{owned_forms, variants_of}
 use Rattle.columnar_sums.specs.DiscriminantLaws.{length-variant_rows}
 use Rattle.column_tests.proofs.tests.sums.push_again.Goals as goal

@@ -1,9 +1,7 @@
 use Rattle.std.proofs.lemmas.Result.{on_ok_weaker}
-use Rattle.std.proofs.Common.{ap}
-use Rattle.std.specs.Prelude.{Err}
 use Rattle.columnar_core.specs.WordViews.{view_bytes}
 use Rattle.columnar_bits.specs.BoolColumns.{bits_in}
-use Rattle.columnar_bits.specs.BoolLaws.{bools_parts, bools_copied, bools_refused, rows_between, length_between}
+use Rattle.columnar_bits.specs.BoolLaws.{bools_parts, bools_copied, rows_between}
 use Rattle.columnar_bits.proofs.bools.BoolsVecU64ArrayU642ExtendFromBoolsViewU64ViewU64.extend_from_self.Goals as goal
 
 pub returns-clause-ok : goal.returns-clause-ok

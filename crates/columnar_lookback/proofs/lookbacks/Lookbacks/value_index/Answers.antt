@@ -1,10 +1,10 @@
-use Rattle.std.proofs.Common.{◌+◌, ◌-◌, ap, sym, ◌∙◌, arith}
+use Rattle.std.proofs.Common.{◌-◌, ◌∙◌, arith}
 use Rattle.std.proofs.lemmas.List.{length-map}
 use Rattle.columnar_base.specs.Row.{truth}
 use Rattle.columnar_sums.specs.RankColumns.{ranks_bits, ranks_content}
 use Rattle.columnar_sums.specs.CountLaws.{ones_le}
 use Rattle.columnar_sums.specs.ResultLaws.{results_parts}
-use Rattle.columnar_lookback.specs.LookbackLaws.{lookbacks_results, lookbacks_values, lookbacks_distances, length-lookbacks, distance_within, referred, set_within, set_row}
+use Rattle.columnar_lookback.specs.LookbackLaws.{lookbacks_results, lookbacks_distances, length-lookbacks, distance_within, referred, set_within, set_row}
 use Rattle.columnar_lookback.proofs.lookbacks.Lookbacks.value_index.Goals as goal
 
 pub rank-before-requires-clause-in_range : goal.rank-before-requires-clause-in_range

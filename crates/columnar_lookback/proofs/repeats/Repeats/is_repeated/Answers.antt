@@ -1,4 +1,4 @@
-use Rattle.std.proofs.Common.{◌≡◌, ◌-◌, ℕ, sym, ◌∙◌, arith}
+use Rattle.std.proofs.Common.{◌≡◌, ◌-◌, sym, ◌∙◌, arith}
 use Rattle.columnar_base.specs.ChangeLaws.{slice_get_some}
 use Rattle.columnar_lookback.specs.RepeatLaws.{repeats_values, repeats_last, repeats_last_none}
 use Rattle.columnar_lookback.proofs.repeats.Repeats.is_repeated.Goals as goal

@@ -1,8 +1,8 @@
-use Rattle.std.proofs.Common.{◌+◌, ap, ◌∙◌, arith}
+use Rattle.std.proofs.Common.{◌∙◌, arith}
 use Rattle.std.proofs.lemmas.List.{length-map}
 use Rattle.columnar_base.specs.Row.{truth}
 use Rattle.columnar_sums.specs.RankColumns.{ranks_bits, ranks_content}
-use Rattle.columnar_lookback.specs.RepeatLaws.{repeats_values, repeats_some, repeats_within, repeats_row, ones_set, ones_clear, ones_left, length-repeats}
+use Rattle.columnar_lookback.specs.RepeatLaws.{repeats_some, repeats_within, repeats_row, ones_set, ones_clear, ones_left, length-repeats}
 use Rattle.columnar_lookback.proofs.repeats.Repeats.value_index.Goals as goal
 
 pub rank-before-requires-clause-in_range : goal.rank-before-requires-clause-in_range

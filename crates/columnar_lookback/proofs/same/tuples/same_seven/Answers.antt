@@ -3,7 +3,6 @@ use Rattle.columnar_base.specs.Row.{tuple}
 use Rattle.columnar_base.specs.Format.{both}
 use Rattle.columnar_base.specs.ChangeLaws.{slice_get_some}
 use Rattle.columnar_base.specs.LongTuples.{nested}
-use Rattle.columnar_base.specs.LongTupleLaws.{tuple_same}
 use Rattle.columnar_base.specs.TupleLaws.{pair_parts, pair_within}
 use Rattle.columnar_lookback.specs.SameLaws.{pair_then, pair_else}
 use Rattle.columnar_lookback.proofs.same.tuples.same_seven.Goals as goal

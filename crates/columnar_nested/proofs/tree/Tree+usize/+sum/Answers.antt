@@ -3,7 +3,6 @@ use Rattle.columnar_base.specs.ChangeLaws.{passed_on}
 use Rattle.columnar_nested.specs.TreeValues.{values_in}
 use Rattle.columnar_nested.specs.Weights.{total, count, value_sum}
 use Rattle.columnar_nested.specs.WeightLaws.{sum_is, total-push, summed_pop, popped_fewer, summed_all, summed_kids, summed_later, summed_within, value_within, node_fewer, kids_fewer, later_fewer}
-use Rattle.columnar_nested.specs.declared.tree.Tree.TheViews.{out-Tree}
 use Rattle.columnar_nested.proofs.tree.Tree+usize.+sum.Goals as goal
 use Rattle.columnar_nested.proofs.tree.Tree+usize.+sum.Goals.{then-keep, else-keep+in_ok-part-in-Some}
 

@@ -1,4 +1,4 @@
-use Rattle.std.proofs.Common.{◌≡◌, ◌<◌, ◌≤◌, ◌∙◌, sym, ap, arith, [], ◌∷◌, ◌++◌}
+use Rattle.std.proofs.Common.{◌<◌, ◌≤◌, ◌∙◌, ap, arith, [], ◌∷◌, ◌++◌}
 use Rattle.columnar_nested.specs.Weights.{count}
 use Rattle.columnar_nested.specs.WeightLaws.{kids_lighter, rest_lighter, rest_fewer, first_lighter, queue_fewer, queue_left}
 use Rattle.columnar_nested.proofs.tree.Tree.+drop.Goals as goal

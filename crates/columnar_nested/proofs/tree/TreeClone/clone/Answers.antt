@@ -1,4 +1,4 @@
-use Rattle.std.proofs.Common.{◌≡◌, ◌+◌, ◌∙◌, ap, arith, length, length-append, [], ◌∷◌, sym}
+use Rattle.std.proofs.Common.{◌≡◌, ◌+◌, ◌∙◌, ap, arith, length, length-append, [], ◌∷◌}
 use Rattle.columnar_nested.specs.Weights.{total, uncopied}
 use Rattle.columnar_nested.specs.WeightLaws.{total-push, down_fewer, up_fewer}
 use Rattle.columnar_nested.specs.declared.tree.Tree.TheViews.{out-Tree}

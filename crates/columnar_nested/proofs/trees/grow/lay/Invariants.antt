@@ -1,5 +1,5 @@
-use Rattle.std.proofs.Common.{◌≡◌, ℕ, List, [], ◌∷◌, ◌++◌, length, take, ◌≤◌, ◌+◌}
-use Rattle.columnar_nested.specs.TreeValues.{added_bounds, in_order}
+use Rattle.std.proofs.Common.{[], ◌∷◌, length}
+use Rattle.columnar_nested.specs.TreeValues.{in_order}
 use Rattle.columnar_nested.specs.PushTurns.{Laid}
 use Rattle.columnar_nested.proofs.trees.grow.lay.Given as goal
 

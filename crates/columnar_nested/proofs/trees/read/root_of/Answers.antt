@@ -1,4 +1,4 @@
-use Rattle.std.proofs.Common.{arith, length, ◌∙◌, ap, sym, ◌+◌, ◌<◌}
+use Rattle.std.proofs.Common.{arith, length, ◌∙◌, ap, ◌+◌, ◌<◌}
 use Rattle.columnar_base.specs.Format.{slice}
 use Rattle.columnar_base.specs.WordViews.{words_in}
 use Rattle.columnar_nested.specs.TreesLaws.{tree_facts, tree_read, tree_values, root_ref, root_next}

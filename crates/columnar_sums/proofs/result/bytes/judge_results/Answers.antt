@@ -6,11 +6,11 @@ use Rattle.columnar_core.specs.Format.{bytes_held}
 use Rattle.columnar_core.specs.Row.{truth}
 use Rattle.columnar_core.specs.Store.{slices_in}
 use Rattle.columnar_base.specs.FaultLaws.{sound_from}
-use Rattle.columnar_core.specs.TwoParts.{two_turns, two_right_at, two_fine_at, two_own_at, judged_part_at, judged_fine_at}
+use Rattle.columnar_core.specs.TwoParts.{two_right_at, two_fine_at, two_own_at, judged_part_at, judged_fine_at}
 use Rattle.columnar_sums.specs.CountLaws.{ones_le}
 use Rattle.columnar_sums.specs.OptionLaws.{ranks_bytes}
 use Rattle.columnar_sums.specs.RankColumns.{ranks_format, ranks_bits}
-use Rattle.columnar_sums.specs.ResultLaws.{sides_two, results_two, results_level_from, results_level_back, results_level_at, oks_representable, errs_representable, results_turns, results_held}
+use Rattle.columnar_sums.specs.ResultLaws.{sides_two, results_two, results_level_from, results_level_back, results_level_at, oks_representable, errs_representable, results_turns}
 use Rattle.columnar_sums.proofs.result.bytes.judge_results.Goals as goal
 use Rattle.columnar_sums.proofs.result.bytes.judge_results.Goals.{else-trues-oks-via-then-trues-oks+else-rows-trues, else-trues-oks-via-else-trues-oks}
 

@@ -1,4 +1,4 @@
-use Rattle.std.proofs.Common.{◌+◌, drop, length, sym, ◌∙◌}
+use Rattle.std.proofs.Common.{drop, length, sym, ◌∙◌}
 use Rattle.columnar_base.specs.ChangeLaws.{passed_on}
 use Rattle.columnar_base.specs.Faults.{fault_of}
 use Rattle.columnar_base.specs.Format.{bytes_held}

@@ -1,4 +1,4 @@
-use Rattle.std.proofs.Common.{rules, ◌-◌, [], ◌∷◌, take, drop, length, sym, ap, ◌∙◌, arith}
+use Rattle.std.proofs.Common.{rules, ◌-◌, [], ◌∷◌, length, sym, ap, ◌∙◌, arith}
 use Rattle.std.specs.Int.{to_le_bytes, w8}
 use Rattle.std.proofs.lemmas.Result.{on_ok_weaker, IfErr-weaker}
 use Rattle.columnar_base.specs.ChangeLaws.{took_more}

@@ -1,4 +1,4 @@
-use Rattle.std.proofs.Common.{[], arith}
+use Rattle.std.proofs.Common.{[]}
 use Rattle.columnar_sums.specs.Results.{results_format}
 use Rattle.columnar_lookback.specs.Lookbacks.{bytes_format, lookbacks_code}
 use Rattle.columnar_lookback.specs.LookbackLaws.{lookbacks_results}

@@ -1,4 +1,4 @@
-use Rattle.std.proofs.Common.{[], arith}
+use Rattle.std.proofs.Common.{[]}
 use Rattle.columnar_sums.specs.Options.{options_format}
 use Rattle.columnar_lookback.specs.Repeats.{repeats_code}
 use Rattle.columnar_lookback.specs.RecallLaws.{length-recall, recall_cut}

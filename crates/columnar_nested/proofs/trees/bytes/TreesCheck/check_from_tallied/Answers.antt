@@ -1,11 +1,11 @@
-use Rattle.std.proofs.Common.{◌≡◌, ◌∙◌, ap, sym, arith, true, false, ◌+◌, ◌≤◌, length}
+use Rattle.std.proofs.Common.{◌≡◌, ◌∙◌, ap, sym, true, ◌+◌}
 use Rattle.columnar_base.specs.Format.{slice}
 use Rattle.columnar_base.specs.Faults.{fault_of}
 use Rattle.columnar_base.specs.FaultLaws.{sound_from}
 use Rattle.columnar_base.specs.ChangeLaws.{passed_on}
 use Rattle.columnar_base.specs.WordViews.{words_in}
 use Rattle.columnar_nested.specs.Pass.{accepts}
-use Rattle.columnar_nested.specs.JudgeLaws.{values_judged, rule_kept, rule_broken, turns_both}
+use Rattle.columnar_nested.specs.JudgeLaws.{values_judged, rule_kept, turns_both}
 use Rattle.columnar_nested.proofs.trees.bytes.TreesCheck.check_from_tallied.Goals as goal
 
 pub returns-in_err-check_from_tallied-clause-exact : goal.returns-in_err-check_from_tallied-clause-exact

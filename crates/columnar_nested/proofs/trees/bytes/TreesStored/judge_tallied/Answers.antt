@@ -1,5 +1,4 @@
-use Rattle.std.proofs.Common.{◌≡◌, ◌∙◌, ap, sym, arith, true, false, ◌+◌, ◌≤◌, length}
-use Rattle.columnar_base.specs.Format.{slice}
+use Rattle.std.proofs.Common.{◌≡◌, ◌∙◌, ap, sym, arith, true, ◌+◌}
 use Rattle.columnar_base.specs.Faults.{fault_of}
 use Rattle.columnar_base.specs.FaultLaws.{fits_from}
 use Rattle.columnar_base.specs.ChangeLaws.{passed_on}

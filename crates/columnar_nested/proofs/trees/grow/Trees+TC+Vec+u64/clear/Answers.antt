@@ -1,4 +1,4 @@
-use Rattle.std.proofs.Common.{◌∙◌, ap, arith, length, ◌<◌, ◌≡◌}
+use Rattle.std.proofs.Common.{◌∙◌, ap, arith}
 use Rattle.std.specs.Prelude.{slice_set}
 use Rattle.columnar_nested.specs.PushedLaws.{groups_there, bounds_there, set_first, none_sound, none_rows}
 use Rattle.columnar_nested.proofs.trees.grow.Trees+TC+Vec+u64.clear.Goals as goal

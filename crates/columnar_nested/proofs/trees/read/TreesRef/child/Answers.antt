@@ -1,10 +1,8 @@
-use Rattle.std.proofs.Common.{arith, rules, ◌∙◌, ap, sym, ◌+◌, ◌<◌, subst}
-use Rattle.std.specs.Prelude.{slice_index}
+use Rattle.std.proofs.Common.{arith, ◌∙◌}
 use Rattle.columnar_base.specs.WordViews.{words_in}
-use Rattle.columnar_nested.specs.Refs.{node_at, IsRef}
+use Rattle.columnar_nested.specs.Refs.{node_at}
 use Rattle.columnar_nested.specs.RefLaws.{kid_facts, kid_in_range, seen_kids}
 use Rattle.columnar_nested.specs.TreeRowLaws.{length-kids, kid_row}
-use Rattle.columnar_nested.specs.Forest.{width}
 use Rattle.columnar_nested.proofs.trees.read.TreesRef.child.Goals as goal
 
 pub overflow_add-child : goal.overflow_add-child

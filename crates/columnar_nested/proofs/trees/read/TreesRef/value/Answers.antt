@@ -1,4 +1,4 @@
-use Rattle.std.proofs.Common.{◌∙◌, sym, ap}
+use Rattle.std.proofs.Common.{◌∙◌}
 use Rattle.columnar_nested.specs.RefLaws.{seen_value}
 use Rattle.columnar_nested.proofs.trees.read.TreesRef.value.Goals as goal
 

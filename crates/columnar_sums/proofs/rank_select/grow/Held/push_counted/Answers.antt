@@ -1,4 +1,4 @@
-use Rattle.std.proofs.Common.{◌≡◌, ◌+◌, ◌%◌, ◌<◌, ◌^◌, ℕ, List, length, arith, refl}
+use Rattle.std.proofs.Common.{◌≡◌, ◌+◌, ◌<◌, ◌^◌, ℕ, List, length, arith, refl}
 use Rattle.std.proofs.Math.Path.{ap₂}
 use Rattle.columnar_core.specs.Format.{Content, slice, both}
 use Rattle.columnar_core.specs.WordViews.{le_bytes}

@@ -1,4 +1,4 @@
-use Rattle.std.proofs.Common.{◌≡◌, ◌+◌, ◌%◌, ◌<◌, ◌^◌, ℕ, List, length, arith, refl}
+use Rattle.std.proofs.Common.{◌%◌, ◌<◌, ℕ, List, length, arith}
 use Rattle.columnar_core.specs.WordViews.{le_bytes}
 use Rattle.columnar_bits.specs.BoolColumns.{bits_in}
 use Rattle.columnar_bits.specs.BoolLaws.{bools_parts}

@@ -48,10 +48,8 @@ fn opened<R: Clock, O: Write>(times: &mut Times<'_, R, O>, bytes: Vec<u8>) -> Op
 #[inline(never)]
 fn sliced(alloc: Global, words: &[u64]) -> Option<Vec<u64>> {
     let mut column = <Vec<u64> as Storage>::empty(alloc);
-    match column.push_slice(words) {
-        Ok(()) => Some(column),
-        Err(_) => None,
-    }
+    column.push_slice(words).ok()?;
+    Some(column)
 }
 
 #[inline(never)]

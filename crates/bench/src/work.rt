@@ -31,10 +31,7 @@ pub fn push_values<T: Plain + Copy, C: Storage + Push<T>>(
 {
     let mut column = C::empty(alloc);
     for item in items {
-        match column.push(*item) {
-            Ok(()) => {}
-            Err(error) => return Err(error),
-        }
+        column.push(*item)?;
     }
     Ok(column)
 }
@@ -48,10 +45,7 @@ pub fn push_refs<T: Plain, C: Storage + PushRef<T>>(
 {
     let mut column = C::empty(alloc);
     for item in items {
-        match column.push_ref(item) {
-            Ok(()) => {}
-            Err(error) => return Err(error),
-        }
+        column.push_ref(item)?;
     }
     Ok(column)
 }
@@ -66,10 +60,7 @@ pub fn push_view<V: Index + Len, C: Storage + Push<V::Ref>>(
 {
     let mut column = C::empty(alloc);
     for i in 0..view.len() {
-        match column.push(view.get(i)) {
-            Ok(()) => {}
-            Err(error) => return Err(error),
-        }
+        column.push(view.get(i))?;
     }
     Ok(column)
 }
@@ -232,10 +223,7 @@ pub fn push_lists<V: Index + Len + Copy, C: Storage + Push<Slice<V>>>(
     for list in lists {
         let (lower, upper) = *list;
         if lower <= upper && upper <= len {
-            match column.push(Slice::new(lower, upper, view)) {
-                Ok(()) => {}
-                Err(error) => return Err(error),
-            }
+            column.push(Slice::new(lower, upper, view))?;
         }
     }
     Ok(column)

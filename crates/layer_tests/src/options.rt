@@ -2,7 +2,6 @@
 ghost use Rattle.std.specs.Prelude.{IfOk};
 ghost use Rattle.columnar_core.specs.Format.{IsSound};
 
-use crate::rows::reads;
 use columnar_bits::bools::Bools;
 use columnar_core::bytes::{Check, Stored};
 use columnar_core::container::{Borrow, ExtendFrom, Storage};
@@ -13,7 +12,7 @@ use columnar_sums::option::Options;
 use columnar_sums::rank_select::RankSelect;
 use std::alloc::Global;
 use std::test::Fail;
-use test_support::columns::{copied, count, cut, takes, takes_ref};
+use test_support::columns::{copied, count, cut, reads, takes, takes_ref};
 use test_support::{equal, holds};
 
 type Held = Options<Vec<u64>, Vec<u64>, Vec<u64>, [u64; 2]>;

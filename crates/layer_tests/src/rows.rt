@@ -1,12 +1,12 @@
-// Columns of given rows, and which rows a column has.
+// Columns of given rows.
 ghost use Rattle.std.specs.Prelude.{All, IfOk};
 ghost use Rattle.columnar_core.specs.Format.{IsSound};
 
 use columnar_core::container::Storage;
-use columnar_core::traits::{Index, Item, Len, Push};
+use columnar_core::traits::{Item, Push};
 use std::alloc::Global;
 use std::test::Fail;
-use test_support::columns::{row_at, takes};
+use test_support::columns::takes;
 
 // A column to which these rows are pushed, one by one
 pub(crate) fn pushed<T: Item + Copy, C: Storage + Push<T>>(
@@ -23,19 +23,4 @@ pub(crate) fn pushed<T: Item + Copy, C: Storage + Push<T>>(
         }
     }
     Ok(column)
-}
-
-// Has a column, or a view, these rows, and no other?
-pub(crate) fn reads<T: Item + PartialEq + Copy, V: Index<Ref = T> + Len>(
-    view: &V,
-    rows: &[T],
-) -> bool
-    requires { IsSound V.format (V.content view.now) }
-{
-    for i in 0..rows.len() {
-        if row_at(view, i) != Some(rows[i]) {
-            return false;
-        }
-    }
-    view.len() == rows.len()
 }

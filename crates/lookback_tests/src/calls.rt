@@ -4,7 +4,6 @@ ghost use Rattle.std.specs.Prelude.{IfOk, IsTrue};
 ghost use Rattle.columnar_core.specs.Format.{IsSound, representable};
 ghost use Rattle.columnar_bytes.specs.Stashes.{stash_content};
 
-use crate::rows::reads;
 use columnar_bytes::indexed::encode;
 use columnar_bytes::stash::Stash;
 use columnar_core::bytes::{AsBytes, Stored};
@@ -14,7 +13,7 @@ use columnar_core::traits::{Clear, Index, Len, Push};
 use std::alloc::Global;
 use std::iter::once;
 use std::test::Fail;
-use test_support::columns::{copy_all, cut, takes};
+use test_support::columns::{copy_all, cut, reads, takes};
 use test_support::stashes::writes;
 
 // An empty column with room for a view
@@ -47,12 +46,8 @@ pub(crate) fn twin_of<C: Storage + Clone + PartialEq + Index<Ref = u64>>(
 ) -> Option<C>
     requires { IsSound C.format (C.content column.now) }
 {
-    let Ok(same) = column.duplicate(alloc) else {
-        return None;
-    };
-    let Ok(twin) = same.clone() else {
-        return None;
-    };
+    let same = column.duplicate(alloc).ok()?;
+    let twin = same.clone().ok()?;
     if reads(&same, rows) && twin == same {
         Some(twin)
     } else {

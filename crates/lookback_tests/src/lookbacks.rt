@@ -5,11 +5,12 @@ mod stashes;
 mod stores;
 mod texts;
 
-use crate::rows::{numbers, reads};
+use crate::rows::numbers;
 use crate::runs::Backs;
 use columnar_lookback::lookbacks::Lookbacks;
 use std::alloc::Global;
 use std::test::Fail;
+use test_support::columns::reads;
 use test_support::stores::front;
 use test_support::{equal, holds};
 

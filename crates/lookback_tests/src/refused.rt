@@ -6,6 +6,7 @@ mod lookbacks;
 use crate::rows::Held;
 use columnar_core::container::Borrow;
 use columnar_lookback::repeats::Repeats;
+use std::alloc::Global;
 use std::test::Fail;
 use test_support::holds;
 use test_support::stashes::opened;
@@ -16,10 +17,22 @@ type Pairs = Repeats<(Vec<u64>, Vec<u64>)>;
 // The rows 7, 7, 9
 static SEVENS_AND_NINE: [u64; 9] = [40, 40, 40, 56, 72, 5, 3, 7, 9];
 
+// Both pushes of a number, by value and lent, and each call that copies or makes a column of numbers
+fn is_kept(alloc: Global, item: u64, trial: &Trial<'_>) -> bool {
+    if !is_lawful::<Held>(alloc, trial) {
+        return false;
+    }
+    let Some(source) = opened::<Held>(alloc, trial.source) else {
+        return true;
+    };
+    both_pushes_keep::<u64, Held>(alloc, item, trial)
+        && both_pushes_keep::<&u64, Held>(alloc, &item, trial)
+        && calls_keep::<_, Held>(alloc, source.borrow(), trial)
+}
+
 // The first row of the source is the same as the last one, and values are behind it
 #[test]
 fn a_new_value(rt: HostRuntime) -> Result<(), Fail> {
-    let alloc = rt.alloc();
     let trial = Trial {
         before: SEVENS_AND_NINE.as_slice(),
         rows: 3,
@@ -29,20 +42,13 @@ fn a_new_value(rt: HostRuntime) -> Result<(), Fail> {
         into: SEVENS_AND_NINE.as_slice(),
         with_taken: [40, 40, 40, 56, 80, 37, 6, 7, 9, 8].as_slice(),
     };
-    holds!(rt; is_lawful::<Held>(alloc, &trial));
-    let Some(source) = opened::<Held>(alloc, trial.source) else {
-        return Ok(());
-    };
-    holds!(rt; both_pushes_keep::<u64, Held>(alloc, 8, &trial));
-    holds!(rt; both_pushes_keep::<&u64, Held>(alloc, &8, &trial));
-    holds!(rt; calls_keep::<_, Held>(alloc, source.borrow(), &trial));
+    holds!(rt; is_kept(rt.alloc(), 8, &trial));
     Ok(())
 }
 
 // The first row of the source is stored, and so are more values behind it
 #[test]
 fn a_value_that_goes_on(rt: HostRuntime) -> Result<(), Fail> {
-    let alloc = rt.alloc();
     let trial = Trial {
         before: SEVENS_AND_NINE.as_slice(),
         rows: 3,
@@ -52,20 +58,13 @@ fn a_value_that_goes_on(rt: HostRuntime) -> Result<(), Fail> {
         into: SEVENS_AND_NINE.as_slice(),
         with_taken: [40, 40, 40, 56, 120, 509, 9, 7, 9, 1, 2, 3, 4, 5, 6].as_slice(),
     };
-    holds!(rt; is_lawful::<Held>(alloc, &trial));
-    let Some(source) = opened::<Held>(alloc, trial.source) else {
-        return Ok(());
-    };
-    holds!(rt; both_pushes_keep::<u64, Held>(alloc, 9, &trial));
-    holds!(rt; both_pushes_keep::<&u64, Held>(alloc, &9, &trial));
-    holds!(rt; calls_keep::<_, Held>(alloc, source.borrow(), &trial));
+    holds!(rt; is_kept(rt.alloc(), 9, &trial));
     Ok(())
 }
 
 // The bit of the row is the last of a word, which takes memory
 #[test]
 fn the_last_bit_of_a_word(rt: HostRuntime) -> Result<(), Fail> {
-    let alloc = rt.alloc();
     let before = [40, 40, 40, 56, 64, 1, 63, 7];
     let trial = Trial {
         before: before.as_slice(),
@@ -76,12 +75,7 @@ fn the_last_bit_of_a_word(rt: HostRuntime) -> Result<(), Fail> {
         into: before.as_slice(),
         with_taken: [40, 40, 48, 64, 80, 1, 2, 2, 7, 8].as_slice(),
     };
-    holds!(rt; is_lawful::<Held>(alloc, &trial));
-    let Some(source) = opened::<Held>(alloc, trial.source) else {
-        return Ok(());
-    };
-    holds!(rt; both_pushes_keep::<u64, Held>(alloc, 8, &trial));
-    holds!(rt; calls_keep::<_, Held>(alloc, source.borrow(), &trial));
+    holds!(rt; is_kept(rt.alloc(), 8, &trial));
     Ok(())
 }
 

@@ -1,13 +1,12 @@
-// Columns of given rows, and which rows a column has.
-ghost use Rattle.std.specs.Prelude.{◌≡◌, IfOk};
+// Columns of given rows.
+ghost use Rattle.std.specs.Prelude.{IfOk};
 ghost use Rattle.columnar_core.specs.Format.{IsSound};
 
 use columnar_core::container::Storage;
-use columnar_core::traits::{Index, Item, Len, Push};
+use columnar_core::traits::Push;
 use columnar_lookback::repeats::Repeats;
 use std::alloc::Global;
 use std::test::Fail;
-use test_support::columns::row_at;
 
 pub(crate) type Held = Repeats<Vec<u64>>;
 
@@ -23,19 +22,4 @@ pub(crate) fn numbers<C: Storage + Push<u64> + Drop>(alloc: Global, rows: &[u64]
         return Err(Fail::from("refused"));
     }
     Ok(column)
-}
-
-// Has a column, or a view, these rows, and no other?
-pub(crate) fn reads<T: Item + PartialEq + Copy, V: Index<Ref = T> + Len>(
-    view: &V,
-    rows: &[T],
-) -> bool
-    requires { IsSound V.format (V.content view.now) }
-{
-    for i in 0..rows.len() {
-        if row_at(view, i) != Some(rows[i]) {
-            return false;
-        }
-    }
-    view.len() == rows.len()
 }

@@ -8,14 +8,14 @@ pub(crate) mod stashes;
 use crate::calls::{
     encodes, has_bytes, has_sizes, is_copied_whole, is_cut_and_cleared, twin_of, with_room,
 };
-use crate::rows::{Held, numbers, reads};
+use crate::rows::{Held, numbers};
 use columnar_core::bytes::Check;
 use columnar_core::container::{Borrow, Reborrow, Storage};
 use columnar_core::traits::{Column, Index, Len};
 use columnar_lookback::lookbacks::Lookbacks;
 use std::alloc::Global;
 use std::test::Fail;
-use test_support::columns::{copied, count, cut, row_at, takes, takes_ref};
+use test_support::columns::{copied, count, cut, reads, row_at, takes, takes_ref};
 use test_support::stores::is_written;
 
 type Far = Lookbacks<Vec<u64>, 255>;

@@ -86,14 +86,15 @@ fn tuples_of_columns(rt: HostRuntime) -> Result<(), Fail> {
         told::<_, (Vec<u64>,)>(alloc, (1u64,), (2,), &(1,))?,
         (true, false)
     );
-    equal!(rt;
-        told::<_, (Vec<u64>, Vec<u64>)>(alloc, (1u64, 2u64), (1, 3), &(1, 3))?,
-        (false, true)
-    );
-    equal!(rt;
-        told::<_, (Vec<u64>, Vec<u64>)>(alloc, (1u64, 3u64), (2, 3), &(1, 3))?,
-        (true, false)
-    );
+    for (first, second, wanted) in [
+        ((1u64, 2u64), (1, 3), (false, true)),
+        ((1, 3), (2, 3), (true, false)),
+    ] {
+        equal!(rt;
+            told::<_, (Vec<u64>, Vec<u64>)>(alloc, first, second, &(1, 3))?,
+            wanted
+        );
+    }
     equal!(rt;
         told::<_, (Vec<u64>, Vec<u64>)>(alloc, &(1u64, 3u64), &(2, 3), &&(2, 3))?,
         (false, true)
@@ -104,24 +105,16 @@ fn tuples_of_columns(rt: HostRuntime) -> Result<(), Fail> {
 #[test]
 fn tuples_of_three_columns(rt: HostRuntime) -> Result<(), Fail> {
     let alloc = rt.alloc();
-    equal!(rt;
-        told::<_, (Vec<u64>, Vec<u64>, Bools)>(
-            alloc,
-            (1u64, 2u64, true),
-            (1, 2, false),
-            &(1, 2, false)
-        )?,
-        (false, true)
-    );
-    equal!(rt;
-        told::<_, (Vec<u64>, Vec<u64>, Bools)>(
-            alloc,
-            (1u64, 2u64, true),
-            (2, 2, true),
-            &(1, 2, true)
-        )?,
-        (true, false)
-    );
+    let row = (1u64, 2u64, true);
+    for (other, item, wanted) in [
+        ((1, 2, false), (1, 2, false), (false, true)),
+        ((2, 2, true), (1, 2, true), (true, false)),
+    ] {
+        equal!(rt;
+            told::<_, (Vec<u64>, Vec<u64>, Bools)>(alloc, row, other, &item)?,
+            wanted
+        );
+    }
     Ok(())
 }
 
@@ -130,18 +123,16 @@ fn rows_that_may_be_absent_and_boxes(rt: HostRuntime) -> Result<(), Fail> {
     let alloc = rt.alloc();
     let one = Some(1u64);
     let two = Some(2u64);
-    equal!(rt;
-        told::<_, Options<Vec<u64>>>(alloc, one, two, &two)?,
-        (false, true)
-    );
-    equal!(rt;
-        told::<_, Options<Vec<u64>>>(alloc, one, None, &None)?,
-        (false, true)
-    );
-    equal!(rt;
-        told::<_, Options<Vec<u64>>>(alloc, one, None, &one)?,
-        (true, false)
-    );
+    for (second, item, wanted) in [
+        (two, two, (false, true)),
+        (None, None, (false, true)),
+        (None, one, (true, false)),
+    ] {
+        equal!(rt;
+            told::<_, Options<Vec<u64>>>(alloc, one, second, &item)?,
+            wanted
+        );
+    }
     equal!(rt;
         told::<_, Options<Vec<u64>>>(alloc, &None, &two, &&two)?,
         (false, true)
@@ -174,15 +165,13 @@ fn tuples_of_four_columns(rt: HostRuntime) -> Result<(), Fail> {
 #[test]
 fn texts(rt: HostRuntime) -> Result<(), Fail> {
     let alloc = rt.alloc();
-    equal!(rt;
-        told::<&str, Strings>(alloc, "abc", "abd", &"abc")?,
-        (true, false)
-    );
-    equal!(rt;
-        told::<&str, Strings>(alloc, "abc", "ab", &"ab")?,
-        (false, true)
-    );
-    equal!(rt; told::<&str, Strings>(alloc, "", "ab", &"")?, (true, false));
+    for (first, second, item, wanted) in [
+        ("abc", "abd", "abc", (true, false)),
+        ("abc", "ab", "ab", (false, true)),
+        ("", "ab", "", (true, false)),
+    ] {
+        equal!(rt; told::<&str, Strings>(alloc, first, second, &item)?, wanted);
+    }
     equal!(rt;
         told::<&[u8], Strings>(
             alloc,

@@ -23,6 +23,18 @@ pub fn row_at<V: Index + Len>(view: &V, index: usize) -> Option<V::Ref>
     view.get_checked(index)
 }
 
+/// Has a column, or a view, these rows, and no other?
+pub fn reads<T: Item + PartialEq + Copy, V: Index<Ref = T> + Len>(view: &V, rows: &[T]) -> bool
+    requires { IsSound V.format (V.content view.now) }
+{
+    for i in 0..rows.len() {
+        if row_at(view, i) != Some(rows[i]) {
+            return false;
+        }
+    }
+    view.len() == rows.len()
+}
+
 /// Item `index` of a list, where there is one.
 pub fn item_of<V: Index + Copy>(list: Option<Slice<V>>, index: usize) -> Option<V::Ref>
     requires { IfSome list (λ s. IsSound (part_format V.format) (part s.lower s.upper (V.content s.slice))) }

@@ -205,10 +205,7 @@ pub fn aligning_keeps<C: ContainerBytes + Storage>(
     ensures { IsSound C.format (stash_content stash.new) }
 {
     let held = variant(stash);
-    let made = match stash.make_aligned(alloc) {
-        Ok(_) => Ok(()),
-        Err(error) => Err(error),
-    };
+    let made = stash.make_aligned(alloc).map(|_| ());
     let kept = match made {
         Ok(()) => variant(stash) == 2,
         Err(error) => error == EncodeError::Memory && variant(stash) == held,
@@ -221,10 +218,7 @@ pub fn loading_keeps<C: ContainerBytes + Drop>(stash: &mut Stash<C, Vec<u8>>, wo
     requires { IsTrue (representable C.format) }
 {
     let held = variant(stash);
-    let made = match stash.make_typed() {
-        Ok(_) => Ok(()),
-        Err(error) => Err(error),
-    };
+    let made = stash.make_typed().map(|_| ());
     let kept = match made {
         Ok(()) => variant(stash) == 0,
         Err(error) => error == GrowError::Memory && variant(stash) == held,

@@ -6,6 +6,7 @@
 pub mod claims;
 pub mod columns;
 pub mod keeps;
+pub mod runs;
 pub mod stashes;
 pub mod stores;
 pub mod trials;

@@ -18,13 +18,8 @@ pub fn opened<C: Stored>(alloc: Global, words: &[u64]) -> Option<Stash<C, Vec<u8
     ensures sound { IfSome result (λ s. IsSound C.format (stash_content s)) }
     ensures variant { IfSome result (λ s. variant_of s ≡ bytes) }
 {
-    let Ok(bytes) = bytes_of(alloc, words) else {
-        return None;
-    };
-    match Stash::<C, Vec<u8>>::try_from_bytes(alloc, bytes) {
-        Ok(stash) => Some(stash),
-        Err(_) => None,
-    }
+    let bytes = bytes_of(alloc, words).ok()?;
+    Stash::try_from_bytes(alloc, bytes).ok()
 }
 
 /// What a stash writes, opened, where it is written.
@@ -37,13 +32,8 @@ pub fn reopened<C: ContainerBytes, B: ByteStore>(
     ensures variant { IfSome result (λ s. variant_of s ≡ bytes) }
 {
     let mut bytes = Vec::new(alloc);
-    if stash.write_bytes(&mut bytes).is_err() {
-        return None;
-    }
-    match Stash::<C, Vec<u8>>::try_from_bytes(alloc, bytes) {
-        Ok(stash) => Some(stash),
-        Err(_) => None,
-    }
+    stash.write_bytes(&mut bytes).ok()?;
+    Stash::try_from_bytes(alloc, bytes).ok()
 }
 
 /// Row `index` of a stash, where there is one.

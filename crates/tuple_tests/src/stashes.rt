@@ -1,16 +1,12 @@
-// A stash over a tuple of three, and a run of commands.
+// A run of commands on a stash over a tuple of three.
 
-use super::worked::{Three, is_written};
-use columnar_bytes::stash::{Command, Refusal, Reply, Stash, run};
+use super::worked::Three;
+use columnar_bytes::stash::Command;
 use columnar_core::bytes::Check;
-use columnar_core::traits::Len;
 use columnar_core::view::View;
 use std::test::Fail;
+use test_support::runs::{DONE, RANGE, ran};
 use test_support::{equal, holds};
-
-static DONE: Reply = Reply::Done;
-
-static RANGE: Reply = Reply::Refused(Refusal::Range);
 
 #[test]
 fn a_run_over_three_columns(rt: HostRuntime) -> Result<(), Fail> {
@@ -25,23 +21,16 @@ fn a_run_over_three_columns(rt: HostRuntime) -> Result<(), Fail> {
         Command::Copy(0, 4),
         Command::Truncate(2),
     ];
-    let (stash, replies) = run(
+    let (replies, _, written) = ran::<_, _, Three>(
         rt.alloc(),
-        Stash::<Three, Vec<u8>>::empty(rt.alloc()),
         source,
         commands.as_slice(),
-    );
+        [32, 48, 64, 80, 1, 6, 10, 6, 100, 6].as_slice(),
+    )?;
     equal!(rt;
-        replies?.as_slice(),
+        replies.as_slice(),
         [DONE, DONE, DONE, RANGE, DONE].as_slice()
     );
-    equal!(rt; stash.len(), 2);
-    holds!(rt;
-        is_written(
-            rt.alloc(),
-            &stash.borrow(),
-            [32, 48, 64, 80, 1, 6, 10, 6, 100, 6].as_slice()
-        )
-    );
+    holds!(rt; written);
     Ok(())
 }

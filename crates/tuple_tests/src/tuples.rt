@@ -8,7 +8,7 @@ use super::widths::{Held, grows_and_copies};
 use super::worked::{One, Seven, Ten, Three, Two};
 use columnar_bytes::stash::Stash;
 use columnar_core::bytes::{AsBytes, Check, FromBytes};
-use columnar_core::container::{Borrow, ContainerBytes, ExtendFrom};
+use columnar_core::container::{Borrow, Container, ContainerBytes};
 use columnar_core::traits::{Item, Push, PushRef};
 use std::alloc::Global;
 use test_support::trials::Trial;
@@ -26,9 +26,8 @@ pub enum Asked<'t> {
 fn is_so<
     'a,
     C: ContainerBytes
+        + Container<'a>
         + Borrow<'a, Borrowed: FromBytes<'a> + AsBytes<'a> + Check>
-        + ExtendFrom<<C as Borrow<'a>>::Borrowed>
-        + Push<<C as Borrow<'a>>::Ref>
         + Push<&'a <C as Borrow<'a>>::Ref>
         + PushRef<<C as Borrow<'a>>::Ref>,
 >(

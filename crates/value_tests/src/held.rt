@@ -21,10 +21,8 @@ pub struct Held<C: Column> {
 impl<C: Storage> Held<C> {
     // One of the same rows
     fn duplicate(&self, alloc: Global) -> Option<Self> {
-        match self.column.duplicate(alloc) {
-            Ok(column) => Some(Held { column }),
-            Err(_) => None,
-        }
+        let column = self.column.duplicate(alloc).ok()?;
+        Some(Held { column })
     }
 
     // Has it no row once it is cleared?

@@ -1,35 +1,16 @@
-// Runs of commands on stashes that begin without rows.
+// Runs of commands over the rows of another stash.
 ghost use Rattle.std.specs.Prelude.{All, IsTrue};
 ghost use Rattle.columnar_core.specs.Format.{IsSound, representable};
 ghost use Rattle.columnar_bytes.specs.Stashes.{stash_content};
 ghost use Rattle.columnar_bytes.specs.Machine.{IsValid};
 
-use columnar::bytes::stash::{Command, Refusal, Reply, Stash, run};
+use columnar::bytes::stash::{Command, Reply, Stash};
 use columnar::fault::GrowError;
-use columnar::{Borrow, ContainerBytes, ExtendFrom, FromBytes, Item, Len, PushRef, Storage};
+use columnar::{Borrow, ContainerBytes, ExtendFrom, FromBytes, Item, PushRef, Storage};
 use std::alloc::Global;
-use test_support::stashes::{variant, writes};
-
-pub(super) const DONE: Reply = Reply::Done;
-
-pub(super) const RANGE: Reply = Reply::Refused(Refusal::Range);
+use test_support::runs::ran;
 
 // The replies to commands, the variant that the stash then is of, and whether it then writes these words
-pub(super) fn ran<T: Item, V: Len + Copy, C: ContainerBytes + Storage + PushRef<T> + ExtendFrom<V>>(
-    alloc: Global,
-    source: V,
-    commands: &[Command<T>],
-    words: &[u64],
-) -> Result<(Vec<Reply>, u8, bool), GrowError>
-    requires representable { IsTrue (representable C.format) }
-    requires source_sound { IsSound V.format (V.content source) }
-    requires valid { All (IsValid T.valid) commands.now }
-{
-    let (stash, replies) = run(alloc, Stash::<C, Vec<u8>>::empty(alloc), source, commands);
-    Ok((replies?, variant(&stash), writes(&stash, words)))
-}
-
-// The same, over the rows of another stash
 pub(super) fn ran_from<'a, T: Item, C>(
     alloc: Global,
     source: &'a Stash<C, Vec<u8>>,

@@ -2,7 +2,7 @@
 ghost use Rattle.columnar_core.specs.Format.{IsSound};
 ghost use Rattle.columnar_bytes.specs.Stashes.{stash_content};
 
-use super::runs::{DONE, RANGE, ran, ran_from};
+use super::runs::ran_from;
 use columnar::bytes::stash::{AlignedBytes, ByteStore, Command, Reply, Stash, run};
 use columnar::common::View;
 use columnar::fault::{EncodeError, GrowError};
@@ -11,6 +11,7 @@ use std::alloc::Global;
 use std::rc::RcSlice;
 use std::test::Fail;
 use test_support::columns::row_at;
+use test_support::runs::{DONE, RANGE, ran};
 use test_support::stashes::{has, variant, writes};
 use test_support::stores::bytes_of;
 use test_support::{equal, holds};

@@ -4,7 +4,7 @@ ghost use Rattle.columnar_core.specs.Format.{IsSound, representable};
 ghost use Rattle.columnar_bytes.specs.Stashes.{stash_content};
 ghost use Rattle.columnar.specs.Discriminants.{discriminant_format, owned_forms, variants_of};
 
-use super::runs::{DONE, RANGE, ran_from};
+use super::runs::ran_from;
 use columnar::bytes::indexed::validate;
 use columnar::bytes::stash::{Command, Stash};
 use columnar::fault::{GrowError, StoreFault};
@@ -17,6 +17,7 @@ use std::alloc::{AllocError, Global};
 use std::io::Error;
 use std::test::Fail;
 use test_support::columns::{copied, cut, row_at};
+use test_support::runs::{DONE, RANGE};
 use test_support::stashes::{has, opened, row_of, writes};
 use test_support::stores::bytes_of;
 use test_support::{equal, holds};

@@ -1,12 +1,12 @@
 // Ranges of rows that are copied: which values and distances are stored, by worked rows.
 
 use super::{RETURNS, Two, keeps};
-use crate::rows::{numbers, reads};
+use crate::rows::numbers;
 use crate::runs::Backs;
 use crate::runs::stashes::BackStash;
 use columnar_core::container::Borrow;
 use std::test::Fail;
-use test_support::columns::copied;
+use test_support::columns::{copied, reads};
 use test_support::holds;
 
 // The rows 7, 7, 7, of which the first two are both stored

@@ -1,19 +1,14 @@
 // A stash over distances: grown, cut, written, opened, copied, and told in a list of commands.
-ghost use Rattle.std.specs.Prelude.{All, IsTrue};
-ghost use Rattle.columnar_core.specs.Format.{IsSound, representable};
-ghost use Rattle.columnar_bytes.specs.Machine.{IsValid};
 
 use super::RETURNS;
 use crate::rows::numbers;
 use crate::runs::Backs;
 use crate::runs::stashes::BackStash;
-use columnar_bytes::stash::{Command, Refusal, Reply, Stash, run};
-use columnar_core::container::{Borrow, ContainerBytes, ExtendFrom, Storage};
-use columnar_core::traits::{Item, Len, PushRef};
+use columnar_bytes::stash::Command;
+use columnar_core::container::Borrow;
 use columnar_lookback::lookbacks::Lookbacks;
-use std::alloc::Global;
 use std::test::Fail;
-use test_support::stashes::writes;
+use test_support::runs::{DONE, RANGE, ran};
 use test_support::{equal, holds};
 
 type Held = Lookbacks<Vec<u64>, 255>;
@@ -57,29 +52,6 @@ fn opened_bytes_grow(rt: HostRuntime) -> Result<(), Fail> {
     Ok(())
 }
 
-// Has a run from no rows on these replies, and does it end in these words?
-fn tells<T: Item, V: Len + Copy, C: ContainerBytes + Storage + PushRef<T> + ExtendFrom<V>>(
-    alloc: Global,
-    source: V,
-    commands: &[Command<T>],
-    wanted: &[Reply],
-    after: &[u64],
-) -> bool
-    requires representable { IsTrue (representable C.format) }
-    requires source_sound { IsSound V.format (V.content source) }
-    requires valid { All (IsValid T.valid) commands.now }
-{
-    let (stash, replies) = run(alloc, Stash::<C, Vec<u8>>::empty(alloc), source, commands);
-    match replies {
-        Ok(replies) => replies.as_slice() == wanted && writes(&stash, after),
-        Err(_) => false,
-    }
-}
-
-const DONE: Reply = Reply::Done;
-
-const RANGE: Reply = Reply::Refused(Refusal::Range);
-
 // Left are 10, 20, 10 and 20
 #[test]
 fn a_list_of_commands(rt: HostRuntime) -> Result<(), Fail> {
@@ -96,14 +68,13 @@ fn a_list_of_commands(rt: HostRuntime) -> Result<(), Fail> {
     ];
     let wanted = [DONE, DONE, DONE, RANGE, DONE, DONE, DONE, DONE];
     let after = [48, 48, 48, 64, 80, 82, 3, 4, 10, 20, 1];
-    holds!(rt;
-        tells::<_, _, Held>(
-            rt.alloc(),
-            source.borrow(),
-            commands.as_slice(),
-            wanted.as_slice(),
-            after.as_slice()
-        )
-    );
+    let (replies, _, written) = ran::<_, _, Held>(
+        rt.alloc(),
+        source.borrow(),
+        commands.as_slice(),
+        after.as_slice(),
+    )?;
+    equal!(rt; replies.as_slice(), wanted.as_slice());
+    holds!(rt; written);
     Ok(())
 }

@@ -4,6 +4,7 @@ use columnar_core::container::Borrow;
 use columnar_lookback::lookbacks::Lookbacks;
 use columnar_strings::string::Strings;
 use columnar_sums::option::Options;
+use std::alloc::Global;
 use std::test::Fail;
 use test_support::holds;
 use test_support::stashes::opened;
@@ -20,10 +21,21 @@ type Named = Lookbacks<Options<(Vec<u64>, Strings)>, 255>;
 // The rows 7, 7, 9
 static SEVENS_AND_NINE: [u64; 11] = [48, 48, 48, 64, 80, 81, 5, 3, 7, 9, 0];
 
+// The push of a number, and each call that copies or makes a column of numbers
+fn is_kept(alloc: Global, item: u64, trial: &Trial<'_>) -> bool {
+    if !is_lawful::<Far>(alloc, trial) {
+        return false;
+    }
+    let Some(source) = opened::<Far>(alloc, trial.source) else {
+        return true;
+    };
+    pushes_keep::<u64, Far>(alloc, &item, trial)
+        && calls_keep::<_, Far>(alloc, source.borrow(), trial)
+}
+
 // Of the source two rows are the last value, and one is new
 #[test]
 fn a_new_value(rt: HostRuntime) -> Result<(), Fail> {
-    let alloc = rt.alloc();
     let trial = Trial {
         before: SEVENS_AND_NINE.as_slice(),
         rows: 3,
@@ -33,19 +45,13 @@ fn a_new_value(rt: HostRuntime) -> Result<(), Fail> {
         into: SEVENS_AND_NINE.as_slice(),
         with_taken: [48, 48, 48, 64, 88, 91, 37, 6, 7, 9, 8, 0].as_slice(),
     };
-    holds!(rt; is_lawful::<Far>(alloc, &trial));
-    let Some(source) = opened::<Far>(alloc, trial.source) else {
-        return Ok(());
-    };
-    holds!(rt; pushes_keep::<u64, Far>(alloc, &8, &trial));
-    holds!(rt; calls_keep::<_, Far>(alloc, source.borrow(), &trial));
+    holds!(rt; is_kept(rt.alloc(), 8, &trial));
     Ok(())
 }
 
 // The item stands one before the last value; the source brings six new values
 #[test]
 fn a_distance(rt: HostRuntime) -> Result<(), Fail> {
-    let alloc = rt.alloc();
     let trial = Trial {
         before: SEVENS_AND_NINE.as_slice(),
         rows: 3,
@@ -55,19 +61,13 @@ fn a_distance(rt: HostRuntime) -> Result<(), Fail> {
         into: SEVENS_AND_NINE.as_slice(),
         with_taken: [48, 48, 48, 64, 128, 129, 509, 9, 7, 9, 1, 2, 3, 4, 5, 6, 0].as_slice(),
     };
-    holds!(rt; is_lawful::<Far>(alloc, &trial));
-    let Some(source) = opened::<Far>(alloc, trial.source) else {
-        return Ok(());
-    };
-    holds!(rt; pushes_keep::<u64, Far>(alloc, &7, &trial));
-    holds!(rt; calls_keep::<_, Far>(alloc, source.borrow(), &trial));
+    holds!(rt; is_kept(rt.alloc(), 7, &trial));
     Ok(())
 }
 
 // The bit of the row is the last of a word, which takes memory
 #[test]
 fn the_last_bit_of_a_word(rt: HostRuntime) -> Result<(), Fail> {
-    let alloc = rt.alloc();
     let before = [48, 48, 48, 64, 72, 134, 1, 63, 7, 0, 0, 0, 0, 0, 0, 0, 0];
     let after = [
         48,
@@ -102,12 +102,7 @@ fn the_last_bit_of_a_word(rt: HostRuntime) -> Result<(), Fail> {
         into: before.as_slice(),
         with_taken: with_taken.as_slice(),
     };
-    holds!(rt; is_lawful::<Far>(alloc, &trial));
-    let Some(source) = opened::<Far>(alloc, trial.source) else {
-        return Ok(());
-    };
-    holds!(rt; pushes_keep::<u64, Far>(alloc, &8, &trial));
-    holds!(rt; calls_keep::<_, Far>(alloc, source.borrow(), &trial));
+    holds!(rt; is_kept(rt.alloc(), 8, &trial));
     Ok(())
 }
 

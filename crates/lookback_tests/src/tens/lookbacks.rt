@@ -3,13 +3,13 @@ ghost use Rattle.columnar_core.specs.Format.{IsSound};
 ghost use Rattle.columnar_bytes.specs.Stashes.{stash_content};
 
 use super::Tens;
-use crate::rows::{numbers, reads};
+use crate::rows::numbers;
 use columnar_bytes::stash::Stash;
 use columnar_core::traits::Column;
 use columnar_lists::vector::Vecs;
 use columnar_lookback::lookbacks::Lookbacks;
 use std::test::Fail;
-use test_support::columns::{item_of, takes};
+use test_support::columns::{item_of, reads, takes};
 use test_support::stashes::{opened, row_of, variant, writes};
 use test_support::{equal, holds};
 

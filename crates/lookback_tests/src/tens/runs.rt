@@ -1,12 +1,12 @@
 // Runs of numbers that have the same last decimal digit, by worked rows.
 use super::Tens;
-use crate::rows::{numbers, reads};
+use crate::rows::numbers;
 use columnar_bytes::stash::Stash;
 use columnar_core::container::{Borrow, Storage};
 use columnar_core::traits::Len;
 use columnar_lookback::repeats::Repeats;
 use std::test::Fail;
-use test_support::columns::{copied, cut, row_at, takes};
+use test_support::columns::{copied, cut, reads, row_at, takes};
 use test_support::stashes::{has, reopened, writes};
 use test_support::{equal, holds};
 

@@ -3,8 +3,8 @@
 
 An edit has lines 'file: src/..', 'old: TEXT' (standing once in that file) and 'new: TEXT', as those of must-fail/ have, and
 a line 'of: PATH', the function that must be refused, by its path below the crate as a check prints it. Many are tried in
-one check, which proves their functions alone: no two of a group are of one function, and a function is proved from the
-contracts of what it calls alone, so what one edit breaks is not blamed on another. An edit passes where a goal of its own
+one check, which proves their functions and those of the crate that these call: no two of a group are of one function, and a
+function is proved from the contracts of what it calls alone, so what one edit breaks is not blamed on another. An edit passes where a goal of its own
 function is not proved. One that is refused for a name that it took away, or for no goal, fails. An edit of a definition in
 specs/ is tried alone, and passes where a lemma is not proved, too.
 

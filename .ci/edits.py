@@ -3,16 +3,17 @@
 
 An edit has lines 'file: src/..', 'old: TEXT' (standing once in that file) and 'new: TEXT', as those of must-fail/ have, and
 a line 'of: PATH', the function that must be refused, by its path below the crate as a check prints it. Many are tried in
-one check, which proves their functions and those of the crate that these call: no two of a group are of one function, and a
-function is proved from the contracts of what it calls alone, so what one edit breaks is not blamed on another. An edit passes where a goal of its own
-function is not proved. One that is refused for a name that it took away, or for no goal, fails. An edit of a definition in
-specs/ is tried alone, and passes where a lemma is not proved, too.
+one check, which proves their functions and those of the crate that these call: no two of a group are of one function, and
+a function is proved from the contracts of what it calls alone, so what one edit breaks is not blamed on another. An edit
+passes where a goal of its own function is not proved. One that is refused for a name that it took away, or for no goal,
+fails. An edit of a definition in specs/ is tried alone, and passes where a lemma is not proved, too.
 
 usage: .ci/edits.py [--jobs N] [CRATE ..]      after the crates' libraries were built, as by rt ci or rt all check
        .ci/edits.py --behind LOG               beside the rt ci that writes LOG: the edits of a crate begin once the
                                                libraries that it stands on are proved, and fail where it is not proved
                                                itself. A line 'ended' in LOG says that no more comes
 """
+import functools
 import os
 import re
 import shutil
@@ -92,16 +93,15 @@ GUARD = guard()
 
 
 class Crate:
-    """A crate, where the libraries below it stand, what its checks keep, and how many jobs one may use."""
+    """A crate, where the libraries below it stand, where what checks of it proved is kept, and how many jobs one may use."""
 
-    def __init__(self, name, needs, libraries, jobs):
-        self.name, self.needs, self.libraries, self.jobs = name, needs, libraries, jobs
+    def __init__(self, name, needs, libraries, kept, jobs):
+        self.name, self.needs, self.libraries, self.kept, self.jobs = name, needs, libraries, kept, jobs
         self.folder = f"{ROOT}/crates/{name}"
-        self.kept = None
 
-    def check(self, texts, edits=()):
+    def check(self, texts, edits=(), keeps=False):
         """What the prover says of a copy of the crate with these texts in place of its own: of the functions of these edits,
-        or of all."""
+        or of all. It begins with what the checks proved that keep what they prove: no other may run beside one of those."""
         words = [f"{KIT}/bin/rattle", "check", "--crate-name", self.name]
         words += ["src/main.rt" if os.path.isfile(f"{self.folder}/src/main.rt") else "src/lib.rt"]
         own = crates()
@@ -116,7 +116,7 @@ class Crate:
         for it in dict.fromkeys(below):
             words += ["-L", f"dependency={self.libraries(it)}"]
         words += ["--antt-project", f"{KIT}/rattle/logic/antt-project.json", "--logic-built", f"{KIT}/logic_built"]
-        words += ["--links", f"{self.name}=", "--jobs", str(self.jobs()), "--incremental", self.kept]
+        words += ["--links", f"{self.name}=", "--jobs", str(self.jobs())]
         words += [word for edit in edits for word in ("--only", f"{self.name}::{edit.of}")]
         with tempfile.TemporaryDirectory(prefix="edits-") as room:
             for part in ("src", "specs", "proofs"):
@@ -125,6 +125,9 @@ class Crate:
             for file, text in texts.items():
                 with open(f"{room}/{file}", "w", encoding="utf-8") as it:
                     it.write(text)
+            if not keeps and os.path.isdir(self.kept):
+                shutil.copytree(self.kept, f"{room}/kept", copy_function=os.link)
+            words += ["--incremental", self.kept if keeps else f"{room}/kept"]
             how = {"stdin": subprocess.DEVNULL, "stdout": subprocess.PIPE, "stderr": subprocess.STDOUT}
             how["preexec_fn"] = lambda: os.setpgid(0, GUARD)
             ran = subprocess.run(words, cwd=room, errors="replace", text=True, **how)
@@ -180,7 +183,7 @@ def verdict(edit, said):
 
 
 # The most edits in one check: what a check holds in memory grows with what it refuses.
-MOST = 40
+MOST = 80
 
 
 def grouped(edits, folder):
@@ -199,11 +202,11 @@ def grouped(edits, folder):
     return groups
 
 
-def by_itself(edit, crate):
+def by_itself(edit, crate, keeps):
     """The verdict of an edit that is tried alone."""
     texts = {}
     edit.made(texts, crate.folder)
-    status, said = crate.check(texts, [edit])
+    status, said = crate.check(texts, [edit], keeps)
     if status == 0:
         return False, "NOT REFUSED: its function is still proved"
     if not reached(said):
@@ -235,38 +238,44 @@ def edits_of(name):
     return [Edit(f"{where}/{it}") for it in sorted(os.listdir(where))] if os.path.isdir(where) else []
 
 
-def tried(crate, is_proved):
-    """Tries the edits of a crate; how many passed and how many failed."""
-    passed = failed = 0
-    edits = []
+class Tries:
+    """The edits of a crate, in the groups that are left to try, the largest last, and how many passed."""
 
-    def tell(edit, well, text):
-        nonlocal passed, failed
-        passed, failed = passed + well, failed + (not well)
-        say(f"edit {crate.name}/{edit.name}: {text}")
+    def __init__(self, crate):
+        self.crate, self.passed, well = crate, 0, []
+        for edit in edits_of(crate.name):
+            why = edit.made({}, crate.folder)
+            if why:
+                self.tell(edit, False, f"BAD EDIT: {why}")
+            else:
+                well.append(edit)
+        self.groups = sorted(grouped(well, crate.folder), key=lambda it: len(it["edits"]))
 
-    for edit in edits_of(crate.name):
-        why = edit.made({}, crate.folder)
-        if why:
-            tell(edit, False, f"BAD EDIT: {why}")
-        else:
-            edits.append(edit)
-    with tempfile.TemporaryDirectory(prefix="edits-kept-") as room:
-        crate.kept = f"{room}/kept"
-        if not is_proved:
-            if os.path.isdir(f"{crate.folder}/out/incremental"):
-                shutil.copytree(f"{crate.folder}/out/incremental", crate.kept)
-            status, said = crate.check({})
-            if status != 0:
-                say(f"edits of {crate.name}: the crate itself is not proved\n{said[-2000:]}")
-                return passed, failed + len(edits)
-        for group in grouped(edits, crate.folder):
-            is_one = len(group["edits"]) == 1
-            said = "" if is_one else crate.check(group["texts"], group["edits"])[1]
-            for edit in group["edits"]:
-                well, text = verdict(edit, said) if said and reached(said) else (False, "")
-                tell(edit, *((well, text) if well else by_itself(edit, crate)))
-    return passed, failed
+    def is_proved(self):
+        status, said = self.crate.check({}, keeps=True)
+        if status != 0:
+            say(f"edits of {self.crate.name}: the crate itself is not proved\n{said[-2000:]}")
+        return status == 0
+
+    def tell(self, edit, well, text):
+        with SAYING:
+            self.passed += well
+        say(f"edit {self.crate.name}/{edit.name}: {text}")
+
+    def first(self):
+        """Tries the smallest group of edits of code, and keeps what it proves of the rest."""
+        group = next((it for it in self.groups if it["edits"][0].is_of_code()), None)
+        if group:
+            self.groups.remove(group)
+            self.one(group, True)
+
+    def one(self, group, keeps=False):
+        """Tries a group, and by itself each edit of it of which that check does not say that it is refused."""
+        is_one = len(group["edits"]) == 1
+        said = "" if is_one else self.crate.check(group["texts"], group["edits"], keeps)[1]
+        for edit in group["edits"]:
+            well, text = verdict(edit, said) if said and reached(said) else (False, "")
+            self.tell(edit, *((well, text) if well else by_itself(edit, self.crate, is_one and keeps)))
 
 
 class Log:
@@ -337,31 +346,35 @@ def main(words):
         # (what rt ci does comes first)
         os.nice(10)
     own, parent, times = crates(), os.getppid(), Times()
-    left = [name for name in own if (not words or name in words) and edits_of(name)]
-    running, counts, copied = {}, {}, set()
+    left = names = [name for name in own if (not words or name in words) and edits_of(name)]
+    # what may be done now, each with its size and its crate, and what is being done
+    ready, running = [], []
+    tries, copied = {}, set()
 
     def free():
         """How many processors there are for edits: half of them, or those that no other check uses."""
         return cores if not log or log.has_ended else max(cores // 2, cores - times.busy())
 
-    def work(name, libraries):
-        crate = Crate(name, own[name], libraries, lambda: max(1, free() // max(1, len(running))))
-        counts[name] = 0, len(edits_of(name))
+    def begin(name, libraries, kept):
+        crate = Crate(name, own[name], libraries, kept, lambda: max(1, free() // max(1, len(running) + len(ready))))
+        if not log and os.path.isdir(f"{crate.folder}/out/incremental"):
+            shutil.copytree(f"{crate.folder}/out/incremental", kept)
+        tries[name] = its = Tries(crate)
+        if log or its.is_proved():
+            its.first()
+            ready.extend((len(group["edits"]), name, functools.partial(its.one, group)) for group in its.groups)
+
+    def work(name, call):
         times.note(name, "edits")
         try:
-            counts[name] = tried(crate, bool(log))
+            call()
         except Exception:
             say(f"edits of {name}: not tried\n{traceback.format_exc()}")
         times.note(name, "edits")
 
-    def may_begin(name):
-        """Are the libraries there that the crate stands on, and a processor for it?"""
-        is_ready = not log or all(it in copied for it in deep(name, own))
-        return is_ready and len(running) < (cores if not log or log.has_ended else max(1, cores // 2))
-
     with tempfile.TemporaryDirectory(prefix="edits-libraries-") as room:
         libraries = (lambda _: room) if log else (lambda it: f"{ROOT}/crates/{it}/out/rlib")
-        while left or running or (log and not log.has_ended):
+        while left or ready or running or (log and not log.has_ended):
             if log:
                 if os.getppid() != parent:
                     os._exit(1)
@@ -373,23 +386,29 @@ def main(words):
                         # (rt ci gives a crate back what earlier runs left there, once it ends)
                         shutil.copytree(rlib, f"{room}/{name}.rlib")
                         copied.add(name)
-            for name in list(left):
-                if may_begin(name):
-                    running[name] = threading.Thread(target=work, args=(name, libraries), daemon=True)
-                    running[name].start()
-                    left.remove(name)
-                elif log and log.has_ended and not all(it in copied for it in deep(name, own)):
-                    counts[name] = 0, len(edits_of(name))
+            well = [name for name in left if not log or all(it in copied for it in deep(name, own))]
+            ready.extend((0, name, functools.partial(begin, name, libraries, f"{room}/{name}")) for name in well)
+            left = [name for name in left if name not in well]
+            if log and log.has_ended:
+                for name in left:
                     say(f"edits of {name}: not tried: rt ci has not proved what it stands on")
-                    left.remove(name)
-            for name in [name for name, thread in running.items() if not thread.is_alive()]:
-                del running[name]
+                left = []
+            running = [it for it in running if it.is_alive()]
+            while ready and len(running) < free():
+                # (the largest first, so that they end together)
+                size, name, call = max(ready, key=lambda it: it[0] or MOST + 1)
+                ready.remove((size, name, call))
+                running.append(threading.Thread(target=work, args=(name, call), daemon=True))
+                running[-1].start()
             time.sleep(0.5)
-    for name in [it for it in counts if log and not log.proved.get(it)]:
-        say(f"edits of {name}: all failed: rt ci has not proved it")
-        counts[name] = 0, sum(counts[name])
     times.tell()
-    passed, failed = (sum(it) for it in zip(*counts.values())) if counts else (0, 0)
+    passed = 0
+    for name in names:
+        if log and not log.proved.get(name):
+            say(f"edits of {name}: all failed: rt ci has not proved it")
+        elif name in tries:
+            passed += tries[name].passed
+    failed = sum(len(edits_of(name)) for name in names) - passed
     print(f"edits: {passed} passed, {failed} failed")
     return 1 if failed else 0
 

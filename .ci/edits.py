@@ -296,11 +296,19 @@ class Log:
             self.has_ended = self.has_ended or line == "ended"
 
 
+def processors():
+    """The seconds that the processors were used, idle and taken by the machine's host since the machine began."""
+    with open("/proc/stat", encoding="utf-8") as it:
+        user, nice, system, idle, waits, *handled, stolen = map(int, it.readline().split()[1:9])
+    each = os.sysconf("SC_CLK_TCK")
+    return (user + nice + system + sum(handled)) / each, (idle + waits) / each, stolen / each
+
+
 class Times:
     """When what ran, in seconds after the start: of rt ci's checks as far as the processes tell."""
 
     def __init__(self):
-        self.started = time.time()
+        self.started, self.processors = time.time(), processors()
         self.seen = {}
         # how many processes of checks ran, when they were looked at last
         self.checks = []
@@ -334,6 +342,8 @@ class Times:
             spans = [(what, *self.seen[name, what]) for what in ("proofs", "tests", "edits") if (name, what) in self.seen]
             if spans:
                 say(f"seconds of {name}: " + ", ".join(f"{what} {at:.0f} to {end:.0f}" for what, at, end in spans))
+        used, idle, stolen = (now - then for now, then in zip(processors(), self.processors))
+        say(f"seconds of all processors: {used:.0f} used, {idle:.0f} idle, {stolen:.0f} taken by the host")
 
 
 def main(words):

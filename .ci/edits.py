@@ -126,13 +126,18 @@ class Crate:
                 with open(f"{room}/{file}", "w", encoding="utf-8") as it:
                     it.write(text)
             if not keeps and os.path.isdir(self.kept):
-                shutil.copytree(self.kept, f"{room}/kept", copy_function=os.link)
+                shutil.copytree(self.kept, f"{room}/kept", copy_function=linked)
             words += ["--incremental", self.kept if keeps else f"{room}/kept"]
             how = {"stdin": subprocess.DEVNULL, "stdout": subprocess.PIPE, "stderr": subprocess.STDOUT}
             how["preexec_fn"] = lambda: os.setpgid(0, GUARD)
             ran = subprocess.run(words, cwd=room, errors="replace", text=True, **how)
         # (a message that is long goes on in lines that are set in)
         return ran.returncode, re.sub(r"(\.antt:\d+:\d+: error: [^\n]*)\n  (?=\S)", r"\1 ", ran.stdout)
+
+
+def linked(one, other):
+    """Copies a file, one of what was proved by a link: a check replaces such a file, and changes none."""
+    return os.link(one, other) if one.endswith(".oantt") else shutil.copy2(one, other)
 
 
 def deep(name, own):

@@ -3,9 +3,10 @@
 
 An edit has lines 'file: src/..', 'old: TEXT' (standing once in that file) and 'new: TEXT', as those of must-fail/ have, and
 a line 'of: PATH', the function that must be refused, by its path below the crate as a check prints it. Many are tried in
-one check, which proves their functions and those of the crate that these call: no two of a group are of one function, and
-a function is proved from the contracts of what it calls alone, so what one edit breaks is not blamed on another. An edit
-passes where a goal of its own function is not proved. One that is refused for a name that it took away, or for no goal,
+one check, of their functions and those of the crate that these call: no two of a group are of one function, and a function
+is proved from the contracts of what it calls alone, so what one edit breaks is not blamed on another, and a hole stands
+for each proof file of a function that no edit of the group is of: the gate proves those. An edit passes where a goal of
+its own function is not proved. One that is refused for a name that it took away, or for no goal,
 fails. An edit of a definition in specs/ is tried alone, and passes where a lemma is not proved, too.
 
 usage: .ci/edits.py [--jobs N] [CRATE ..]      after the crates' libraries were built, as by rt ci or rt all check
@@ -13,6 +14,7 @@ usage: .ci/edits.py [--jobs N] [CRATE ..]      after the crates' libraries were 
                                                libraries that it stands on are proved, and fail where it is not proved
                                                itself. A line 'ended' in LOG says that no more comes
 """
+import contextlib
 import functools
 import os
 import re
@@ -99,9 +101,10 @@ class Crate:
         self.name, self.needs, self.libraries, self.kept, self.jobs = name, needs, libraries, kept, jobs
         self.folder = f"{ROOT}/crates/{name}"
 
-    def check(self, texts, edits=(), keeps=False):
+    def check(self, texts, edits=(), keeps=False, by_contract=False):
         """What the prover says of a copy of the crate with these texts in place of its own: of the functions of these edits,
-        or of all. It begins with what the checks proved that keep what they prove: no other may run beside one of those."""
+        or of all; and whether others are taken by their contracts. It begins with what the checks before it proved. No
+        other may run beside one that keeps."""
         words = [f"{KIT}/bin/rattle", "check", "--crate-name", self.name]
         words += ["src/main.rt" if os.path.isfile(f"{self.folder}/src/main.rt") else "src/lib.rt"]
         own = crates()
@@ -118,6 +121,7 @@ class Crate:
         words += ["--antt-project", f"{KIT}/rattle/logic/antt-project.json", "--logic-built", f"{KIT}/logic_built"]
         words += ["--links", f"{self.name}=", "--jobs", str(self.jobs())]
         words += [word for edit in edits for word in ("--only", f"{self.name}::{edit.of}")]
+        words += ["--allow-holes"] if by_contract else []
         with tempfile.TemporaryDirectory(prefix="edits-") as room:
             for part in ("src", "specs", "proofs"):
                 if os.path.isdir(f"{self.folder}/{part}"):
@@ -125,19 +129,50 @@ class Crate:
             for file, text in texts.items():
                 with open(f"{room}/{file}", "w", encoding="utf-8") as it:
                     it.write(text)
+            if by_contract:
+                leave_holes(self.name, f"{room}/proofs", edits)
             if not keeps and os.path.isdir(self.kept):
                 shutil.copytree(self.kept, f"{room}/kept", copy_function=linked)
             words += ["--incremental", self.kept if keeps else f"{room}/kept"]
             how = {"stdin": subprocess.DEVNULL, "stdout": subprocess.PIPE, "stderr": subprocess.STDOUT}
             how["preexec_fn"] = lambda: os.setpgid(0, GUARD)
             ran = subprocess.run(words, cwd=room, errors="replace", text=True, **how)
+            if not keeps:
+                keep(f"{room}/kept", self.kept)
         # (a message that is long goes on in lines that are set in)
         return ran.returncode, re.sub(r"(\.antt:\d+:\d+: error: [^\n]*)\n  (?=\S)", r"\1 ", ran.stdout)
+
+
+PROOFS = {"Answers.antt", "Invariants.antt", "Proof.antt"}
+
+
+def leave_holes(name, proofs, edits):
+    """Leaves a hole for each proof file of a function that none of the edits is of, alone or in a cycle of calls."""
+    own = {f"{proofs}/{edit.of.replace('::', '/')}" for edit in edits}
+    for folder, _, files in os.walk(proofs):
+        path = os.path.relpath(folder, proofs).split("/")
+        if PROOFS & set(files) and folder not in own and not any(it.startswith("+") for it in path):
+            for it in PROOFS & set(files):
+                os.remove(f"{folder}/{it}")
+            with open(f"{folder}/Proof.antt", "w", encoding="utf-8") as it:
+                it.write(f"use Rattle.{name}.proofs.{'.'.join(path)}.Statement.{{statement}}\n\n")
+                it.write(f"pub {path[-1]}_spec : {{M : Type 1}} → statement M\n{path[-1]}_spec = ?\n")
 
 
 def linked(one, other):
     """Copies a file, one of what was proved by a link: a check replaces such a file, and changes none."""
     return os.link(one, other) if one.endswith(".oantt") else shutil.copy2(one, other)
+
+
+def keep(made, kept):
+    """Keeps what a check proved and no earlier one did. Each file is judged for itself by the check that would use it."""
+    for folder, _, files in os.walk(made):
+        to = f"{kept}/{os.path.relpath(folder, made)}"
+        for it in files:
+            if it.endswith(".oantt") and not os.path.exists(f"{to}/{it}"):
+                os.makedirs(to, exist_ok=True)
+                with contextlib.suppress(FileExistsError):
+                    os.link(f"{folder}/{it}", f"{to}/{it}")
 
 
 def deep(name, own):
@@ -207,11 +242,11 @@ def grouped(edits, folder):
     return groups
 
 
-def by_itself(edit, crate, keeps):
+def by_itself(edit, crate):
     """The verdict of an edit that is tried alone."""
     texts = {}
     edit.made(texts, crate.folder)
-    status, said = crate.check(texts, [edit], keeps)
+    status, said = crate.check(texts, [edit])
     if status == 0:
         return False, "NOT REFUSED: its function is still proved"
     if not reached(said):
@@ -276,11 +311,11 @@ class Tries:
 
     def one(self, group, keeps=False):
         """Tries a group, and by itself each edit of it of which that check does not say that it is refused."""
-        is_one = len(group["edits"]) == 1
-        said = "" if is_one else self.crate.check(group["texts"], group["edits"], keeps)[1]
-        for edit in group["edits"]:
-            well, text = verdict(edit, said) if said and reached(said) else (False, "")
-            self.tell(edit, *((well, text) if well else by_itself(edit, self.crate, is_one and keeps)))
+        texts, edits = group["texts"], group["edits"]
+        said = self.crate.check(texts, edits, keeps, by_contract=True)[1] if edits[0].is_of_code() else ""
+        for edit in edits:
+            well, text = verdict(edit, said) if reached(said) else (False, "")
+            self.tell(edit, *((well, text) if well else by_itself(edit, self.crate)))
 
 
 class Log:
@@ -351,6 +386,43 @@ class Times:
         say(f"seconds of all processors: {used:.0f} used, {idle:.0f} idle, {stolen:.0f} taken by the host")
 
 
+class Lanes:
+    """What may be done now, each with its size and its crate, and what is being done."""
+
+    def __init__(self, times):
+        self.times, self.ready, self.running = times, [], []
+
+    def add(self, size, name, call):
+        self.ready.append((size, name, call))
+
+    def wanted(self):
+        """How many lanes there is work for."""
+        return max(1, len(self.ready) + len(self.running))
+
+    def are_used(self):
+        self.running = [it for it in self.running if it[1].is_alive()]
+        return bool(self.ready or self.running)
+
+    def fill(self, lanes):
+        """Begins what fits: of a crate that none is of, since a check begins with what those before it proved, and of such
+        the largest first, so that all end together."""
+        while self.are_used() and self.ready and len(self.running) < lanes:
+            busy = {name for name, _ in self.running}
+            first = max(self.ready, key=lambda it: (it[1] not in busy, it[0]))
+            self.ready.remove(first)
+            thread = threading.Thread(target=self.work, args=first[1:], daemon=True)
+            thread.start()
+            self.running.append((first[1], thread))
+
+    def work(self, name, call):
+        self.times.note(name, "edits")
+        try:
+            call()
+        except Exception:
+            say(f"edits of {name}: not tried\n{traceback.format_exc()}")
+        self.times.note(name, "edits")
+
+
 def main(words):
     cores = len(os.sched_getaffinity(0))
     log = None
@@ -362,34 +434,25 @@ def main(words):
         os.nice(10)
     own, parent, times = crates(), os.getppid(), Times()
     left = names = [name for name in own if (not words or name in words) and edits_of(name)]
-    # what may be done now, each with its size and its crate, and what is being done
-    ready, running = [], []
-    tries, copied = {}, set()
+    lanes, tries, copied = Lanes(times), {}, set()
 
     def free():
         """How many processors there are for edits: half of them, or those that no other check uses."""
         return cores if not log or log.has_ended else max(cores // 2, cores - times.busy())
 
     def begin(name, libraries, kept):
-        crate = Crate(name, own[name], libraries, kept, lambda: max(1, free() // max(1, len(running) + len(ready))))
+        crate = Crate(name, own[name], libraries, kept, lambda: max(1, free() // lanes.wanted()))
         if not log and os.path.isdir(f"{crate.folder}/out/incremental"):
             shutil.copytree(f"{crate.folder}/out/incremental", kept)
         tries[name] = its = Tries(crate)
         if log or its.is_proved():
             its.first()
-            ready.extend((len(group["edits"]), name, functools.partial(its.one, group)) for group in its.groups)
-
-    def work(name, call):
-        times.note(name, "edits")
-        try:
-            call()
-        except Exception:
-            say(f"edits of {name}: not tried\n{traceback.format_exc()}")
-        times.note(name, "edits")
+            for group in its.groups:
+                lanes.add(len(group["edits"]), name, functools.partial(its.one, group))
 
     with tempfile.TemporaryDirectory(prefix="edits-libraries-") as room:
         libraries = (lambda _: room) if log else (lambda it: f"{ROOT}/crates/{it}/out/rlib")
-        while left or ready or running or (log and not log.has_ended):
+        while left or lanes.are_used() or (log and not log.has_ended):
             if log:
                 if os.getppid() != parent:
                     os._exit(1)
@@ -402,19 +465,14 @@ def main(words):
                         shutil.copytree(rlib, f"{room}/{name}.rlib")
                         copied.add(name)
             well = [name for name in left if not log or all(it in copied for it in deep(name, own))]
-            ready.extend((0, name, functools.partial(begin, name, libraries, f"{room}/{name}")) for name in well)
+            for name in well:
+                lanes.add(MOST + 1, name, functools.partial(begin, name, libraries, f"{room}/{name}"))
             left = [name for name in left if name not in well]
             if log and log.has_ended:
                 for name in left:
                     say(f"edits of {name}: not tried: rt ci has not proved what it stands on")
                 left = []
-            running = [it for it in running if it.is_alive()]
-            while ready and len(running) < free():
-                # (the largest first, so that they end together)
-                size, name, call = max(ready, key=lambda it: it[0] or MOST + 1)
-                ready.remove((size, name, call))
-                running.append(threading.Thread(target=work, args=(name, call), daemon=True))
-                running[-1].start()
+            lanes.fill(free())
             time.sleep(0.5)
     times.tell()
     passed = 0

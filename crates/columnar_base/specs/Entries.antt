@@ -33,6 +33,12 @@ pub record HasPiece (f : Format) (c : Content) (start stop : ℕ) : Type 0 where
   pub ordered : start ≤ stop
   pub in_range : stop ≤ length (f.rows c)
 
+-- each part has its rows of the range
+abbrev pub HavePieces : Format → List Format → Content → ℕ → ℕ → Type 0
+HavePieces a [] c start stop = HasPiece a c start stop
+HavePieces a (b ∷ fs) (both x y) start stop = HasPiece a x start stop × HavePieces b fs y start stop
+HavePieces a (b ∷ fs) c start stop = ⊥
+
 -- as many rows for each part, from the same start
 abbrev pub Level : Entry → List Entry → Type 0
 Level p [] = Unit {0}

@@ -9,7 +9,7 @@ use Rattle.columnar_base.specs.Tuples.{tuples}
 use Rattle.columnar_base.specs.TupleLaws.{length-tuples, length-piece, tuples-drop, tuples-take, pair_parts, pair_copied, pair_refused_left, pair_refused_right}
 use Rattle.columnar_base.specs.LongTuples.{nested, tuple_format, PartOf, Parts}
 use Rattle.columnar_base.specs.LongTupleLaws.{tuple_same, tuple_parts, under_took, under_copied, under_refused, up_to}
-use Rattle.columnar_base.specs.Entries.{Entry, pushed, piece, pieces, HasPiece, Level, joined, Entered}
+use Rattle.columnar_base.specs.Entries.{Entry, pushed, piece, pieces, HasPiece, HavePieces, Level, joined, Entered}
 
 -- one item, pushed
 
@@ -61,8 +61,19 @@ took_on_ok a b fs x y p (Err e) h = tt
 
 -- rows copied out of the views of the parts
 
-pub has_piece : {f : Format} {c : Content} {n start stop : ℕ} → PartOf f c n → start ≤ stop → stop ≤ n → HasPiece f c start stop
+has_piece : {f : Format} {c : Content} {n start stop : ℕ} → PartOf f c n → start ≤ stop → stop ≤ n → HasPiece f c start stop
 has_piece p o l = record { sound = p.sound; ordered = o; in_range = up_to p l }
+
+have_pieces : (a : Format) (fs : List Format) (c : Content) (n start stop : ℕ) → Parts a fs c n → start ≤ stop → stop ≤ n → HavePieces a fs c start stop
+have_pieces a [] c n start stop p o l = has_piece p o l
+have_pieces a (b ∷ fs) (both x y) n start stop p o l = (has_piece p.0 o l, have_pieces b fs y n start stop p.1 o l)
+have_pieces a (b ∷ fs) (slice bs) n start stop p o l = absurd p
+have_pieces a (b ∷ fs) (part k u y) n start stop p o l = absurd p
+have_pieces a (b ∷ fs) (plain rs) n start stop p o l = absurd p
+
+-- a range of a view of a tuple is one of each part
+pub tuple_pieces : (a b : Format) (fs : List Format) {x y : Content} (start stop : ℕ) → IsSound (tuple_format a b fs) (both x y) → start ≤ stop → stop ≤ length (tuples (a.rows x) ((nested b fs).rows y)) → HavePieces a (b ∷ fs) (both x y) start stop
+tuple_pieces a b fs {x} {y} start stop s o l = have_pieces a (b ∷ fs) (both x y) (length (tuples (a.rows x) ((nested b fs).rows y))) start stop (tuple_parts a b fs s) o l
 
 pieces_level : (a : Format) (x : Content) (b : Format) (fs : List Format) (c : Content) (n start stop : ℕ) → PartOf a x n → Parts b fs c n → Level (piece a x start stop) (pieces b fs c start stop)
 pieces_level a x b [] c n start stop g h = (length-piece (a.rows x) (b.rows c) start (stop - start) (g.level ∙ sym h.level), refl, tt)

@@ -230,8 +230,7 @@ pub fn enter_two<A: Truncate, B: Column, P: Enter<A>, Q: Enter<B> + Drop>(
     q: Q,
 ) -> Result<(), GrowError>
     requires sound { IsSound (pair_format A.format B.format) (both (A.content first.old) (B.content second.old)) }
-    requires valid_first { P.valid p }
-    requires valid_second { Q.valid q }
+    requires valid { P.valid p × Q.valid q }
     requires level { Level (P.entry p) (Q.entry q ∷ []) }
     ensures ok { OnOk result (Entered (pair_format A.format B.format) (both (A.content first.old) (B.content second.old)) (both (A.content first.new) (B.content second.new)) (joined (P.entry p) (Q.entry q ∷ []))) }
     ensures err { IfErr result (λ e. Refused (pair_format A.format B.format) (both (A.content first.old) (B.content second.old)) (both (A.content first.new) (B.content second.new)) (joined (P.entry p) (Q.entry q ∷ [])).rows e) }

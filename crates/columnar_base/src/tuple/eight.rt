@@ -20,7 +20,7 @@ impl<P: Item, Q: Item, R: Item, S: Item, T: Item, U: Item, V: Item, W: Item> Ite
     for (P, Q, R, S, T, U, V, W) {
     ghost meaning = { λ p. tuple (P.meaning p.0) (tuple (Q.meaning p.1) (tuple (R.meaning p.2) (tuple (S.meaning p.3) (tuple (T.meaning p.4) (tuple (U.meaning p.5) (tuple (V.meaning p.6) (W.meaning p.7))))))) };
 
-    ghost valid = { λ p. P.valid p.0 × Q.valid p.1 × R.valid p.2 × S.valid p.3 × T.valid p.4 × U.valid p.5 × V.valid p.6 × W.valid p.7 };
+    ghost valid = { λ p. P.valid p.0 × (Q.valid p.1 × (R.valid p.2 × (S.valid p.3 × (T.valid p.4 × (U.valid p.5 × (V.valid p.6 × W.valid p.7)))))) };
 }
 
 /// The slices of the parts in their order; a row is the tuple of their rows.
@@ -339,14 +339,7 @@ pub fn enter_eight<
     w: W,
 ) -> Result<(), GrowError>
     requires sound { IsSound (nested A.format (B.format ∷ C.format ∷ D.format ∷ E.format ∷ F.format ∷ G.format ∷ H.format ∷ [])) (both (A.content first.old) (both (B.content second.old) (both (C.content third.old) (both (D.content fourth.old) (both (E.content fifth.old) (both (F.content sixth.old) (both (G.content seventh.old) (H.content eighth.old)))))))) }
-    requires valid_first { P.valid p }
-    requires valid_second { Q.valid q }
-    requires valid_third { R.valid r }
-    requires valid_fourth { S.valid s }
-    requires valid_fifth { T.valid t }
-    requires valid_sixth { U.valid u }
-    requires valid_seventh { V.valid v }
-    requires valid_eighth { W.valid w }
+    requires valid { P.valid p × (Q.valid q × (R.valid r × (S.valid s × (T.valid t × (U.valid u × (V.valid v × W.valid w)))))) }
     requires level { Level (P.entry p) (Q.entry q ∷ R.entry r ∷ S.entry s ∷ T.entry t ∷ U.entry u ∷ V.entry v ∷ W.entry w ∷ []) }
     ensures ok { OnOk result (Entered (nested A.format (B.format ∷ C.format ∷ D.format ∷ E.format ∷ F.format ∷ G.format ∷ H.format ∷ [])) (both (A.content first.old) (both (B.content second.old) (both (C.content third.old) (both (D.content fourth.old) (both (E.content fifth.old) (both (F.content sixth.old) (both (G.content seventh.old) (H.content eighth.old)))))))) (both (A.content first.new) (both (B.content second.new) (both (C.content third.new) (both (D.content fourth.new) (both (E.content fifth.new) (both (F.content sixth.new) (both (G.content seventh.new) (H.content eighth.new)))))))) (joined (P.entry p) (Q.entry q ∷ R.entry r ∷ S.entry s ∷ T.entry t ∷ U.entry u ∷ V.entry v ∷ W.entry w ∷ []))) }
     ensures err { IfErr result (λ e. Refused (nested A.format (B.format ∷ C.format ∷ D.format ∷ E.format ∷ F.format ∷ G.format ∷ H.format ∷ [])) (both (A.content first.old) (both (B.content second.old) (both (C.content third.old) (both (D.content fourth.old) (both (E.content fifth.old) (both (F.content sixth.old) (both (G.content seventh.old) (H.content eighth.old)))))))) (both (A.content first.new) (both (B.content second.new) (both (C.content third.new) (both (D.content fourth.new) (both (E.content fifth.new) (both (F.content sixth.new) (both (G.content seventh.new) (H.content eighth.new)))))))) (joined (P.entry p) (Q.entry q ∷ R.entry r ∷ S.entry s ∷ T.entry t ∷ U.entry u ∷ V.entry v ∷ W.entry w ∷ [])).rows e) }

@@ -19,7 +19,7 @@ use std::alloc::Global;
 impl<P: Item, Q: Item, R: Item, S: Item, T: Item, U: Item> Item for (P, Q, R, S, T, U) {
     ghost meaning = { λ p. tuple (P.meaning p.0) (tuple (Q.meaning p.1) (tuple (R.meaning p.2) (tuple (S.meaning p.3) (tuple (T.meaning p.4) (U.meaning p.5))))) };
 
-    ghost valid = { λ p. P.valid p.0 × Q.valid p.1 × R.valid p.2 × S.valid p.3 × T.valid p.4 × U.valid p.5 };
+    ghost valid = { λ p. P.valid p.0 × (Q.valid p.1 × (R.valid p.2 × (S.valid p.3 × (T.valid p.4 × U.valid p.5)))) };
 }
 
 /// The slices of the parts in their order; a row is the tuple of their rows.
@@ -227,12 +227,7 @@ pub fn enter_six<
     u: U,
 ) -> Result<(), GrowError>
     requires sound { IsSound (nested A.format (B.format ∷ C.format ∷ D.format ∷ E.format ∷ F.format ∷ [])) (both (A.content first.old) (both (B.content second.old) (both (C.content third.old) (both (D.content fourth.old) (both (E.content fifth.old) (F.content sixth.old)))))) }
-    requires valid_first { P.valid p }
-    requires valid_second { Q.valid q }
-    requires valid_third { R.valid r }
-    requires valid_fourth { S.valid s }
-    requires valid_fifth { T.valid t }
-    requires valid_sixth { U.valid u }
+    requires valid { P.valid p × (Q.valid q × (R.valid r × (S.valid s × (T.valid t × U.valid u)))) }
     requires level { Level (P.entry p) (Q.entry q ∷ R.entry r ∷ S.entry s ∷ T.entry t ∷ U.entry u ∷ []) }
     ensures ok { OnOk result (Entered (nested A.format (B.format ∷ C.format ∷ D.format ∷ E.format ∷ F.format ∷ [])) (both (A.content first.old) (both (B.content second.old) (both (C.content third.old) (both (D.content fourth.old) (both (E.content fifth.old) (F.content sixth.old)))))) (both (A.content first.new) (both (B.content second.new) (both (C.content third.new) (both (D.content fourth.new) (both (E.content fifth.new) (F.content sixth.new)))))) (joined (P.entry p) (Q.entry q ∷ R.entry r ∷ S.entry s ∷ T.entry t ∷ U.entry u ∷ []))) }
     ensures err { IfErr result (λ e. Refused (nested A.format (B.format ∷ C.format ∷ D.format ∷ E.format ∷ F.format ∷ [])) (both (A.content first.old) (both (B.content second.old) (both (C.content third.old) (both (D.content fourth.old) (both (E.content fifth.old) (F.content sixth.old)))))) (both (A.content first.new) (both (B.content second.new) (both (C.content third.new) (both (D.content fourth.new) (both (E.content fifth.new) (F.content sixth.new)))))) (joined (P.entry p) (Q.entry q ∷ R.entry r ∷ S.entry s ∷ T.entry t ∷ U.entry u ∷ [])).rows e) }

@@ -18,7 +18,7 @@ use std::alloc::Global;
 impl<P: Item, Q: Item, R: Item> Item for (P, Q, R) {
     ghost meaning = { λ p. tuple (P.meaning p.0) (tuple (Q.meaning p.1) (R.meaning p.2)) };
 
-    ghost valid = { λ p. P.valid p.0 × Q.valid p.1 × R.valid p.2 };
+    ghost valid = { λ p. P.valid p.0 × (Q.valid p.1 × R.valid p.2) };
 }
 
 /// The slices of the parts in their order; a row is the tuple of their rows.
@@ -145,9 +145,7 @@ pub fn enter_three<
     R: Enter<C> + Drop,
 >(first: &mut A, second: &mut B, third: &mut C, p: P, q: Q, r: R) -> Result<(), GrowError>
     requires sound { IsSound (nested A.format (B.format ∷ C.format ∷ [])) (both (A.content first.old) (both (B.content second.old) (C.content third.old))) }
-    requires valid_first { P.valid p }
-    requires valid_second { Q.valid q }
-    requires valid_third { R.valid r }
+    requires valid { P.valid p × (Q.valid q × R.valid r) }
     requires level { Level (P.entry p) (Q.entry q ∷ R.entry r ∷ []) }
     ensures ok { OnOk result (Entered (nested A.format (B.format ∷ C.format ∷ [])) (both (A.content first.old) (both (B.content second.old) (C.content third.old))) (both (A.content first.new) (both (B.content second.new) (C.content third.new))) (joined (P.entry p) (Q.entry q ∷ R.entry r ∷ []))) }
     ensures err { IfErr result (λ e. Refused (nested A.format (B.format ∷ C.format ∷ [])) (both (A.content first.old) (both (B.content second.old) (C.content third.old))) (both (A.content first.new) (both (B.content second.new) (C.content third.new))) (joined (P.entry p) (Q.entry q ∷ R.entry r ∷ [])).rows e) }

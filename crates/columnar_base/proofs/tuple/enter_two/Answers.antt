@@ -13,6 +13,12 @@ enter-requires-clause-sound g c = first_sound g.A.Column.format g.B.Column.forma
 pub enter-requires-2-clause-sound : goal.enter-requires-2-clause-sound
 enter-requires-2-clause-sound g c = others_sound g.A.Column.format g.B.Column.format [] c.requires.sound
 
+pub enter-requires-clause-valid : goal.enter-requires-clause-valid
+enter-requires-clause-valid g c = c.requires.valid.0
+
+pub enter-requires-2-clause-valid : goal.enter-requires-2-clause-valid
+enter-requires-2-clause-valid g c = c.requires.valid.1
+
 pub returns-in_err-enter-clause-err : goal.returns-in_err-enter-clause-err
 returns-in_err-enter-clause-err g c = rw (passed_on c.from_residual.result c.from_residual.ensures.1) (first_refused g.A.Column.format g.B.Column.format [] (g.P.Enter.entry c.args.p) (g.Q.Enter.entry c.args.q) [] c.requires.sound c.requires.level c.in_err-enter.ensures.err)
 

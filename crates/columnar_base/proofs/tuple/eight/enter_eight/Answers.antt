@@ -16,6 +16,12 @@ enter_seven-requires-clause-sound g c = others_sound g.A.Column.format g.B.Colum
 pub enter_seven-requires-clause-level : goal.enter_seven-requires-clause-level
 enter_seven-requires-clause-level g c = c.requires.level.2
 
+pub enter-requires-clause-valid : goal.enter-requires-clause-valid
+enter-requires-clause-valid g c = c.requires.valid.0
+
+pub enter_seven-requires-clause-valid : goal.enter_seven-requires-clause-valid
+enter_seven-requires-clause-valid g c = c.requires.valid.1
+
 pub returns-in_err-enter-clause-err : goal.returns-in_err-enter-clause-err
 returns-in_err-enter-clause-err g c = rw (passed_on c.from_residual.result c.from_residual.ensures.1) (first_refused g.A.Column.format g.B.Column.format (g.C.Column.format ∷ g.D.Column.format ∷ g.E.Column.format ∷ g.F.Column.format ∷ g.G.Column.format ∷ g.H.Column.format ∷ []) (g.P.Enter.entry c.args.p) (g.Q.Enter.entry c.args.q) (g.R.Enter.entry c.args.r ∷ g.S.Enter.entry c.args.s ∷ g.T.Enter.entry c.args.t ∷ g.U.Enter.entry c.args.u ∷ g.V.Enter.entry c.args.v ∷ g.W.Enter.entry c.args.w ∷ []) c.requires.sound c.requires.level c.in_err-enter.ensures.err)
 

@@ -16,6 +16,12 @@ enter_four-requires-clause-sound g c = others_sound g.A.Column.format g.B.Column
 pub enter_four-requires-clause-level : goal.enter_four-requires-clause-level
 enter_four-requires-clause-level g c = c.requires.level.2
 
+pub enter-requires-clause-valid : goal.enter-requires-clause-valid
+enter-requires-clause-valid g c = c.requires.valid.0
+
+pub enter_four-requires-clause-valid : goal.enter_four-requires-clause-valid
+enter_four-requires-clause-valid g c = c.requires.valid.1
+
 pub returns-in_err-enter-clause-err : goal.returns-in_err-enter-clause-err
 returns-in_err-enter-clause-err g c = rw (passed_on c.from_residual.result c.from_residual.ensures.1) (first_refused g.A.Column.format g.B.Column.format (g.C.Column.format ∷ g.D.Column.format ∷ g.E.Column.format ∷ []) (g.P.Enter.entry c.args.p) (g.Q.Enter.entry c.args.q) (g.R.Enter.entry c.args.r ∷ g.S.Enter.entry c.args.s ∷ g.T.Enter.entry c.args.t ∷ []) c.requires.sound c.requires.level c.in_err-enter.ensures.err)
 

@@ -1,13 +1,9 @@
 use Rattle.std.proofs.Common.{[]}
-use Rattle.columnar_base.specs.LongTupleLaws.{tuple_parts}
-use Rattle.columnar_base.specs.EntryLaws.{has_piece, views_level, copied_on_ok, copy_refused}
+use Rattle.columnar_base.specs.EntryLaws.{tuple_pieces, views_level, copied_on_ok, copy_refused}
 use Rattle.columnar_core.proofs.tuple.Tuple2ExtendFrom.extend_from_self.Goals as goal
 
-pub enter_two-requires-clause-valid_first : goal.enter_two-requires-clause-valid_first
-enter_two-requires-clause-valid_first g c = has_piece (tuple_parts g.V.Column.format g.W.Column.format [] c.requires.view_sound).0 c.requires.ordered c.requires.in_range
-
-pub enter_two-requires-clause-valid_second : goal.enter_two-requires-clause-valid_second
-enter_two-requires-clause-valid_second g c = has_piece (tuple_parts g.V.Column.format g.W.Column.format [] c.requires.view_sound).1 c.requires.ordered c.requires.in_range
+pub enter_two-requires-clause-valid : goal.enter_two-requires-clause-valid
+enter_two-requires-clause-valid g c = tuple_pieces g.V.Column.format g.W.Column.format [] c.args.range.start c.args.range.«end» c.requires.view_sound c.requires.ordered c.requires.in_range
 
 pub enter_two-requires-clause-level : goal.enter_two-requires-clause-level
 enter_two-requires-clause-level g c = views_level g.V.Column.format g.W.Column.format [] c.args.range.start c.args.range.«end» c.requires.view_sound

@@ -9,6 +9,9 @@ enter_eight-requires-clause-sound g c = (tuple_same g.A.Column.format g.B.Column
 pub enter_eight-requires-clause-level : goal.enter_eight-requires-clause-level
 enter_eight-requires-clause-level g c = (refl, refl, (refl, refl, (refl, refl, (refl, refl, (refl, refl, (refl, refl, (refl, refl, tt)))))))
 
+pub enter_eight-requires-clause-valid : goal.enter_eight-requires-clause-valid
+enter_eight-requires-clause-valid g c = c.requires.valid
+
 pub returns-clause-ok : goal.returns-clause-ok
 returns-clause-ok g c = took_on_ok g.A.Column.format g.B.Column.format (g.C.Column.format ∷ g.D.Column.format ∷ g.E.Column.format ∷ g.F.Column.format ∷ g.G.Column.format ∷ g.H.Column.format ∷ []) _ _ _ c.enter_eight.result c.enter_eight.ensures.ok
 

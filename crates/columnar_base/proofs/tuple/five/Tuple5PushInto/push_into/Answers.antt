@@ -9,6 +9,9 @@ enter_five-requires-clause-sound g c = (tuple_same g.A.Column.format g.B.Column.
 pub enter_five-requires-clause-level : goal.enter_five-requires-clause-level
 enter_five-requires-clause-level g c = (refl, refl, (refl, refl, (refl, refl, (refl, refl, tt))))
 
+pub enter_five-requires-clause-valid : goal.enter_five-requires-clause-valid
+enter_five-requires-clause-valid g c = c.requires.valid
+
 pub returns-clause-ok : goal.returns-clause-ok
 returns-clause-ok g c = took_on_ok g.A.Column.format g.B.Column.format (g.C.Column.format ∷ g.D.Column.format ∷ g.E.Column.format ∷ []) _ _ _ c.enter_five.result c.enter_five.ensures.ok
 

@@ -9,6 +9,9 @@ enter_four-requires-clause-sound g c = (tuple_same g.A.Column.format g.B.Column.
 pub enter_four-requires-clause-level : goal.enter_four-requires-clause-level
 enter_four-requires-clause-level g c = (refl, refl, (refl, refl, (refl, refl, tt)))
 
+pub enter_four-requires-clause-valid : goal.enter_four-requires-clause-valid
+enter_four-requires-clause-valid g c = c.requires.valid
+
 pub returns-clause-ok : goal.returns-clause-ok
 returns-clause-ok g c = took_on_ok g.A.Column.format g.B.Column.format (g.C.Column.format ∷ g.D.Column.format ∷ []) _ _ _ c.enter_four.result c.enter_four.ensures.ok
 

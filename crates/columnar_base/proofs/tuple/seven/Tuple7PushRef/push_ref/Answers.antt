@@ -9,6 +9,9 @@ enter_seven-requires-clause-sound g c = (tuple_same g.A.Column.format g.B.Column
 pub enter_seven-requires-clause-level : goal.enter_seven-requires-clause-level
 enter_seven-requires-clause-level g c = (refl, refl, (refl, refl, (refl, refl, (refl, refl, (refl, refl, (refl, refl, tt))))))
 
+pub enter_seven-requires-clause-valid : goal.enter_seven-requires-clause-valid
+enter_seven-requires-clause-valid g c = c.requires.valid
+
 pub returns-clause-ok : goal.returns-clause-ok
 returns-clause-ok g c = took_on_ok g.A.Column.format g.B.Column.format (g.C.Column.format ∷ g.D.Column.format ∷ g.E.Column.format ∷ g.F.Column.format ∷ g.G.Column.format ∷ []) _ _ _ c.enter_seven.result c.enter_seven.ensures.ok
 

@@ -9,6 +9,9 @@ enter_six-requires-clause-sound g c = (tuple_same g.A.Column.format g.B.Column.f
 pub enter_six-requires-clause-level : goal.enter_six-requires-clause-level
 enter_six-requires-clause-level g c = (refl, refl, (refl, refl, (refl, refl, (refl, refl, (refl, refl, tt)))))
 
+pub enter_six-requires-clause-valid : goal.enter_six-requires-clause-valid
+enter_six-requires-clause-valid g c = c.requires.valid
+
 pub returns-clause-ok : goal.returns-clause-ok
 returns-clause-ok g c = took_on_ok g.A.Column.format g.B.Column.format (g.C.Column.format ∷ g.D.Column.format ∷ g.E.Column.format ∷ g.F.Column.format ∷ []) _ _ _ c.enter_six.result c.enter_six.ensures.ok
 

@@ -9,6 +9,9 @@ enter_three-requires-clause-sound g c = (tuple_same g.A.Column.format g.B.Column
 pub enter_three-requires-clause-level : goal.enter_three-requires-clause-level
 enter_three-requires-clause-level g c = (refl, refl, (refl, refl, tt))
 
+pub enter_three-requires-clause-valid : goal.enter_three-requires-clause-valid
+enter_three-requires-clause-valid g c = c.requires.valid
+
 pub returns-clause-ok : goal.returns-clause-ok
 returns-clause-ok g c = took_on_ok g.A.Column.format g.B.Column.format (g.C.Column.format ∷ []) _ _ _ c.enter_three.result c.enter_three.ensures.ok
 

@@ -41,5 +41,5 @@ impl<P: Plain, Q: Plain> Plain for (P, Q) {
 }
 
 impl<P: Plain, Q: Plain, R: Plain> Plain for (P, Q, R) {
-    ghost always_valid = { λ x. (P.always_valid x.0, Q.always_valid x.1, R.always_valid x.2) };
+    ghost always_valid = { λ x. (P.always_valid x.0, (Q.always_valid x.1, R.always_valid x.2)) };
 }

@@ -6,7 +6,7 @@ a line 'of: PATH', the function that must be refused, by its path below the crat
 one check, of their functions and those of the crate that these call: no two of a group are of one function, and a function
 is proved from the contracts of what it calls alone, so what one edit breaks is not blamed on another, and a hole stands
 for each proof file of a function that no edit of the group is of: the gate proves those. An edit passes where a goal of
-its own function is not proved. One that is refused for a name that it took away, or for no goal,
+its own function is not proved, and each that it names in a line 'goal: NAME', where one body breaks several promises. One that is refused for a name that it took away, or for no goal,
 fails. An edit of a definition in specs/ is tried alone, and passes where a lemma is not proved, too.
 
 usage: .ci/edits.py [--jobs N] [CRATE ..]      after the crates' libraries were built, as by rt ci or rt all check
@@ -49,6 +49,7 @@ class Edit:
         self.name = os.path.basename(path)
         self.pairs = []
         self.of = ""
+        self.goals = []
         file = old = None
         with open(path, encoding="utf-8") as it:
             for line in it.read().split("\n"):
@@ -61,6 +62,8 @@ class Edit:
                     old = None
                 elif line.startswith("of: "):
                     self.of = line[4:].strip()
+                elif line.startswith("goal: "):
+                    self.goals.append(line[6:].strip())
 
     def made(self, texts, folder):
         """Makes the edit in the texts, by file; says why it can't be made."""
@@ -218,22 +221,29 @@ def verdict(edit, said):
     """Whether the edit is refused for what its function has to show, and what to say."""
     open_goals, gone = judged(said)
     if edit.of in open_goals:
-        return True, "refused: " + ", ".join(dict.fromkeys(open_goals[edit.of]))
+        found = dict.fromkeys(open_goals[edit.of])
+        proved = [goal for goal in edit.goals if goal not in found]
+        return not proved, f"{'NOT REFUSED FOR ' + ', '.join(proved) + ', but ' if proved else ''}refused: {', '.join(found)}"
     return False, f"REFUSED FOR A NAME ALONE: {', '.join(gone[edit.of])}" if edit.of in gone else "NOT REFUSED"
 
 
-# The most edits in one check: what a check holds in memory grows with what it refuses.
+# The most edits in one check, or one or two more: what a check holds in memory grows with what it refuses.
 MOST = 80
 
 
+def can_join(edit, group, folder):
+    return all(it.is_of_code() and it.of != edit.of for it in group["edits"]) and edit.made(dict(group["texts"]), folder) is None
+
+
 def grouped(edits, folder):
-    """The edits in groups: no two of a group are of one function or in one text, and one of a definition is alone."""
+    """The edits in groups: no two of a group are of one function or in one text, and one of a definition is alone. There are
+    no more groups than these rules and MOST ask for, so an edit that fits in none that has room goes where it fits."""
     groups = []
     for edit in edits:
-        for group in groups if edit.is_of_code() else ():
-            fits = len(group["edits"]) < MOST and all(it.is_of_code() and it.of != edit.of for it in group["edits"])
-            if fits and edit.made(dict(group["texts"]), folder) is None:
-                break
+        fits = [group for group in groups if edit.is_of_code() and can_join(edit, group, folder)]
+        with_room = [group for group in fits if len(group["edits"]) < MOST]
+        if with_room or (fits and len(groups) * MOST >= len(edits)):
+            group = (with_room or fits)[0]
         else:
             group = {"texts": {}, "edits": []}
             groups.append(group)

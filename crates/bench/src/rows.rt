@@ -35,12 +35,15 @@ pub fn measure<R: Clock, O: Write>(times: &mut Times<'_, R, O>) -> Option<()> {
 fn typed<R: Clock, O: Write>(times: &mut Times<'_, R, O>, rows: &[Row]) -> Option<Vec<u8>> {
     let held = Held::Typed(times.refs::<Row, Rows>("push_rows_ref", rows)?);
     let view = held.borrow();
-    times.view::<Viewed<'_>, Rows>("push_rows_view", &view)?;
-    times.sum("get_rows_typed", &view)?;
-    times.copy::<Viewed<'_>, Rows>("copy_rows_half", view, 250_000, 750_000)?;
     times.copy_behind::<Viewed<'_>, Rows>("copy_rows_half_odd", view, 1, 250_001, 750_001)?;
-    times.encode("encode_rows", N, &view)?;
-    times.write("write_rows", N, &view, 16 * N)
+    let names = [
+        "push_rows_view",
+        "get_rows_typed",
+        "copy_rows_half",
+        "encode_rows",
+        "write_rows",
+    ];
+    times.viewed::<Viewed<'_>, Rows>(names, view, 16 * N)
 }
 
 fn opened<R: Clock, O: Write>(times: &mut Times<'_, R, O>, bytes: Vec<u8>) -> Option<()> {

@@ -50,11 +50,14 @@ fn strings<R: Clock, O: Write>(times: &mut Times<'_, R, O>, texts: &[&str]) -> O
 fn typed<R: Clock, O: Write>(times: &mut Times<'_, R, O>, records: &[Record]) -> Option<Vec<u8>> {
     let held = Held::Typed(times.refs::<Record, Records>("push_records_ref", records)?);
     let view = held.borrow();
-    times.view::<Viewed<'_>, Records>("push_records_view", &view)?;
-    times.sum("get_records_typed", &view)?;
-    times.copy::<Viewed<'_>, Records>("copy_records_half", view, 250_000, 750_000)?;
-    times.encode("encode_records", N, &view)?;
-    times.write("write_records", N, &view, 32 * N)
+    let names = [
+        "push_records_view",
+        "get_records_typed",
+        "copy_records_half",
+        "encode_records",
+        "write_records",
+    ];
+    times.viewed::<Viewed<'_>, Records>(names, view, 32 * N)
 }
 
 fn opened<R: Clock, O: Write>(times: &mut Times<'_, R, O>, bytes: Vec<u8>) -> Option<()> {

@@ -145,6 +145,31 @@ impl<'a, R: Clock, O: Write> Times<'a, R, O> {
         Some(bytes)
     }
 
+    /// All that is measured of a view of rows in memory: they are pushed, read, the half in the middle is copied, and they are
+    /// encoded and written, where there is room for `room` bytes. `names` has a name for each.
+    pub fn viewed<
+        'b,
+        V: Len + Copy + Index<Ref: Amount> + AsBytes<'b>,
+        C: Push<V::Ref> + ExtendFrom<V> + Drop,
+    >(
+        &mut self,
+        names: [&str; 5],
+        view: V,
+        room: usize,
+    ) -> Option<Vec<u8>>
+        requires sound { IsSound V.format (V.content view) }
+        requires representable { IsTrue (representable V.format) }
+    {
+        let items = view.len();
+        let fourth = items / 4;
+        let [pushed, read, copied, encoded, written] = names;
+        self.view::<V, C>(pushed, &view)?;
+        self.sum(read, &view)?;
+        self.copy::<V, C>(copied, view, fourth, items - fourth)?;
+        self.encode(encoded, items, &view)?;
+        self.write(written, items, &view, room)
+    }
+
     /// Validates bytes.
     pub fn validate<C: Stored>(&mut self, name: &str, items: usize, bytes: &[u8]) -> Option<u64>
         requires { IsTrue (representable C.format) }

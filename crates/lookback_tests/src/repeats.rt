@@ -7,13 +7,13 @@ use crate::runs::Runs;
 use columnar_core::container::Storage;
 use columnar_core::traits::{Len, Push};
 use columnar_lookback::repeats::Repeats;
+use columnar_strings::string::Strings;
 use columnar_sums::option::Options;
 use std::alloc::Global;
 use std::test::Fail;
-use test_support::columns::reads;
 use test_support::{equal, holds};
 
-type Wide = Repeats<Options<(Vec<u64>, Vec<u32>)>>;
+type Named = Repeats<Options<(Vec<u64>, Strings)>>;
 
 #[test]
 fn a_run_is_kept_once(rt: HostRuntime) -> Result<(), Fail> {
@@ -87,19 +87,21 @@ fn two_thousand_numbers(rt: HostRuntime) -> Result<(), Fail> {
     Ok(())
 }
 
-// The row of a run: none for each third, else a pair of its number and of half that number
-fn wide_row(run: u32) -> Option<(u64, u32)> {
+// The row of a run: none for each third, else its number, and whether that is odd
+fn named_row(run: u64) -> Option<(u64, &'static str)> {
     if run % 3 == 0 {
         None
+    } else if run % 2 == 0 {
+        Some((run, "even"))
     } else {
-        Some((run as u64, run / 2))
+        Some((run, "odd"))
     }
 }
 
 // A column of these rows
-fn column_of<C: Storage + Push<Option<(u64, u32)>>>(
+fn column_of<'x, C: Storage + Push<Option<(u64, &'x str)>>>(
     alloc: Global,
-    rows: &[Option<(u64, u32)>],
+    rows: &[Option<(u64, &'x str)>],
 ) -> Result<C, Fail>
     ensures { IfOk result (λ c. IsSound C.format (C.content c)) }
 {
@@ -110,15 +112,19 @@ fn column_of<C: Storage + Push<Option<(u64, u32)>>>(
     Ok(column)
 }
 
+// Of 500 runs 333 have a name, 166 of them one of four bytes, the others one of three.
 #[test]
-fn two_thousand_pairs_that_may_be_absent(rt: HostRuntime) -> Result<(), Fail> {
+fn two_thousand_numbers_with_names_that_may_be_absent(rt: HostRuntime) -> Result<(), Fail> {
     let mut rows = Vec::new(rt.alloc());
-    for i in 0..2000u32 {
-        rows.push(wide_row(i / 4))?;
+    for i in 0..2000u64 {
+        rows.push(named_row(i / 4))?;
     }
-    let column = column_of::<Wide>(rt.alloc(), rows.as_slice())?;
-    equal!(rt; column.inner.somes.len(), 500);
-    equal!(rt; column.inner.somes.somes.0.as_slice().len(), 333);
-    holds!(rt; reads(&column, rows.as_slice()));
+    let column = column_of::<Named>(rt.alloc(), rows.as_slice())?;
+    let names = &column.inner.somes;
+    equal!(rt; column.inner.indexes.len(), 2000);
+    equal!(rt; names.indexes.len(), 500);
+    equal!(rt; names.somes.0.as_slice().len(), 333);
+    equal!(rt; names.somes.1.bounds.as_slice().len(), 333);
+    equal!(rt; names.somes.1.values.as_slice().len(), 1165);
     Ok(())
 }

@@ -93,11 +93,15 @@ fn lists_of_pairs_are_encoded(rt: HostRuntime) -> Result<(), Fail> {
 fn lists_of_pairs_are_opened(rt: HostRuntime) -> Result<(), Fail> {
     let lists = opened::<Lists>(rt.alloc(), LISTS.as_slice()).expect(&rt, "lists");
     equal!(rt; lists.len(), 2);
-    equal!(rt; item_of(row_of(&lists, 0), 0), Some((1, 10)));
-    equal!(rt; item_of(row_of(&lists, 0), 1), Some((2, 20)));
-    equal!(rt; item_of(row_of(&lists, 0), 2), None);
-    equal!(rt; item_of(row_of(&lists, 1), 0), Some((3, 30)));
-    equal!(rt; item_of(row_of(&lists, 2), 0), None);
+    for (row, at, wanted) in [
+        (0, 0, Some((1, 10))),
+        (0, 1, Some((2, 20))),
+        (0, 2, None),
+        (1, 0, Some((3, 30))),
+        (2, 0, None),
+    ] {
+        equal!(rt; item_of(row_of(&lists, row), at), wanted);
+    }
     Ok(())
 }
 
@@ -113,9 +117,9 @@ fn lists_of_pairs_are_pushed_to_again(rt: HostRuntime) -> Result<(), Fail> {
     holds!(rt; takes_ranges(&mut loaded, pairs, &[(1, 1), (0, 3)]));
     let again = reopened(rt.alloc(), &loaded).expect(&rt, "reopened");
     equal!(rt; again.len(), 4);
-    equal!(rt; item_of(row_of(&again, 1), 0), Some((3, 30)));
-    equal!(rt; item_of(row_of(&again, 2), 0), None);
-    equal!(rt; item_of(row_of(&again, 3), 2), Some((3, 30)));
+    for (row, at, wanted) in [(1, 0, Some((3, 30))), (2, 0, None), (3, 2, Some((3, 30)))] {
+        equal!(rt; item_of(row_of(&again, row), at), wanted);
+    }
     Ok(())
 }
 
@@ -138,17 +142,11 @@ fn a_list_is_pushed_beside_a_number(rt: HostRuntime) -> Result<(), Fail> {
 #[test]
 fn a_number_beside_a_list_is_a_row(rt: HostRuntime) -> Result<(), Fail> {
     let stash = opened::<Beside>(rt.alloc(), BESIDE.as_slice()).expect(&rt, "rows");
-    let (number, list) = row_of(&stash, 1).expect(&rt, "row 1");
+    let view = stash.borrow();
+    let (number, list) = row_at(&view, 1).expect(&rt, "row 1");
     equal!(rt; number, 8);
     equal!(rt; list.len(), 1);
     equal!(rt; row_at(&list, 0), Some((3, 30)));
-    Ok(())
-}
-
-#[test]
-fn the_slices_of_lists_beside_numbers(rt: HostRuntime) -> Result<(), Fail> {
-    let stash = opened::<Beside>(rt.alloc(), BESIDE.as_slice()).expect(&rt, "rows");
-    let view = stash.borrow();
     equal!(rt; view.get_byte_slice(2).1.len(), 24);
     let mut total = 0usize;
     for (_, slice) in ByteSlices::new(&view) {
@@ -171,23 +169,18 @@ fn lists_of_lists_of_pairs_are_encoded(rt: HostRuntime) -> Result<(), Fail> {
 }
 
 #[test]
-fn lists_of_lists_of_pairs_are_opened(rt: HostRuntime) -> Result<(), Fail> {
+fn lists_of_lists_of_pairs_are_opened_copied_and_cut(rt: HostRuntime) -> Result<(), Fail> {
     let nested = opened::<Nested>(rt.alloc(), NESTED.as_slice()).expect(&rt, "nested");
-    let inner = item_of(row_of(&nested, 2), 1)
+    let view = nested.borrow();
+    let inner = item_of(row_at(&view, 2), 1)
         .expect(&rt, "list 1 of row 2")
         .reborrow_ref();
     equal!(rt; inner.len(), 1);
     equal!(rt; row_at(&inner, 0), Some((3, 30)));
-    Ok(())
-}
-
-#[test]
-fn lists_of_lists_of_pairs_are_copied_and_cut(rt: HostRuntime) -> Result<(), Fail> {
-    let nested = opened::<Nested>(rt.alloc(), NESTED.as_slice()).expect(&rt, "nested");
     let mut copy = Nested::empty(rt.alloc());
-    let view = nested.borrow();
-    holds!(rt; copied(&mut copy, view, 1, 3));
-    holds!(rt; copied(&mut copy, view, 0, 1));
+    for (start, end) in [(1, 3), (0, 1)] {
+        holds!(rt; copied(&mut copy, view, start, end));
+    }
     equal!(rt; copy.bounds.as_slice(), [0, 2, 3].as_slice());
     equal!(rt; copy.values.bounds.as_slice(), [2, 3, 4].as_slice());
     equal!(rt;

@@ -12,8 +12,8 @@ use crate::stashes::{opened, variant, writes};
 use crate::stores::bytes_of;
 use columnar_bytes::indexed::validate;
 use columnar_bytes::stash::{Command, Refusal, Reply, Stash, run};
-use columnar_core::bytes::AsBytes;
-use columnar_core::container::{ContainerBytes, ExtendFrom, Storage};
+use columnar_core::bytes::{AsBytes, FromBytes};
+use columnar_core::container::{Borrow, ContainerBytes, ExtendFrom, Storage};
 use columnar_core::fault::{EncodeError, GrowError};
 use columnar_core::traits::{Item, Len, Push, PushRef};
 use std::alloc::Global;
@@ -169,6 +169,30 @@ pub fn calls_keep<
     copies_keep::<V, C>(alloc, source, trial)
         && turns_and_clones_keep::<C>(alloc, trial)
         && encoding_keeps(alloc, &source, trial.source)
+}
+
+/// The same of a column whose source is opened here and kept in `source`, where no store of the trial is refused.
+pub fn copies_of_source_keep<'a, C>(
+    alloc: Global,
+    source: &'a mut Option<Stash<C, Vec<u8>>>,
+    trial: &Trial<'_>,
+) -> bool
+where
+    C: ContainerBytes
+        + Storage
+        + Clone
+        + Borrow<'a, Borrowed: FromBytes<'a> + AsBytes<'a>>
+        + ExtendFrom<<C as Borrow<'a>>::Borrowed>,
+    requires { IsTrue (representable C.format) }
+{
+    if !is_lawful::<C>(alloc, trial) {
+        return false;
+    }
+    *source = opened::<C>(alloc, trial.source);
+    match &*source {
+        Some(stash) => calls_keep::<_, C>(alloc, stash.borrow(), trial),
+        None => true,
+    }
 }
 
 /// A run of one command does it, or tells that memory was refused; the stash is as it was then.

@@ -21,7 +21,7 @@ use test_support::keeps::{push_ref_keeps, sizes_keep};
 use test_support::stashes::{has, opened};
 use test_support::stores::front;
 use test_support::trials::{
-    Trial, both_pushes_keep, calls_keep, is_lawful, pushes_keep, run_keeps,
+    Trial, both_pushes_keep, copies_of_source_keep, is_lawful, pushes_keep, run_keeps,
 };
 use test_support::{equal, holds};
 
@@ -82,14 +82,7 @@ where
         + ExtendFrom<<C as Borrow<'a>>::Borrowed>,
     requires { IsTrue (representable C.format) }
 {
-    if !is_lawful::<C>(alloc, trial) || !both_sizes_keep::<C>(alloc) {
-        return false;
-    }
-    *source = opened::<C>(alloc, trial.source);
-    match &*source {
-        Some(stash) => calls_keep::<_, C>(alloc, stash.borrow(), trial),
-        None => true,
-    }
+    both_sizes_keep::<C>(alloc) && copies_of_source_keep(alloc, source, trial)
 }
 
 // The same, and pushes of an item by value and by reference

@@ -1,36 +1,26 @@
 // The same of rows that are kept as how far back the same value stands.
 
-use columnar_core::container::Borrow;
+use super::each_keeps;
 use columnar_lookback::lookbacks::Lookbacks;
 use columnar_strings::string::Strings;
-use columnar_sums::option::Options;
 use std::alloc::Global;
 use std::test::Fail;
 use test_support::holds;
-use test_support::stashes::opened;
-use test_support::trials::{
-    Trial, both_pushes_keep, calls_keep, copies_keep, is_lawful, pushes_keep,
-};
+use test_support::trials::{Trial, copies_of_source_keep, pushes_keep};
 
 type Far = Lookbacks<Vec<u64>, 255>;
 
 type Pairs = Lookbacks<(Vec<u64>, Vec<u64>), 255>;
 
-type Named = Lookbacks<Options<(Vec<u64>, Strings)>, 255>;
+type Texts = Lookbacks<Strings, 255>;
 
 // The rows 7, 7, 9
 static SEVENS_AND_NINE: [u64; 11] = [48, 48, 48, 64, 80, 81, 5, 3, 7, 9, 0];
 
-// The push of a number, and each call that copies or makes a column of numbers
+// The pushes of a number, and each call that copies or makes a column of numbers
 fn is_kept(alloc: Global, item: u64, trial: &Trial<'_>) -> bool {
-    if !is_lawful::<Far>(alloc, trial) {
-        return false;
-    }
-    let Some(source) = opened::<Far>(alloc, trial.source) else {
-        return true;
-    };
-    pushes_keep::<u64, Far>(alloc, &item, trial)
-        && calls_keep::<_, Far>(alloc, source.borrow(), trial)
+    copies_of_source_keep::<Far>(alloc, &mut None, trial)
+        && pushes_keep::<u64, Far>(alloc, &item, trial)
 }
 
 // Of the source two rows are the last value, and one is new
@@ -121,42 +111,40 @@ fn pairs_that_come_again(rt: HostRuntime) -> Result<(), Fail> {
         into: before.as_slice(),
         with_taken: after.as_slice(),
     };
-    holds!(rt; is_lawful::<Pairs>(alloc, &trial));
-    let Some(source) = opened::<Pairs>(alloc, trial.source) else {
-        return Ok(());
-    };
-    holds!(rt; both_pushes_keep::<(u64, u64), Pairs>(alloc, (3, 30), &trial));
-    holds!(rt; calls_keep::<_, Pairs>(alloc, source.borrow(), &trial));
+    holds!(rt; each_keeps::<(u64, u64), Pairs>(alloc, (3, 30), &mut None, &trial));
     Ok(())
 }
 
-// The rows (1, "ab"), none, (1, "ab") and none, and (2, "cd") behind them
+// The rows "ab", "ab" and "cd", and "ef" behind them
 #[test]
-fn numbers_with_texts_that_may_be_absent(rt: HostRuntime) -> Result<(), Fail> {
+fn texts_that_come_again(rt: HostRuntime) -> Result<(), Fail> {
     let alloc = rt.alloc();
-    let before = [
-        88, 88, 88, 104, 104, 104, 120, 128, 136, 138, 146, 3, 4, 1, 2, 1, 2, 25185, 1,
-    ];
+    let before = [56, 56, 56, 72, 88, 92, 97, 5, 3, 2, 4, 1684234849, 0];
     let after = [
-        88, 88, 88, 104, 104, 104, 120, 136, 152, 156, 162, 19, 5, 5, 3, 1, 2, 2, 4, 1684234849, 1,
-    ];
-    let source = [
-        88, 88, 88, 104, 104, 104, 120, 128, 136, 138, 144, 1, 1, 1, 1, 2, 2, 25699,
+        56,
+        56,
+        56,
+        72,
+        96,
+        102,
+        105,
+        13,
+        4,
+        2,
+        4,
+        6,
+        112585661964897,
+        0,
     ];
     let trial = Trial {
         before: before.as_slice(),
-        rows: 4,
+        rows: 3,
         after: after.as_slice(),
-        source: source.as_slice(),
+        source: [56, 56, 56, 72, 80, 82, 88, 1, 1, 2, 26213].as_slice(),
         taken: 1,
         into: before.as_slice(),
         with_taken: after.as_slice(),
     };
-    holds!(rt; is_lawful::<Named>(alloc, &trial));
-    let Some(source) = opened::<Named>(alloc, trial.source) else {
-        return Ok(());
-    };
-    holds!(rt; both_pushes_keep::<Option<(u64, &str)>, Named>(alloc, Some((2, "cd")), &trial));
-    holds!(rt; copies_keep::<_, Named>(alloc, source.borrow(), &trial));
+    holds!(rt; each_keeps::<&str, Texts>(alloc, "ef", &mut None, &trial));
     Ok(())
 }

@@ -1,8 +1,8 @@
 // The same for the columns of values.
-use super::{NUMBERS, NUMBERS_AND_ONE, copies_and_turns_keep, each_call_keeps};
+use super::{copies_and_turns_keep, each_call_keeps};
 use columnar::fault::GrowError;
 use columnar::primitive::offsets::{Fixeds, Strides};
-use columnar::primitive::{Bools, Chars, Durations, Empties, I128s, Isizes, U128s, Usizes};
+use columnar::primitive::{Bools, Chars, Durations, Empties, U128s};
 use columnar::sums::rank_select::RankSelect;
 use columnar::{Borrow, Check, Options, Storage};
 use std::alloc::Global;
@@ -11,15 +11,9 @@ use std::time::Duration;
 use test_support::trials::{Trial, pushes_keep};
 use test_support::{equal, holds};
 
-type Sizes = Usizes;
-
-type Differences = Isizes;
-
 type Characters = Chars;
 
 type Large = U128s;
-
-type LargeSigned = I128s;
 
 type Times = Durations;
 
@@ -49,9 +43,6 @@ static CHARACTERS_AND_ONE: [u64; 5] = [16, 36, 420906795105, 429496729699, 101];
 static LARGE: [u64; 10] = [16, 80, 1, 0, 2, 0, 3, 0, 4, 0];
 
 static LARGE_AND_ONE: [u64; 12] = [16, 96, 1, 0, 2, 0, 3, 0, 4, 0, 5, 0];
-
-// The numbers from 1 to 4, and -5
-static LARGE_AND_MINUS: [u64; 12] = [16, 96, 1, 0, 2, 0, 3, 0, 4, 0, 18446744073709551611, ONES];
 
 // Four durations, and one more, of 5 s and 50 ns
 static TIMES: [u64; 9] = [24, 56, 72, 1, 2, 3, 4, 85899345930, 171798691870];
@@ -108,38 +99,6 @@ static FEW_AND_ONE: [u64; 13] = [
 ];
 
 #[test]
-fn columns_of_sizes(rt: HostRuntime) -> Result<(), Fail> {
-    let alloc = rt.alloc();
-    let trial = Trial {
-        before: NUMBERS.as_slice(),
-        rows: 4,
-        after: NUMBERS_AND_ONE.as_slice(),
-        source: [16, 24, 5].as_slice(),
-        taken: 1,
-        into: NUMBERS.as_slice(),
-        with_taken: NUMBERS_AND_ONE.as_slice(),
-    };
-    holds!(rt; each_call_keeps::<usize, Sizes>(alloc, &5, &mut None, &trial));
-    Ok(())
-}
-
-#[test]
-fn columns_of_differences(rt: HostRuntime) -> Result<(), Fail> {
-    let alloc = rt.alloc();
-    let trial = Trial {
-        before: NUMBERS.as_slice(),
-        rows: 4,
-        after: NUMBERS_AND_ONE.as_slice(),
-        source: [16, 24, 5].as_slice(),
-        taken: 1,
-        into: NUMBERS.as_slice(),
-        with_taken: NUMBERS_AND_ONE.as_slice(),
-    };
-    holds!(rt; each_call_keeps::<isize, Differences>(alloc, &5, &mut None, &trial));
-    Ok(())
-}
-
-#[test]
 fn columns_of_characters(rt: HostRuntime) -> Result<(), Fail> {
     let alloc = rt.alloc();
     let trial = Trial {
@@ -168,22 +127,6 @@ fn columns_of_large_numbers(rt: HostRuntime) -> Result<(), Fail> {
         with_taken: LARGE_AND_ONE.as_slice(),
     };
     holds!(rt; each_call_keeps::<u128, Large>(alloc, &5, &mut None, &trial));
-    Ok(())
-}
-
-#[test]
-fn columns_of_large_signed_numbers(rt: HostRuntime) -> Result<(), Fail> {
-    let alloc = rt.alloc();
-    let trial = Trial {
-        before: LARGE.as_slice(),
-        rows: 4,
-        after: LARGE_AND_MINUS.as_slice(),
-        source: [16, 32, 18446744073709551611, ONES].as_slice(),
-        taken: 1,
-        into: LARGE.as_slice(),
-        with_taken: LARGE_AND_MINUS.as_slice(),
-    };
-    holds!(rt; each_call_keeps::<i128, LargeSigned>(alloc, &-5, &mut None, &trial));
     Ok(())
 }
 

@@ -151,12 +151,7 @@ impl<'a, R: Clock, O: Write> Times<'a, R, O> {
         'b,
         V: Len + Copy + Index<Ref: Amount> + AsBytes<'b>,
         C: Push<V::Ref> + ExtendFrom<V> + Drop,
-    >(
-        &mut self,
-        names: [&str; 5],
-        view: V,
-        room: usize,
-    ) -> Option<Vec<u8>>
+    >(&mut self, names: [&str; 5], view: V, room: usize) -> Option<Vec<u8>>
         requires sound { IsSound V.format (V.content view) }
         requires representable { IsTrue (representable V.format) }
     {

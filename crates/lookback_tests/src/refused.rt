@@ -3,48 +3,22 @@
 
 mod lookbacks;
 
-ghost use Rattle.std.specs.Prelude.{IsTrue};
-ghost use Rattle.columnar_core.specs.Format.{representable};
-
 use crate::rows::Held;
-use columnar_bytes::stash::Stash;
-use columnar_core::bytes::{AsBytes, FromBytes};
-use columnar_core::container::{Borrow, ContainerBytes, ExtendFrom, Storage};
-use columnar_core::traits::{Item, Push};
 use columnar_lookback::repeats::Repeats;
 use std::alloc::Global;
 use std::test::Fail;
 use test_support::holds;
-use test_support::trials::{Trial, both_pushes_keep, copies_of_source_keep};
+use test_support::trials::{Trial, both_pushes_keep, copies_and_turns_keep};
 
 type Pairs = Repeats<(Vec<u64>, Vec<u64>)>;
 
 // The rows 7, 7, 9
 static SEVENS_AND_NINE: [u64; 9] = [40, 40, 40, 56, 72, 5, 3, 7, 9];
 
-// A push, and each call that copies or makes a column: one call for a nest of columns
-fn each_keeps<'a, T: Item + Copy, C>(
-    alloc: Global,
-    item: T,
-    source: &'a mut Option<Stash<C, Vec<u8>>>,
-    trial: &Trial<'_>,
-) -> bool
-where
-    C: ContainerBytes
-        + Storage
-        + Clone
-        + Push<T>
-        + Borrow<'a, Borrowed: FromBytes<'a> + AsBytes<'a>>
-        + ExtendFrom<<C as Borrow<'a>>::Borrowed>,
-    requires representable { IsTrue (representable C.format) }
-    requires valid { T.valid item }
-{
-    copies_of_source_keep(alloc, source, trial) && both_pushes_keep::<T, C>(alloc, item, trial)
-}
-
-// The same of a column of numbers, with a push of a number that is lent
+// Both pushes of a number, by value and lent, and each call that copies or makes a column of numbers
 fn is_kept(alloc: Global, item: u64, trial: &Trial<'_>) -> bool {
-    each_keeps::<u64, Held>(alloc, item, &mut None, trial)
+    copies_and_turns_keep::<Held>(alloc, &mut None, trial)
+        && both_pushes_keep::<u64, Held>(alloc, item, trial)
         && both_pushes_keep::<&u64, Held>(alloc, &item, trial)
 }
 
@@ -112,6 +86,7 @@ fn runs_of_pairs(rt: HostRuntime) -> Result<(), Fail> {
         into: before.as_slice(),
         with_taken: after.as_slice(),
     };
-    holds!(rt; each_keeps::<(u64, u64), Pairs>(alloc, (3, 30), &mut None, &trial));
+    holds!(rt; copies_and_turns_keep::<Pairs>(alloc, &mut None, &trial));
+    holds!(rt; both_pushes_keep::<(u64, u64), Pairs>(alloc, (3, 30), &trial));
     Ok(())
 }

@@ -6,13 +6,13 @@ ghost use Rattle.columnar_bytes.specs.Machine.{IsValid};
 
 use crate::keeps::{
     aligning_keeps, clones_keep, copy_keeps, cut_keeps, encoding_keeps, loading_keeps, push_keeps,
-    push_ref_keeps, room_is_made_or_refused, room_keeps, turns_keep,
+    push_ref_keeps, room_is_made_or_refused, room_keeps, sizes_keep, turns_keep,
 };
 use crate::stashes::{opened, variant, writes};
 use crate::stores::bytes_of;
 use columnar_bytes::indexed::validate;
 use columnar_bytes::stash::{Command, Refusal, Reply, Stash, run};
-use columnar_core::bytes::{AsBytes, FromBytes};
+use columnar_core::bytes::{AsBytes, FromBytes, Stored};
 use columnar_core::container::{Borrow, ContainerBytes, ExtendFrom, Storage};
 use columnar_core::fault::{EncodeError, GrowError};
 use columnar_core::traits::{Item, Len, Push, PushRef};
@@ -171,8 +171,20 @@ pub fn calls_keep<
         && encoding_keeps(alloc, &source, trial.source)
 }
 
-/// The same of a column whose source is opened here and kept in `source`, where no store of the trial is refused.
-pub fn copies_of_source_keep<'a, C>(
+/// The sizes of a type's elements are appended to a vector without room, and to one with room for one of them.
+pub fn both_sizes_keep<C: Stored>(alloc: Global) -> bool
+    requires { IsTrue (representable C.format) }
+{
+    let mut sizes = Vec::new(alloc);
+    let Ok(mut room) = Vec::with_capacity(alloc, 1) else {
+        return true;
+    };
+    sizes_keep::<C>(&mut sizes) && sizes_keep::<C>(&mut room)
+}
+
+/// Each call that takes memory, but the pushes: copies are made out of a stash that is kept in `source`. No store of the
+/// trial is refused.
+pub fn copies_and_turns_keep<'a, C>(
     alloc: Global,
     source: &'a mut Option<Stash<C, Vec<u8>>>,
     trial: &Trial<'_>,
@@ -185,7 +197,7 @@ where
         + ExtendFrom<<C as Borrow<'a>>::Borrowed>,
     requires { IsTrue (representable C.format) }
 {
-    if !is_lawful::<C>(alloc, trial) {
+    if !is_lawful::<C>(alloc, trial) || !both_sizes_keep::<C>(alloc) {
         return false;
     }
     *source = opened::<C>(alloc, trial.source);

@@ -13,15 +13,15 @@ use columnar::common::View;
 use columnar::fault::GrowError;
 use columnar::{
     AsBytes, Borrow, Check, ContainerBytes, ExtendFrom, FromBytes, Item, Len, Push, PushRef, Slice,
-    Storage, Stored, Vecs,
+    Storage, Vecs,
 };
 use std::alloc::Global;
 use std::test::Fail;
-use test_support::keeps::{push_ref_keeps, sizes_keep};
+use test_support::keeps::push_ref_keeps;
 use test_support::stashes::{has, opened};
 use test_support::stores::front;
 use test_support::trials::{
-    Trial, both_pushes_keep, copies_of_source_keep, is_lawful, pushes_keep, run_keeps,
+    Trial, both_pushes_keep, copies_and_turns_keep, is_lawful, pushes_keep, run_keeps,
 };
 use test_support::{equal, holds};
 
@@ -56,36 +56,7 @@ static FIRSTS: [u64; 2] = [5, 6];
 
 static SECONDS: [u64; 2] = [50, 60];
 
-// The sizes of a type's elements are appended to a vector without room, and to one with room for one of them.
-fn both_sizes_keep<C: Stored>(alloc: Global) -> bool
-    requires { IsTrue (representable C.format) }
-{
-    let mut sizes = Vec::new(alloc);
-    let Ok(mut room) = Vec::with_capacity(alloc, 1) else {
-        return true;
-    };
-    sizes_keep::<C>(&mut sizes) && sizes_keep::<C>(&mut room)
-}
-
-// Each call that takes memory, but the pushes: copies are made out of a stash that is kept in `source`. No store of the trial
-// is refused.
-fn copies_and_turns_keep<'a, C>(
-    alloc: Global,
-    source: &'a mut Option<Stash<C, Vec<u8>>>,
-    trial: &Trial<'_>,
-) -> bool
-where
-    C: ContainerBytes
-        + Storage
-        + Clone
-        + Borrow<'a, Borrowed: FromBytes<'a> + AsBytes<'a>>
-        + ExtendFrom<<C as Borrow<'a>>::Borrowed>,
-    requires { IsTrue (representable C.format) }
-{
-    both_sizes_keep::<C>(alloc) && copies_of_source_keep(alloc, source, trial)
-}
-
-// The same, and pushes of an item by value and by reference
+// Each call that takes memory, but the pushes, and pushes of an item by value and by reference
 fn each_call_keeps<'a, T: Item + Copy, C>(
     alloc: Global,
     item: &'a T,

@@ -1,12 +1,11 @@
 // The same of rows that are kept as how far back the same value stands.
 
-use super::each_keeps;
 use columnar_lookback::lookbacks::Lookbacks;
 use columnar_strings::string::Strings;
 use std::alloc::Global;
 use std::test::Fail;
 use test_support::holds;
-use test_support::trials::{Trial, copies_of_source_keep, pushes_keep};
+use test_support::trials::{Trial, both_pushes_keep, copies_and_turns_keep, pushes_keep};
 
 type Far = Lookbacks<Vec<u64>, 255>;
 
@@ -19,7 +18,7 @@ static SEVENS_AND_NINE: [u64; 11] = [48, 48, 48, 64, 80, 81, 5, 3, 7, 9, 0];
 
 // The pushes of a number, and each call that copies or makes a column of numbers
 fn is_kept(alloc: Global, item: u64, trial: &Trial<'_>) -> bool {
-    copies_of_source_keep::<Far>(alloc, &mut None, trial)
+    copies_and_turns_keep::<Far>(alloc, &mut None, trial)
         && pushes_keep::<u64, Far>(alloc, &item, trial)
 }
 
@@ -111,7 +110,8 @@ fn pairs_that_come_again(rt: HostRuntime) -> Result<(), Fail> {
         into: before.as_slice(),
         with_taken: after.as_slice(),
     };
-    holds!(rt; each_keeps::<(u64, u64), Pairs>(alloc, (3, 30), &mut None, &trial));
+    holds!(rt; copies_and_turns_keep::<Pairs>(alloc, &mut None, &trial));
+    holds!(rt; both_pushes_keep::<(u64, u64), Pairs>(alloc, (3, 30), &trial));
     Ok(())
 }
 
@@ -145,6 +145,7 @@ fn texts_that_come_again(rt: HostRuntime) -> Result<(), Fail> {
         into: before.as_slice(),
         with_taken: after.as_slice(),
     };
-    holds!(rt; each_keeps::<&str, Texts>(alloc, "ef", &mut None, &trial));
+    holds!(rt; copies_and_turns_keep::<Texts>(alloc, &mut None, &trial));
+    holds!(rt; both_pushes_keep::<&str, Texts>(alloc, "ef", &trial));
     Ok(())
 }

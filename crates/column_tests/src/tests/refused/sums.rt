@@ -3,14 +3,14 @@ ghost use Rattle.std.specs.Prelude.{◌≡◌, ◌++◌, [], ◌∷◌, IsTrue};
 ghost use Rattle.columnar.specs.Discriminants.{discriminant_format, owned_forms, variants_of, times};
 ghost use Rattle.columnar.specs.Format.{IsSound};
 
-use super::{both_sizes_keep, each_call_keeps};
+use super::each_call_keeps;
 use columnar::fault::GrowError;
 use columnar::primitive::Empties;
 use columnar::{Discriminant, Len, Results, Storage};
 use std::test::Fail;
 use test_support::keeps::encoding_keeps;
 use test_support::stashes::opened;
-use test_support::trials::{Trial, is_lawful, turns_and_clones_keep};
+use test_support::trials::{Trial, both_sizes_keep, is_lawful, turns_and_clones_keep};
 use test_support::{equal, holds};
 
 type Oks = Results<Vec<u64>, Empties>;

@@ -1,5 +1,5 @@
 // The same for the columns of values.
-use super::{copies_and_turns_keep, each_call_keeps};
+use super::each_call_keeps;
 use columnar::fault::GrowError;
 use columnar::primitive::offsets::{Fixeds, Strides};
 use columnar::primitive::{Bools, Chars, Durations, Empties, U128s};
@@ -8,7 +8,7 @@ use columnar::{Borrow, Check, Options, Storage};
 use std::alloc::Global;
 use std::test::Fail;
 use std::time::Duration;
-use test_support::trials::{Trial, pushes_keep};
+use test_support::trials::{Trial, copies_and_turns_keep, pushes_keep};
 use test_support::{equal, holds};
 
 type Characters = Chars;

@@ -64,12 +64,12 @@ fn each_call_keeps<'a, T: Item + Copy, C>(
     trial: &Trial<'_>,
 ) -> bool
 where
-    C: ContainerBytes
-        + Storage
-        + Clone
-        + Push<T>
+    C: Push<T>
         + Push<&'a T>
         + PushRef<T>
+        + ContainerBytes
+        + Storage
+        + Clone
         + Borrow<'a, Borrowed: FromBytes<'a> + AsBytes<'a>>
         + ExtendFrom<<C as Borrow<'a>>::Borrowed>,
     requires representable { IsTrue (representable C.format) }

@@ -17,7 +17,7 @@ use columnar::{
 };
 use std::alloc::Global;
 use std::test::Fail;
-use test_support::keeps::push_ref_keeps;
+use test_support::keeps::{push_ref_keeps, sizes_keep};
 use test_support::stashes::{has, opened};
 use test_support::stores::front;
 use test_support::trials::{

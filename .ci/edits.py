@@ -6,8 +6,9 @@ a line 'of: PATH', the function that must be refused, by its path below the crat
 one check, of their functions and those of the crate that these call: no two of a group are of one function, and a function
 is proved from the contracts of what it calls alone, so what one edit breaks is not blamed on another, and a hole stands
 for each proof file of a function that no edit of the group is of: the gate proves those. An edit passes where a goal of
-its own function is not proved, and each that it names in a line 'goal: NAME', where one body breaks several promises. One that is refused for a name that it took away, or for no goal,
-fails. An edit of a definition in specs/ is tried alone, and passes where a lemma is not proved, too.
+its own function is not proved, and each that it names in a line 'goal: NAME', where one body breaks several promises. One
+that is refused for a name that it took away, or for no goal, fails. An edit of a definition in specs/ is tried alone, and
+passes where a lemma is not proved, too.
 
 usage: .ci/edits.py [--jobs N] [CRATE ..]      after the crates' libraries were built, as by rt ci or rt all check
        .ci/edits.py --behind LOG               beside the rt ci that writes LOG: the edits of a crate begin once the
@@ -43,7 +44,8 @@ def crates():
 
 
 class Edit:
-    """What an edit file says: which texts of which files stand for which others, and which function must be refused."""
+    """What an edit file says: which texts of which files stand for which others, which function must be refused, and for
+    which goals, if it names any."""
 
     def __init__(self, path):
         self.name = os.path.basename(path)
@@ -232,6 +234,7 @@ MOST = 80
 
 
 def can_join(edit, group, folder):
+    """Is an edit of code of another function and other texts than those of a group?"""
     return all(it.is_of_code() and it.of != edit.of for it in group["edits"]) and edit.made(dict(group["texts"]), folder) is None
 
 

@@ -4,13 +4,14 @@ ghost use Rattle.columnar_core.specs.Format.{IsSound};
 
 use crate::rows::RUNS;
 use crate::runs::Runs;
-use columnar_core::container::Storage;
+use columnar_core::container::{Borrow, Storage};
 use columnar_core::traits::{Len, Push};
 use columnar_lookback::repeats::Repeats;
 use columnar_strings::string::Strings;
 use columnar_sums::option::Options;
 use std::alloc::Global;
 use std::test::Fail;
+use test_support::columns::row_at;
 use test_support::{equal, holds};
 
 type Named = Repeats<Options<(Vec<u64>, Strings)>>;
@@ -126,5 +127,15 @@ fn two_thousand_numbers_with_names_that_may_be_absent(rt: HostRuntime) -> Result
     equal!(rt; names.somes.0.as_slice().len(), 333);
     equal!(rt; names.somes.1.bounds.as_slice().len(), 333);
     equal!(rt; names.somes.1.values.as_slice().len(), 1165);
+    let view = column.borrow();
+    for (index, wanted) in [
+        (3, Some(None)),
+        (4, Some(Some((1, b"odd".as_slice())))),
+        (11, Some(Some((2, b"even".as_slice())))),
+        (1999, Some(Some((499, b"odd".as_slice())))),
+        (2000, None),
+    ] {
+        equal!(rt; row_at(&view, index), wanted);
+    }
     Ok(())
 }

@@ -357,6 +357,13 @@ def processors():
     return (user + nice + system + sum(handled)) / each, (idle + waits) / each, stolen / each
 
 
+def has_room():
+    """Is there memory for one more process of a check, and for what rt ci's checks still take?"""
+    with open("/proc/meminfo", encoding="utf-8") as it:
+        sizes = dict(line.split()[:2] for line in it)
+    return int(sizes["MemAvailable:"]) > 8 << 20
+
+
 class Times:
     """When what ran, in seconds after the start: of rt ci's checks as far as the processes tell."""
 
@@ -454,7 +461,8 @@ def main(words):
         return cores if not log or log.has_ended else max(cores // 2, cores - times.busy())
 
     def begin(name, libraries, kept):
-        crate = Crate(name, own[name], libraries, kept, lambda: max(1, free() // lanes.wanted()))
+        # (two where memory allows, so that a check which goes on when rt ci has ended uses what is free then)
+        crate = Crate(name, own[name], libraries, kept, lambda: max(1 + has_room(), free() // lanes.wanted()))
         if not log and os.path.isdir(f"{crate.folder}/out/incremental"):
             shutil.copytree(f"{crate.folder}/out/incremental", kept)
         tries[name] = its = Tries(crate)
@@ -479,7 +487,7 @@ def main(words):
                         copied.add(name)
             well = [name for name in left if not log or all(it in copied for it in deep(name, own))]
             for name in well:
-                lanes.add(MOST + 1, name, functools.partial(begin, name, libraries, f"{room}/{name}"))
+                lanes.add(len(edits_of(name)), name, functools.partial(begin, name, libraries, f"{room}/{name}"))
             left = [name for name in left if name not in well]
             if log and log.has_ended:
                 for name in left:

@@ -1,10 +1,11 @@
 // Rows that may be absent: worked stores, columns at depth, and a run of commands.
-use columnar::bytes::stash::{Command, Refusal, Reply, Stash, run};
+use columnar::bytes::stash::{Command, Stash};
 use columnar::fault::StoreFault;
 use columnar::{Borrow, Len, Options, Push, Storage, Vecs};
 use std::alloc::Global;
 use std::test::Fail;
 use test_support::columns::{item_of, takes_rows};
+use test_support::runs::{DONE, RANGE, ran};
 use test_support::stashes::{has, reopened, row_of, variant, writes};
 use test_support::stores::bytes_of;
 use test_support::{equal, holds};
@@ -14,10 +15,6 @@ type Numbers = Options<Vec<u64>>;
 type Pairs = Options<(Vec<u64>, Vec<u64>)>;
 
 type Nested = Options<Numbers>;
-
-const DONE: Reply = Reply::Done;
-
-const RANGE: Reply = Reply::Refused(Refusal::Range);
 
 #[test]
 fn some_and_none_are_written_and_opened(rt: HostRuntime) -> Result<(), Fail> {
@@ -110,17 +107,17 @@ fn a_run_over_options(rt: HostRuntime) -> Result<(), Fail> {
         Command::Truncate(3),
         Command::Reopen,
     ];
-    let (stash, replies) = run(
+    let (replies, variant, written) = ran::<_, _, Numbers>(
         rt.alloc(),
-        Stash::<Numbers, Vec<u8>>::empty(rt.alloc()),
         source.borrow(),
         commands.as_slice(),
-    );
+        [40, 40, 40, 56, 72, 5, 3, 1, 5].as_slice(),
+    )?;
     equal!(rt;
-        replies?.as_slice(),
+        replies.as_slice(),
         [DONE, DONE, DONE, RANGE, DONE, DONE, DONE].as_slice()
     );
-    equal!(rt; variant(&stash), 1);
-    holds!(rt; writes(&stash, [40, 40, 40, 56, 72, 5, 3, 1, 5].as_slice()));
+    equal!(rt; variant, 1);
+    holds!(rt; written);
     Ok(())
 }

@@ -4,7 +4,7 @@ ghost use Rattle.columnar_base.specs.Format.{IsSound, representable};
 ghost use Rattle.columnar_bytes.specs.Machine.{IsValid};
 
 use super::texts::Texts;
-use columnar_bytes::stash::{Command, Reply, Stash, run};
+use columnar_bytes::stash::{Command, Stash};
 use columnar_core::byte_slice::ByteSlice;
 use columnar_core::container::{Borrow, ContainerBytes, ExtendFrom, Storage};
 use columnar_core::traits::{Item, Len, PushRef};
@@ -14,30 +14,8 @@ use std::alloc::Global;
 use std::io::Error;
 use std::iter::once;
 use std::test::Fail;
+use test_support::runs::all_done;
 use test_support::{equal, holds};
-
-// Are all commands done, from no rows on, and is then written what the words are?
-fn runs<T: Item, V: Len + Copy, C: ContainerBytes + PushRef<T> + ExtendFrom<V>>(
-    alloc: Global,
-    source: V,
-    commands: &[Command<T>],
-    words: &[u64],
-) -> Result<bool, Error>
-    requires representable { IsTrue (representable C.format) }
-    requires source_sound { IsSound V.format (V.content source) }
-    requires valid { All (IsValid T.valid) commands.now }
-{
-    let (stash, replies) = run(alloc, Stash::<C, Vec<u8>>::empty(alloc), source, commands);
-    let Ok(replies) = replies else {
-        return Ok(false);
-    };
-    let mut wanted = Vec::new(alloc);
-    ByteSlice::of_words(words).write(&mut wanted)?;
-    let mut written = Vec::new(alloc);
-    let done = stash.write_bytes(&mut written).is_ok()
-        && replies.iter().all(|reply| *reply == Reply::Done);
-    Ok(done && written.as_slice() == wanted.as_slice())
-}
 
 // A list of two texts.
 fn pair(alloc: Global, first: &str, second: &str) -> Result<Vec<String>, Error> {
@@ -58,7 +36,7 @@ fn a_run_over_lists_of_strings(rt: HostRuntime) -> Result<(), Fail> {
     commands.push(Command::MakeAligned)?;
     let source = Vecs::<Texts>::empty(rt.alloc());
     let words = [32, 48, 80, 85, 2, 4, 2, 3, 3, 5, 435475931745];
-    let done = runs::<_, _, Vecs<Texts>>(
+    let done = all_done::<_, _, Vecs<Texts>>(
         rt.alloc(),
         source.borrow(),
         commands.as_slice(),
@@ -79,7 +57,7 @@ fn a_run_over_options_of_strings(rt: HostRuntime) -> Result<(), Fail> {
     let source = Options::<Texts>::empty(rt.alloc());
     let words = [48, 48, 48, 64, 72, 74, 1, 2, 2, 25185];
     holds!(rt;
-        runs::<_, _, Options<Texts>>(
+        all_done::<_, _, Options<Texts>>(
             rt.alloc(),
             source.borrow(),
             commands.as_slice(),
@@ -108,7 +86,7 @@ fn a_run_over_records(rt: HostRuntime) -> Result<(), Fail> {
         64, 80, 96, 99, 104, 104, 120, 124, 5, 6, 2, 3, 6513249, 1, 2, 7,
     ];
     holds!(rt;
-        runs::<_, _, Records>(
+        all_done::<_, _, Records>(
             rt.alloc(),
             source.borrow(),
             commands.as_slice(),

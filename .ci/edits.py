@@ -462,7 +462,7 @@ def main(words):
 
     def begin(name, libraries, kept):
         # (two where memory allows, so that a check which goes on when rt ci has ended uses what is free then)
-        crate = Crate(name, own[name], libraries, kept, lambda: max(1 + has_room(), free() // lanes.wanted()))
+        crate = Crate(name, own[name], libraries, kept, lambda: max(2 if has_room() else 1, free() // lanes.wanted()))
         if not log and os.path.isdir(f"{crate.folder}/out/incremental"):
             shutil.copytree(f"{crate.folder}/out/incremental", kept)
         tries[name] = its = Tries(crate)

@@ -1,0 +1,149 @@
+"""What a file rests on: the definitions and lemmas that it imports, directly or not, and the other source files without
+the bodies of their functions. Comments don't count."""
+import functools
+import os
+import re
+
+from repository import ROOT, crates
+
+
+@functools.cache
+def read(path):
+    """The text of a file below the repository, without lines of comment."""
+    mark = "//" if path.endswith(".rt") else "--"
+    with open(f"{ROOT}/{path}", encoding="utf-8") as it:
+        return "".join(line for line in it if not line.lstrip().startswith(mark))
+
+
+def without_bodies(text):
+    """Source text without the bodies of functions, as `rt fmt` lays them out."""
+    kept, at = [], 0
+    for head in re.finditer(r"(?m)^( *)(?:pub(?:\([a-z]+\))? )?(?:final )?(?:const )?(?:unsafe )?fn \w", text):
+        if head.start() < at:
+            continue
+        begins = re.compile(r"(?m)\{$").search(text, head.end())
+        other = re.compile(r"(?m)(?:;|\{\})$").search(text, head.end())
+        if begins and not (other and other.start() < begins.start()):
+            end = re.compile(rf"(?m)^{head[1]}\}}").search(text, begins.end())
+            kept.append(text[at : begins.end()])
+            at = end.start() if end else len(text)
+    return "".join([*kept, text[at:]])
+
+
+@functools.cache
+def signature(path):
+    """What other files learn of a file."""
+    return without_bodies(read(path)) if path.endswith(".rt") else read(path)
+
+
+def split_names(text):
+    """The parts of a list of names that commas divide, with the lists in braces whole."""
+    parts, depth = [""], 0
+    for it in text:
+        depth += (it == "{") - (it == "}")
+        if it == "," and depth == 0:
+            parts.append("")
+        else:
+            parts[-1] += it
+    return [part.strip() for part in parts if part.strip()]
+
+
+def spread(text):
+    """The paths that a `use` brings, each with the name that it has then."""
+    head, brace, rest = text.partition("{")
+    if brace:
+        return [(head + path if path != "self" else head.removesuffix("::"), name) for it in split_names(rest.strip()[:-1]) for path, name in spread(it)]
+    path, _, name = text.partition(" as ")
+    return [(path.strip(), name.strip() or path.strip().split("::")[-1])]
+
+
+@functools.cache
+def uses(path):
+    """The `use`s of a source file that are no ghost ones: whether it passes them on, the path, and the name."""
+    found = []
+    for at in re.finditer(r"(?m)^ *(pub(?:\([a-z]+\))? )?use ([^;]*);", read(path)):
+        for it, name in spread(" ".join(at[2].split())):
+            found.append((bool(at[1]), it, name))
+    return found
+
+
+def module(path):
+    """The crate of a source file, and the names of its module from the crate's root on."""
+    _, crate, _, *names = path.removesuffix(".rt").split("/")
+    return crate, [] if names in (["lib"], ["main"]) else names
+
+
+def root(crate):
+    main = f"crates/{crate}/src/main.rt"
+    return main if os.path.isfile(f"{ROOT}/{main}") else f"crates/{crate}/src/lib.rt"
+
+
+def item(crate, names, seen=()):
+    """The source files that a path from a crate's root leads to: where its item stands, or is passed on from."""
+    file, folder = root(crate), f"crates/{crate}/src"
+    for at, name in enumerate(names):
+        child = f"{folder}/{name}.rt"
+        if os.path.isfile(f"{ROOT}/{child}"):
+            file, folder = child, f"{folder}/{name}"
+            continue
+        for is_passed, path, other in uses(file):
+            if is_passed and other == name and (file, path) not in seen:
+                found = named(file, path, names[at + 1 :], (*seen, (file, path)))
+                if found:
+                    return found
+        break
+    return [file]
+
+
+def named(file, path, more=(), seen=()):
+    """The source files that a path in a file, and more names after it, lead to."""
+    crate, here = module(file)
+    first, *names = [*path.split("::"), *more]
+    if first == "crate":
+        return item(crate, names, seen)
+    if first == "self":
+        return item(crate, [*here, *names], seen)
+    if first == "super":
+        while first == "super":
+            here, (first, *names) = here[:-1], names or [""]
+        return item(crate, [*here, first, *names] if first else here, seen)
+    if first in crates():
+        return item(first, names, seen)
+    if os.path.isfile(f"{ROOT}/{'/'.join(['crates', crate, 'src', *here, first])}.rt"):
+        return item(crate, [*here, first, *names], seen)
+    return []
+
+
+@functools.cache
+def imports(path):
+    """The files that a file imports, and those in the folder of each module, in which its impls go on."""
+    found = []
+    for crate, names in re.findall(r"(?m)^ *(?:pub )?(?:ghost )?use Rattle\.(\w+)\.((?:specs|proofs)[\w.]*?)\.?(?:\{|;|$)", read(path)):
+        at = f"crates/{crate}/{names.replace('.', '/')}.antt"
+        if os.path.isfile(f"{ROOT}/{at}"):
+            found.append(at)
+    if path.endswith(".rt"):
+        for _, it, _ in uses(path):
+            for file in named(path, it):
+                found += [file, *in_folder(file)]
+    return sorted(set(found) - {path})
+
+
+@functools.cache
+def in_folder(file):
+    """The source files in the folder of a module that is no root."""
+    folder = file.removesuffix(".rt")
+    paths = (f"{at}/{it}" for at, _, files in os.walk(f"{ROOT}/{folder}") for it in files if it.endswith(".rt"))
+    return sorted(os.path.relpath(path, ROOT) for path in paths) if module(file)[1] else []
+
+
+@functools.cache
+def reached_from(files):
+    """All files that these import, directly or not."""
+    found, left = set(), list(files)
+    while left:
+        for it in imports(left.pop()):
+            if it not in found:
+                found.add(it)
+                left.append(it)
+    return sorted(found)

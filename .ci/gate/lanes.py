@@ -1,0 +1,121 @@
+"""What runs when: beside rt ci, of which the log tells how far it is, or alone."""
+import os
+import re
+import threading
+import time
+import traceback
+
+from repository import ROOT, crates
+from tries import say
+
+
+class Log:
+    """What rt ci has written so far: which crates are proved and which are not."""
+
+    def __init__(self, path):
+        self.lines = open(path, encoding="utf-8", errors="replace")
+        self.rest = ""
+        self.proved, self.has_ended = {}, False
+
+    def read(self):
+        *lines, self.rest = (self.rest + self.lines.read()).split("\n")
+        for line in lines:
+            # (is kept: an earlier run on this machine proved the same text)
+            crate = re.fullmatch(r"rt: (\w+) (NOT PROVED|proved|is kept)(:.*)?", line)
+            if crate:
+                self.proved[crate[1]] = crate[2] != "NOT PROVED"
+            self.has_ended = self.has_ended or line == "ended"
+
+
+def processors():
+    """The seconds that the processors were used, idle and taken by the machine's host since the machine began."""
+    with open("/proc/stat", encoding="utf-8") as it:
+        user, nice, system, idle, waits, *handled, stolen = map(int, it.readline().split()[1:9])
+    each = os.sysconf("SC_CLK_TCK")
+    return (user + nice + system + sum(handled)) / each, (idle + waits) / each, stolen / each
+
+
+def has_room():
+    """Is there memory for one more process of a check, and for what rt ci's checks still take?"""
+    with open("/proc/meminfo", encoding="utf-8") as it:
+        sizes = dict(line.split()[:2] for line in it)
+    return int(sizes["MemAvailable:"]) > 8 << 20
+
+
+class Times:
+    """When what ran, in seconds after the start: of rt ci's checks as far as the processes tell."""
+
+    def __init__(self):
+        self.started, self.processors = time.time(), processors()
+        self.seen = {}
+        # how many processes of checks ran, when they were looked at last
+        self.checks = []
+
+    def note(self, name, what):
+        now = time.time() - self.started
+        self.seen[name, what] = self.seen.get((name, what), (now, now))[0], now
+
+    def look(self):
+        checks = 0
+        for pid in filter(str.isdigit, os.listdir("/proc")):
+            try:
+                with open(f"/proc/{pid}/cmdline", encoding="utf-8", errors="replace") as it:
+                    words = it.read().split("\0")
+                if os.path.basename(words[0]) == "rattle" and words[1] in ("check", "build") and "--crate-name" in words:
+                    name = words[words.index("--crate-name") + 1]
+                    if os.readlink(f"/proc/{pid}/cwd") == f"{ROOT}/crates/{name}":
+                        self.note(name, "tests" if "--test" in words else "proofs")
+                        with open(f"/proc/{pid}/stat", encoding="utf-8") as it:
+                            checks += it.read().rpartition(")")[2].split()[0] == "R"
+            except OSError:
+                pass
+        self.checks = [*self.checks[-20:], checks]
+
+    def busy(self):
+        """How many processors the checks have used of late."""
+        return max(self.checks, default=0)
+
+    def tell(self):
+        for name in crates():
+            spans = [(what, *self.seen[name, what]) for what in ("proofs", "tests", "edits") if (name, what) in self.seen]
+            if spans:
+                say(f"seconds of {name}: " + ", ".join(f"{what} {at:.0f} to {end:.0f}" for what, at, end in spans))
+        used, idle, stolen = (now - then for now, then in zip(processors(), self.processors))
+        say(f"seconds of all processors: {used:.0f} used, {idle:.0f} idle, {stolen:.0f} taken by the host")
+
+
+class Lanes:
+    """What may be done now, each with its size and its crate, and what is being done."""
+
+    def __init__(self, times):
+        self.times, self.ready, self.running = times, [], []
+
+    def add(self, size, name, call):
+        self.ready.append((size, name, call))
+
+    def wanted(self):
+        """How many lanes there is work for."""
+        return max(1, len(self.ready) + len(self.running))
+
+    def are_used(self):
+        self.running = [it for it in self.running if it[1].is_alive()]
+        return bool(self.ready or self.running)
+
+    def fill(self, lanes):
+        """Begins what fits: of a crate that none is of, since a check begins with what those before it proved, and of such
+        the largest first, so that all end together."""
+        while self.are_used() and self.ready and len(self.running) < lanes:
+            busy = {name for name, _ in self.running}
+            first = max(self.ready, key=lambda it: (it[1] not in busy, it[0]))
+            self.ready.remove(first)
+            thread = threading.Thread(target=self.work, args=first[1:], daemon=True)
+            thread.start()
+            self.running.append((first[1], thread))
+
+    def work(self, name, call):
+        self.times.note(name, "edits")
+        try:
+            call()
+        except Exception:
+            say(f"edits of {name}: not tried\n{traceback.format_exc()}")
+        self.times.note(name, "edits")

@@ -1,0 +1,106 @@
+"""Calls of the prover on edited copies of a crate, and what is kept from one to the next."""
+import contextlib
+import os
+import re
+import shutil
+import subprocess
+import tempfile
+
+from repository import ROOT, below, crates, kit
+
+PROOFS = {"Answers.antt", "Invariants.antt", "Proof.antt"}
+
+
+def guard():
+    """The number of a group of processes that ends when this run ends, however it ends: the shell in it reads until the
+    last end of the pipe that this run holds is closed."""
+    ends, _ = os.pipe()
+    how = {"stdin": ends, "stdout": subprocess.DEVNULL, "stderr": subprocess.DEVNULL}
+    return subprocess.Popen(["sh", "-c", "read _; kill -9 0"], preexec_fn=os.setpgrp, **how).pid
+
+
+class Crate:
+    """A crate, where the libraries below it stand, where what checks of it proved is kept, and how many jobs one may use."""
+
+    guard = None
+
+    def __init__(self, name, libraries, kept, jobs):
+        self.name, self.libraries, self.kept, self.jobs = name, libraries, kept, jobs
+        self.folder = f"{ROOT}/crates/{name}"
+        Crate.guard = Crate.guard or guard()
+
+    def words(self):
+        """The call of a check, but for what it is asked to prove."""
+        own, needs = crates(), crates()[self.name]
+        words = [f"{kit()}/bin/rattle", "check", "--crate-name", self.name]
+        words += ["src/main.rt" if os.path.isfile(f"{self.folder}/src/main.rt") else "src/lib.rt"]
+        for it in ["std", *[it for it in needs if it not in own]]:
+            words += ["--extern", f"{it}={kit()}/rlibs/{it}.rlib"]
+        words += ["-L", f"dependency={kit()}/rlibs"]
+        for it in needs:
+            if it in own:
+                words += ["--extern", f"{it}={self.libraries(it)}/{it}.rlib"]
+        for it in below(self.name):
+            words += ["-L", f"dependency={self.libraries(it)}"]
+        words += ["--antt-project", f"{kit()}/rattle/logic/antt-project.json", "--logic-built", f"{kit()}/logic_built"]
+        return [*words, "--links", f"{self.name}=", "--jobs", str(self.jobs())]
+
+    def copied(self, room, texts):
+        """Copies the crate's text to a folder, with these texts in place of its own."""
+        for part in ("src", "specs", "proofs"):
+            if os.path.isdir(f"{self.folder}/{part}"):
+                shutil.copytree(f"{self.folder}/{part}", f"{room}/{part}")
+        for file, text in texts.items():
+            with open(f"{room}/{file}", "w", encoding="utf-8") as it:
+                it.write(text)
+
+    def check(self, texts, edits=(), keeps=False, by_contract=False):
+        """What the prover says of a copy of the crate with these texts in place of its own: of the functions of these edits,
+        or of all; and whether others are taken by their contracts. It begins with what the checks before it proved. No
+        other may run beside one that keeps."""
+        words = self.words()
+        words += [word for edit in edits for word in ("--only", f"{self.name}::{edit.of}")]
+        words += ["--allow-holes"] if by_contract else []
+        with tempfile.TemporaryDirectory(prefix="edits-") as room:
+            self.copied(room, texts)
+            if by_contract:
+                leave_holes(self.name, f"{room}/proofs", edits)
+            if not keeps and os.path.isdir(self.kept):
+                shutil.copytree(self.kept, f"{room}/kept", copy_function=linked)
+            words += ["--incremental", self.kept if keeps else f"{room}/kept"]
+            how = {"stdin": subprocess.DEVNULL, "stdout": subprocess.PIPE, "stderr": subprocess.STDOUT}
+            how["preexec_fn"] = lambda: os.setpgid(0, Crate.guard)
+            ran = subprocess.run(words, cwd=room, errors="replace", text=True, **how)
+            if not keeps:
+                keep(f"{room}/kept", self.kept)
+        # (a message that is long goes on in lines that are set in)
+        return ran.returncode, re.sub(r"(\.antt:\d+:\d+: error: [^\n]*)\n  (?=\S)", r"\1 ", ran.stdout)
+
+
+def leave_holes(name, proofs, edits):
+    """Leaves a hole for each proof file of a function that none of the edits is of, alone or in a cycle of calls."""
+    own = {f"{proofs}/{edit.of.replace('::', '/')}" for edit in edits}
+    for folder, _, files in os.walk(proofs):
+        path = os.path.relpath(folder, proofs).split("/")
+        if PROOFS & set(files) and folder not in own and not any(it.startswith("+") for it in path):
+            for it in PROOFS & set(files):
+                os.remove(f"{folder}/{it}")
+            with open(f"{folder}/Proof.antt", "w", encoding="utf-8") as it:
+                it.write(f"use Rattle.{name}.proofs.{'.'.join(path)}.Statement.{{statement}}\n\n")
+                it.write(f"pub {path[-1]}_spec : {{M : Type 1}} → statement M\n{path[-1]}_spec = ?\n")
+
+
+def linked(one, other):
+    """Copies a file, one of what was proved by a link: a check replaces such a file, and changes none."""
+    return os.link(one, other) if one.endswith(".oantt") else shutil.copy2(one, other)
+
+
+def keep(made, kept):
+    """Keeps what a check proved and no earlier one did. Each file is judged for itself by the check that would use it."""
+    for folder, _, files in os.walk(made):
+        to = f"{kept}/{os.path.relpath(folder, made)}"
+        for it in files:
+            if it.endswith(".oantt") and not os.path.exists(f"{to}/{it}"):
+                os.makedirs(to, exist_ok=True)
+                with contextlib.suppress(FileExistsError):
+                    os.link(f"{folder}/{it}", f"{to}/{it}")

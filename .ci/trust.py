@@ -108,13 +108,31 @@ def resolved(crate, module, name):
     return (crate, module, item) if item and its.items[item][0] else None
 
 
-def named_by_contracts(is_clause=lambda line: True):
-    """The definitions that the sources' ghost imports bring, where such a line uses them."""
+FUNCTION = re.compile(r" *(pub(?:\([a-z]+\))? )?(?:final )?(?:const )?(?:unsafe )?fn \w")
+
+
+def public_clauses(text):
+    """The clauses of what other crates can call, and the ghost members of impls and traits."""
+    found, in_trait, is_public = [], False, False
+    for line in text.split("\n"):
+        if re.match(r"(pub )?(trait|impl)\b", line):
+            in_trait = line.startswith("pub trait") or " for " in line or not line.endswith("{")
+        head = FUNCTION.match(line)
+        if head:
+            is_public = head[1] == "pub " or (in_trait and line.startswith(" ") and not head[1])
+        clause = re.match(r" *(requires|ensures|ghost)\b", line)
+        if clause and (is_public or clause[1] == "ghost"):
+            found.append(line)
+    return "\n".join(found)
+
+
+def named_by_contracts(clauses):
+    """The definitions that the sources' ghost imports bring, where the clauses of a source use them."""
     found = set()
     for crate in libraries():
         for path in glob.glob(f"{ROOT}/crates/{crate}/src/**/*.rt", recursive=True):
             text = read(os.path.relpath(path, ROOT))
-            words = set(re.findall(r"[\w'-]+", "\n".join(line for line in text.split("\n") if is_clause(line))))
+            words = set(re.findall(r"[\w'-]+", clauses(text)))
             for other, module, names in re.findall(r"ghost use Rattle\.(\w+)\.specs\.([\w.]+)\.\{([^}]*)\}", text):
                 for name in names.split(","):
                     was, _, now = name.strip().partition(" as ")
@@ -126,7 +144,7 @@ def named_by_contracts(is_clause=lambda line: True):
 
 def believed():
     """The definitions that contracts name, and those that these are defined by."""
-    found, left = set(), list(named_by_contracts())
+    found, left = set(), list(named_by_contracts(lambda text: text))
     while left:
         it = left.pop()
         if it in found:
@@ -163,8 +181,7 @@ def page():
 def main():
     asked = sys.argv[1:]
     if asked == ["--passed-on"]:
-        clause = re.compile(r"^\s*(requires|ensures)\b|^\s*ghost (?!use)|^pub ")
-        named = {it[:2] for it in named_by_contracts(clause.match)}
+        named = {it[:2] for it in named_by_contracts(public_clauses)}
         own = set(passed_on().get(("columnar", name), ("columnar", name)) for crate, name in passed_on() if crate == "columnar")
         own = {place if place in modules() else passed_on().get(place, place) for place in own}
         missing = sorted(named - own)

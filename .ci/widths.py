@@ -1,6 +1,6 @@
 #!/usr/bin/env python3
 """Makes the files of tuples of three to ten columns, each kind from one template of widths/ (holes.py has how one is
-written, tuples.py which files there are). Tuples of one and of two are by hand.
+written, a module beside it has which files there are of a kind). Tuples of one and of two are by hand.
 
 usage: .ci/widths.py --check    makes all in a temporary folder, lays them out by `rt fmt` and compares them with what
                                 stands. Tells the first line that differs of each; status 1 where any does
@@ -17,13 +17,16 @@ import tempfile
 ROOT = os.path.dirname(os.path.dirname(os.path.abspath(__file__)))
 sys.path.insert(0, os.path.join(ROOT, ".ci", "widths"))
 
+import same
 import tuples
+
+KINDS = (tuples, same)
 
 
 def make(folder):
     """Writes all files to the folder, as a repository of its own in which `rt fmt` works, and gives their paths."""
     paths = []
-    for path, template, text in tuples.made():
+    for path, template, text in (it for kind in KINDS for it in kind.made()):
         if re.search(r"[$⟨⟩]", text):
             sys.exit(f"{path}: a word or a hole of the template {template} was not filled")
         comment = "--" if path.endswith(".antt") else "//"

@@ -9,9 +9,9 @@ A hole has a text as of the first part, which is said of each part:
     ⟨fold both: $A.x⟩            one function applied: both A.x (both B.x C.x)
 
 The words of a part are $A, the type of its column; $P and $p, the type and the name of its item; $first, its name; $0, its
-number; $side, its place in nested pairs (.0, .1.0, .1.1); $-2, which tells its call from earlier ones of the same name
-(nothing, -2, -3), and $-1, the same counted from the second part. A word outside of holes is of the tuple: see WORDS of
-tuples.py.
+number; $side, its place in nested pairs (.0, .1.0, .1.1); $row, its own part of the row r; $-2, which tells its call from earlier
+ones of the same name (nothing, -2, -3), and $-1, the same counted from the second part. A word outside of holes is of the tuple: see WORDS of
+parts.py.
 
 The layout of the files is that of `rt fmt`: a template of impls has short bodies on one line, and no empty lines in an impl.
 A tuple is the nested pairs of its first part and of the others, (A, (B, C)), in contents and in proofs."""
@@ -70,8 +70,16 @@ def put(text, said):
     return re.sub(r"\$(-[12]|\w+)", lambda word: said.get(word[1], word[0]), text)
 
 
+def row_of(part, width):
+    """The part of the row r, a tuple, that is its own."""
+    row = "r"
+    for _ in range(part):
+        row = f"(second_of {row})"
+    return row if part == width - 1 else f"(first_of {row})"
+
+
 def words_of_part(part, width):
-    return {"A": COLUMNS[part], "P": ITEMS[part], "p": ITEMS[part].lower(), "first": NTH[part], "0": str(part),
+    return {"row": row_of(part, width), "A": COLUMNS[part], "P": ITEMS[part], "p": ITEMS[part].lower(), "first": NTH[part], "0": str(part),
             "side": ".1" * part + (".0" if part < width - 1 else ""),
             "-2": f"-{part + 1}" if part > 0 else "", "-1": f"-{part}" if part > 1 else ""}
 

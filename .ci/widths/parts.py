@@ -1,0 +1,68 @@
+"""What the kinds of files share: templates, the words of a tuple, and how answers are written."""
+import os
+import re
+
+from holes import NUMBERS, fill
+
+HERE = os.path.dirname(os.path.abspath(__file__))
+WIDTHS = range(3, 11)
+
+
+def template(name):
+    with open(f"{HERE}/{name}.template", encoding="utf-8") as file:
+        return file.read()
+
+
+# The words of the tuple, outside of holes; those of the second block are for answers. Besides these, $width is its number of
+# parts as a word and $fewer that of one part less, and in answers $call is the function and $goals the module of its goals.
+WORDS = {
+    "columns": "(⟨$A⟩)",
+    "items": "(⟨$P⟩)",
+    "names": "(⟨$first⟩)",
+    "room": "(⟨$A::Room⟩)",
+    "nested": "nested ⟨1+list: $A.format⟩",
+    "old": "(⟨fold both: $A.content $first.old⟩)",
+    "new": "(⟨fold both: $A.content $first.new⟩)",
+    "now": "(⟨fold both: $A.content $first.now⟩)",
+    "entered": "⟨1+list: $P.entry $p⟩",
+
+    "formats": "⟨2+list: g.$A.Column.format⟩",
+    "others": "(nested ⟨1+list[1:]: g.$A.Column.format⟩)",
+    "entries": "⟨2+list: g.$P.Enter.entry c.args.$p⟩",
+    "copied": "⟨2+list: g.$P.Column.format⟩ c.args.range.start c.args.range.«end»",
+}
+
+
+def words(width):
+    return {word: fill(text, width) for word, text in WORDS.items()} | {"width": NUMBERS[width], "fewer": NUMBERS[width - 1]}
+
+
+# --- Answers ---
+#
+# In a template of answers `NAME = TERM` is an answer to the goal of that name; the goals' own `use` is added. A heading is
+# the folder of a function, and the lowest width that has answers, where narrower ones need none. Below two headings are the
+# answers of both functions.
+
+
+def headed(name):
+    """Each heading of a template of answers: the folder, the lowest width, and the text below it."""
+    for block in template(name).strip().split("\n\n"):
+        heads, text = re.fullmatch(r"((?:=== .*\n)+)([^=][\s\S]*)", block).groups()
+        for folder, lowest in re.findall(r"=== (\S+)(?: from (\d+))?", heads):
+            yield folder, int(lowest or WIDTHS[0]), text
+
+
+def answer_file(place, text, width, **said):
+    """A file of answers: its path and its text, of a function in the folder `place` below crates/."""
+    goals = f"Rattle.{place.replace('/', '.')}.Goals"
+    text = fill(text, width, **words(width), goals=goals, call=os.path.basename(place), **said)
+    text = re.sub(r"(?m)^([\w-]+) =(.*)$", r"\npub \1 : goal.\1\n\1 g c =\2", text)
+    return f"crates/{place}/Answers.antt", text.replace("\n\n", f"\nuse {goals} as goal\n\n", 1) + "\n"
+
+
+def answers(name, said=lambda width: {}):
+    """Each file of answers of a template: its path, the template's name, and its text."""
+    for folder, lowest, text in headed(name):
+        for width in range(lowest, WIDTHS[-1] + 1):
+            path, made = answer_file(folder.format(width=NUMBERS[width], number=width), text, width, **said(width))
+            yield path, name, made

@@ -17,10 +17,11 @@ import tempfile
 ROOT = os.path.dirname(os.path.dirname(os.path.abspath(__file__)))
 sys.path.insert(0, os.path.join(ROOT, ".ci", "widths"))
 
+import earlier
 import same
 import tuples
 
-KINDS = (tuples, same)
+KINDS = (tuples, same, earlier)
 
 
 def make(folder):

@@ -1,3 +1,4 @@
+// Made by .ci/widths.py: change .ci/widths/base.template, and not this file.
 //! Tuples of eight columns of one length.
 ghost use Rattle.std.specs.Prelude.{◌≡◌, List, [], ◌∷◌, OnOk, IfErr};
 ghost use Rattle.columnar_base.specs.Row.{tuple};

@@ -1,3 +1,4 @@
+// Made by .ci/widths.py: change .ci/widths/earlier.template, and not this file.
 //! Tuples of three columns and more are made of an earlier form as their nested pairs are.
 ghost use Rattle.std.specs.Prelude.{◌≡◌, List, [], ◌∷◌};
 ghost use Rattle.columnar_core.specs.EarlierLaws.{no_more, one_more, earlier_tuple};

@@ -1,3 +1,4 @@
+// Made by .ci/widths.py: change .ci/widths/core.template, and not this file.
 //! Tuples of nine containers.
 ghost use Rattle.std.specs.Prelude.{◌≡◌, List, [], ◌∷◌};
 ghost use Rattle.std.proofs.Common.{ap};

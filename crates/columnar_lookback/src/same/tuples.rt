@@ -1,3 +1,4 @@
+// Made by .ci/widths.py: change .ci/widths/same.template, and not this file.
 //! Tuples of three columns and more tell whether a row is the same as an item: the first part, and then the others.
 ghost use Rattle.std.specs.Prelude.{◌≡◌, ◌<◌, List, [], ◌∷◌, length, slice_get, Some};
 ghost use Rattle.columnar_base.specs.Row.{Row, tuple};

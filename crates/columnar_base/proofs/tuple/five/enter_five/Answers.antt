@@ -1,3 +1,4 @@
+-- Made by .ci/widths.py: change .ci/widths/answers.template, and not this file.
 use Rattle.std.proofs.Common.{[], ◌∷◌}
 use Rattle.columnar_base.specs.ChangeLaws.{passed_on}
 use Rattle.columnar_base.specs.EntryLaws.{first_sound, others_sound, next_entered, first_refused, others_refused}

@@ -1,3 +1,4 @@
+-- Made by .ci/widths.py: change .ci/widths/answers.template, and not this file.
 use Rattle.std.proofs.Common.{[], ◌∷◌, refl}
 use Rattle.columnar_base.specs.LongTupleLaws.{tuple_same, refused_if_err}
 use Rattle.columnar_base.specs.EntryLaws.{took_on_ok}

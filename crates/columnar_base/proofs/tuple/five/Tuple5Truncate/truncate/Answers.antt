@@ -1,3 +1,4 @@
+-- Made by .ci/widths.py: change .ci/widths/answers.template, and not this file.
 use Rattle.std.proofs.Common.{[], ◌∷◌}
 use Rattle.columnar_base.specs.LongTupleLaws.{tuple_parts, up_to, tuple_cut}
 use Rattle.columnar_base.proofs.tuple.five.Tuple5Truncate.truncate.Goals as goal

@@ -1,3 +1,4 @@
+-- Made by .ci/widths.py: change .ci/widths/earlier_answers.template, and not this file.
 use Rattle.std.proofs.Common.{[], ◌∷◌}
 use Rattle.columnar_base.specs.ChangeLaws.{passed_on}
 use Rattle.columnar_base.specs.LongTupleLaws.{tuple_same}

@@ -1,3 +1,4 @@
+-- Made by .ci/widths.py: change .ci/widths/answers.template, and not this file.
 use Rattle.std.proofs.Common.{[], ◌∷◌}
 use Rattle.columnar_base.specs.LongTupleLaws.{tuple_fits}
 use Rattle.columnar_core.specs.Store.{slices_in}

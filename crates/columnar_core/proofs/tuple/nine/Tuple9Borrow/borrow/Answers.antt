@@ -1,3 +1,4 @@
+-- Made by .ci/widths.py: change .ci/widths/answers.template, and not this file.
 use Rattle.std.proofs.Common.{rules, [], ◌∷◌, sym, ap}
 use Rattle.columnar_base.specs.LongTupleLaws.{same_parts, same_tuple}
 use Rattle.columnar_core.specs.LentLaws.{same_contents, same_sound}

@@ -1,3 +1,4 @@
+-- Made by .ci/widths.py: change .ci/widths/answers.template, and not this file.
 use Rattle.std.proofs.Common.{[], ◌∷◌}
 use Rattle.columnar_base.specs.LongTupleLaws.{tuple_same}
 use Rattle.columnar_base.specs.EntryLaws.{tuple_pieces, views_level, copied_on_ok, copy_refused}

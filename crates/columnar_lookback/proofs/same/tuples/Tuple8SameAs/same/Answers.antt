@@ -1,3 +1,4 @@
+-- Made by .ci/widths.py: change .ci/widths/same_answers.template, and not this file.
 use Rattle.std.proofs.Common.{[], ◌∷◌, sym, ◌∙◌}
 use Rattle.columnar_base.specs.Row.{tuple}
 use Rattle.columnar_base.specs.Format.{both}

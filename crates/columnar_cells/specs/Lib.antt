@@ -3,3 +3,4 @@ pub mod WroteLaws
 pub mod RowAtLaws
 pub mod SumLaws
 pub mod ListLaws
+pub mod BitLaws

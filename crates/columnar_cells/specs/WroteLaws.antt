@@ -4,7 +4,7 @@ use Rattle.std.specs.Prelude.{slice_set, slice_get, Some}
 use Rattle.std.specs.List.{flat_map}
 use Rattle.std.proofs.lemmas.List.{map-set, length-set, drop-set-add}
 use Rattle.std.proofs.lemmas.Bool.{and_parts, and_from}
-use Rattle.columnar_base.specs.Row.{Row, tuple, solo}
+use Rattle.columnar_base.specs.Row.{Row, tuple, solo, duration, number_of}
 use Rattle.columnar_base.specs.Format.{Format, Content, both, slice, Fault, IsSound, lengths}
 use Rattle.columnar_base.specs.Elements.{elements_format, elements}
 use Rattle.columnar_base.specs.ElementLaws.{IsElement, rows_typed, elements_sound, length-flat}
@@ -14,6 +14,7 @@ use Rattle.columnar_base.specs.LongTuples.{under, nested, sides, tuple_level, tu
 use Rattle.columnar_base.specs.LongTupleLaws.{SameSound, tuple_same}
 use Rattle.columnar_base.specs.Solos.{solos, solo_format}
 use Rattle.columnar_base.specs.SoloLaws.{solo_sound}
+use Rattle.columnar_primitive.specs.Durations.{durations_format, as_duration, is_duration, is_part_second}
 use Rattle.columnar_primitive.specs.Mapped.{all_pass, mapped_format}
 use Rattle.columnar_primitive.specs.MappedLaws.{mapped_parts, mapped_sound}
 use Rattle.columnar_cells.specs.Wrote.{Wrote}
@@ -60,11 +61,15 @@ pair_wrote a b {x} {x'} {y} {y'} i r s h v w =
 pub under_wrote : {broken : Content → List Fault} {f : Format} {x y : Content} {i : ℕ} {r : Row} → SameSound broken f → Wrote f x y i r → Wrote (under broken f) x y i r
 under_wrote {broken} {f} {x} {y} e w = record { sound = e.there y w.sound; rows = w.rows; lengths_same = w.lengths_same }
 
--- the first part and the others, nested: of any width
+pub durations_wrote : (a b : Format) {x x' y y' : Content} (i : ℕ) (r s : Row) → IsSound (durations_format a b) (both x y) → is_part_second s ≡ true → Wrote a x x' i r → Wrote b y y' i s → Wrote (durations_format a b) (both x y) (both x' y') i (duration (number_of r) (number_of s))
+durations_wrote a b i r s h p v w = mapped_wrote (pair_format a b) as_duration is_duration i (tuple r s) h p (pair_wrote a b i r s (mapped_parts (pair_format a b) as_duration is_duration h).values v w)
+
+-- the first part and the others, nested, and a tuple of any width
+pub nested_wrote : (a b : Format) (fs : List Format) {x x' y y' : Content} (i : ℕ) (r s : Row) → IsSound (nested a (b ∷ fs)) (both x y) → Wrote a x x' i r → (IsSound (nested b fs) y → Wrote (nested b fs) y y' i s) → Wrote (nested a (b ∷ fs)) (both x y) (both x' y') i (tuple r s)
+nested_wrote a b fs i r s h v w = pair_wrote a (nested b fs) i r s h v (w (pair_parts a (nested b fs) h).right)
+
 pub tuple_wrote : (a b : Format) (fs : List Format) {x x' y y' : Content} (i : ℕ) (r s : Row) → IsSound (tuple_format a b fs) (both x y) → Wrote a x x' i r → (IsSound (nested b fs) y → Wrote (nested b fs) y y' i s) → Wrote (tuple_format a b fs) (both x y) (both x' y') i (tuple r s)
-tuple_wrote a b fs {x} {x'} {y} {y'} i r s h v w =
-    let k = (tuple_same a b fs).back (both x y) h in
-    under_wrote (tuple_same a b fs) (pair_wrote a (nested b fs) i r s k v (w (pair_parts a (nested b fs) k).right))
+tuple_wrote a b fs i r s h v w = under_wrote (tuple_same a b fs) (nested_wrote a b fs i r s ((tuple_same a b fs).back _ h) v w)
 
 pub solo_wrote : (a : Format) {x y : Content} {i : ℕ} {r : Row} → Wrote a x y i r → Wrote (solo_format a) x y i (solo r)
 solo_wrote a {x} {y} {i} {r} w = record { sound = solo_sound a w.sound; rows = ap solos w.rows ∙ map-set solo (a.rows x) i r; lengths_same = w.lengths_same }

@@ -5,6 +5,15 @@ ghost use Rattle.columnar_base.specs.Solos.{only_of};
 use crate::set::{SetAny, SetRow};
 use columnar_core::traits::Item;
 
+pub mod eight;
+pub mod five;
+pub mod four;
+pub mod nine;
+pub mod seven;
+pub mod six;
+pub mod ten;
+pub mod three;
+
 /// Each part writes its own of the item.
 impl<S: Item, T: Item, A: SetRow<S>, B: SetRow<T>> SetRow<(S, T)> for (A, B) {
     ghost fits = { λ r p. A.fits (first_of r) p.0 × B.fits (second_of r) p.1 };

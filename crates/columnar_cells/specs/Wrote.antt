@@ -42,8 +42,3 @@ item_fits fits r k v = (k < length (items_of r)) × fits (row_at (items_of r) k)
 abbrev pub in_some : (Row → Row) → Row → Row
 in_some to (some r) = some (to r)
 in_some to r = r
-
--- There is a value, and this holds of it.
-abbrev pub OfSome : (Row → Type 0) → Row → Type 0
-OfSome p (some r) = p r
-OfSome p _ = ⊥

@@ -1,14 +1,16 @@
 //! Columns of lists of which an item is written in place.
-ghost use Rattle.std.specs.Prelude.{◌≡◌, ◌<◌, ◌+◌, ◌↔◌, ℕ, length, IsTrue, false};
-ghost use Rattle.columnar_base.specs.Row.{Row};
+ghost use Rattle.std.specs.Prelude.{◌≡◌, ◌<◌, ◌+◌, ◌↔◌, ℕ, length, Some, IsTrue, false};
+ghost use Rattle.columnar_base.specs.Row.{Row, items_of};
 ghost use Rattle.columnar_base.specs.Format.{IsSound};
-ghost use Rattle.columnar_cells.specs.Wrote.{Wrote, row_at, item_fits, with_item, in_some, OfSome};
+ghost use Rattle.columnar_cells.specs.Wrote.{Wrote, row_at, item_fits, with_item, option_fits, in_some};
 
 use crate::set::SetRow;
 use columnar_core::offsets::Offsets;
-use columnar_core::traits::{Item, Len};
+use columnar_core::traits::{Index, Item, Len};
+use columnar_core::words::Words;
 use columnar_lists::parts::range_of;
 use columnar_lists::vector::Vecs;
+use columnar_sums::option::Options;
 
 /// A column whose rows have items, each at a place, of which one can be written: the item of a list at its number, and
 /// that of a list of lists at the number of its list and its place in that.
@@ -84,5 +86,49 @@ impl<T: Item, TC: SetRow<T>, BC: Offsets> SetItem<usize, T> for Vecs<TC, BC> {
         let (lower, upper) = range_of(&self.bounds, index);
         let place = place_in(lower, upper, at);
         self.values.set_row(place, item);
+    }
+}
+
+/// Of a list of lists: the number of the inner list, and a place in that.
+impl<P: Copy, T: Item, TC: SetItem<P, T>, BC: Offsets> SetItem<(usize, P), T> for Vecs<TC, BC> {
+    ghost fits = { λ r at item. item_fits (λ s t. TC.fits s at.1 t) r at.0 item };
+
+    ghost put = { λ r at s. with_item r at.0 (TC.put (row_at (items_of r) at.0) at.1 s) };
+
+    fn may_set_item(&self, index: usize, at: (usize, P), item: &T) -> bool {
+        let (lower, upper) = range_of(&self.bounds, index);
+        if at.0 < upper - lower {
+            self.values
+                .may_set_item(place_in(lower, upper, at.0), at.1, item)
+        } else {
+            false
+        }
+    }
+
+    fn set_item(&mut self, index: usize, at: (usize, P), item: T) {
+        let (lower, upper) = range_of(&self.bounds, index);
+        let place = place_in(lower, upper, at.0);
+        self.values.set_item(place, at.1, item);
+    }
+}
+
+/// A place in the value of a row that has one.
+impl<P: Copy, T: Item, TC: SetItem<P, T>, CC: Words, VC: Words, WC: Words> SetItem<P, T>
+    for Options<TC, CC, VC, WC> {
+    ghost fits = { λ r at item. option_fits (λ s t. TC.fits s at t) r (Some item) };
+
+    ghost put = { λ r at s. in_some (λ v. TC.put v at s) r };
+
+    fn may_set_item(&self, index: usize, at: P, item: &T) -> bool {
+        if self.indexes.get(index) {
+            self.somes.may_set_item(self.indexes.rank(index), at, item)
+        } else {
+            false
+        }
+    }
+
+    fn set_item(&mut self, index: usize, at: P, item: T) {
+        let rank = self.indexes.rank(index);
+        self.somes.set_item(rank, at, item);
     }
 }

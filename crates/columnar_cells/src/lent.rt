@@ -6,7 +6,7 @@ ghost use Rattle.columnar_base.specs.Row.{Row, unit};
 ghost use Rattle.columnar_base.specs.Format.{IsSound};
 ghost use Rattle.columnar_cells.specs.Wrote.{Wrote};
 
-use crate::set::SetRow;
+use crate::set::{SetAny, SetRow};
 use columnar_core::boxed::Boxed;
 use columnar_core::element::Element;
 use columnar_core::traits::{Column, Index, Item, Len};
@@ -107,7 +107,7 @@ impl<CC: Count> ValueMut for Empties<CC> {
 impl<C: ValueMut> ValueMut for Boxed<C> {
     type Value = C::Value;
 
-    ghost with = { λ b i w. record b { «0» = C.with b.0 i w } };
+    ghost with = { λ b i w. record b { 0 = C.with b.0 i w } };
 
     ghost shown = { C.shown };
 
@@ -173,4 +173,20 @@ impl<'b, C: ValueMut> ValueMut for Lent<'b, C> {
     fn value_mut(&mut self, index: usize) -> &mut C::Value {
         self.column.value_mut(index)
     }
+}
+
+impl<'b, T: Item, C: SetRow<T>> SetRow<T> for Lent<'b, C> {
+    ghost fits = { C.fits };
+
+    fn may_set(&self, index: usize, item: &T) -> bool {
+        self.column.may_set(index, item)
+    }
+
+    fn set_row(&mut self, index: usize, item: T) {
+        self.column.set_row(index, item);
+    }
+}
+
+impl<'b, T: Item, C: SetAny<T>> SetAny<T> for Lent<'b, C> {
+    ghost any = { C.any };
 }

@@ -2,8 +2,10 @@
 #![tactic(auto)]
 
 pub mod bits;
+pub mod index_mut;
 pub mod items;
 pub mod lent;
+pub mod row_mut;
 pub mod set;
 pub mod sums;
 pub mod through;

@@ -1,5 +1,4 @@
 //! Columns that stand for another: a write to a row goes through to it.
-use crate::lent::Lent;
 use crate::set::{SetAny, SetRow};
 use columnar_core::boxed::Boxed;
 use columnar_core::traits::Item;
@@ -34,21 +33,5 @@ impl<'b, T: Item, C: SetRow<T>> SetRow<T> for &'b mut C {
 }
 
 impl<'b, T: Item, C: SetAny<T>> SetAny<T> for &'b mut C {
-    ghost any = { C.any };
-}
-
-impl<'b, T: Item, C: SetRow<T>> SetRow<T> for Lent<'b, C> {
-    ghost fits = { C.fits };
-
-    fn may_set(&self, index: usize, item: &T) -> bool {
-        self.column.may_set(index, item)
-    }
-
-    fn set_row(&mut self, index: usize, item: T) {
-        self.column.set_row(index, item);
-    }
-}
-
-impl<'b, T: Item, C: SetAny<T>> SetAny<T> for Lent<'b, C> {
     ghost any = { C.any };
 }

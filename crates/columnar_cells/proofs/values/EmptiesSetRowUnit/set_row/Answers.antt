@@ -4,4 +4,4 @@ use Rattle.columnar_cells.specs.WroteLaws.{wrote_same}
 use Rattle.columnar_cells.proofs.values.EmptiesSetRowUnit.set_row.Goals as goal
 
 pub returns : goal.returns
-returns g c = wrote_same units_format c.args.index _ c.requires.sound (unit_at (g.CC.Count.held c.args.self.now.count) c.args.index c.requires.in_range)
+returns g c = wrote_same units_format c.args._index _ c.requires.sound (unit_at (g.CC.Count.held c.args.self.now.count) c.args._index c.requires.in_range)

@@ -4,4 +4,3 @@ pub mod RowAtLaws
 pub mod SumLaws
 pub mod ListLaws
 pub mod BitLaws
-pub mod Lenders

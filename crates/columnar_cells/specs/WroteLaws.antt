@@ -10,14 +10,15 @@ use Rattle.columnar_base.specs.Elements.{elements_format, elements}
 use Rattle.columnar_base.specs.ElementLaws.{IsElement, rows_typed, elements_sound, length-flat}
 use Rattle.columnar_base.specs.Tuples.{tuples, pair_format}
 use Rattle.columnar_base.specs.TupleLaws.{pair_parts, pair_sound}
-use Rattle.columnar_base.specs.LongTuples.{under, nested, sides, tuple_level, tuple_format}
-use Rattle.columnar_base.specs.LongTupleLaws.{SameSound, tuple_same}
+use Rattle.columnar_base.specs.LongTuples.{under, nested, tuple_format, PartOf}
+use Rattle.columnar_base.specs.LongTupleLaws.{SameSound, tuple_same, within}
 use Rattle.columnar_base.specs.Solos.{solos, solo_format}
 use Rattle.columnar_base.specs.SoloLaws.{solo_sound}
 use Rattle.columnar_primitive.specs.Durations.{durations_format, as_duration, is_duration, is_part_second}
 use Rattle.columnar_primitive.specs.Mapped.{all_pass, mapped_format}
 use Rattle.columnar_primitive.specs.MappedLaws.{mapped_parts, mapped_sound}
-use Rattle.columnar_cells.specs.Wrote.{Wrote}
+use Rattle.columnar_cells.specs.Wrote.{Wrote, row_at}
+use Rattle.columnar_cells.specs.RowAtLaws.{get_row_at}
 
 pub elements_wrote : {align : ℕ} {T : Type 0} {size : ℕ} {bytes : T → List ℕ} {row_of : List ℕ → Row} {meaning : T → Row} → IsElement size bytes row_of meaning → (xs : List T) (i : ℕ) (w : T) → Wrote (elements_format size align row_of) (elements bytes xs) (elements bytes (slice_set xs i w)) i (meaning w)
 elements_wrote {align} {T} {size} {bytes} {row_of} {meaning} e xs i w =
@@ -82,3 +83,10 @@ get_row (suc i) (s ∷ rs) r h = ap (λ ss. s ∷ ss) (get_row i rs r h)
 -- What is there already.
 pub wrote_same : (f : Format) {c : Content} (i : ℕ) (r : Row) → IsSound f c → slice_get (f.rows c) i ≡ Some r → Wrote f c c i r
 wrote_same f {c} i r s h = record { sound = s; rows = get_row i (f.rows c) r h; lengths_same = refl }
+
+-- a part in which nothing is written
+pub row_kept : (f : Format) {c : Content} (i : ℕ) → IsSound f c → i < length (f.rows c) → Wrote f c c i (row_at (f.rows c) i)
+row_kept f {c} i s l = wrote_same f i (row_at (f.rows c) i) s (get_row_at (f.rows c) i l)
+
+pub part_kept : {f : Format} {c : Content} {n : ℕ} (i : ℕ) → PartOf f c n → i < n → Wrote f c c i (row_at (f.rows c) i)
+part_kept {f} i p l = row_kept f i p.sound (within p l)

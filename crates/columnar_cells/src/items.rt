@@ -12,6 +12,10 @@ use columnar_lists::parts::range_of;
 use columnar_lists::vector::Vecs;
 use columnar_sums::option::Options;
 
+/// The place of field N of a tuple, from 0 on.
+#[derive(Clone, Copy)]
+pub struct Field<const N: usize>;
+
 /// A column whose rows have items, each at a place, of which one can be written: the item of a list at its number, and
 /// that of a list of lists at the number of its list and its place in that.
 pub trait SetItem<P, T: Item>: Len {

@@ -1,9 +1,10 @@
 //! Tuples of columns: a row is written in each part.
-ghost use Rattle.columnar_base.specs.Row.{first_of, second_of};
+ghost use Rattle.columnar_base.specs.Row.{first_of, second_of, tuple};
 ghost use Rattle.columnar_base.specs.Solos.{only_of};
 
+use crate::items::{Field, SetItem};
 use crate::set::{SetAny, SetRow};
-use columnar_core::traits::Item;
+use columnar_core::traits::{Item, Len};
 
 pub mod eight;
 pub mod five;
@@ -49,4 +50,34 @@ impl<S: Item, A: SetRow<S>> SetRow<(S,)> for (A,) {
 
 impl<S: Item, A: SetAny<S>> SetAny<(S,)> for (A,) {
     ghost any = { λ r p. A.any (only_of r) p.0 };
+}
+
+/// One field of the row.
+impl<T: Item, A: SetRow<T>, B: Len> SetItem<Field<0>, T> for (A, B) {
+    ghost fits = { λ r at item. A.fits (first_of r) item };
+
+    ghost put = { λ r at s. tuple s (second_of r) };
+
+    fn may_set_item(&self, index: usize, _at: Field<0>, item: &T) -> bool {
+        self.0.may_set(index, item)
+    }
+
+    fn set_item(&mut self, index: usize, _at: Field<0>, item: T) {
+        self.0.set_row(index, item);
+    }
+}
+
+/// One field of the row.
+impl<T: Item, A: Len, B: SetRow<T>> SetItem<Field<1>, T> for (A, B) {
+    ghost fits = { λ r at item. B.fits (second_of r) item };
+
+    ghost put = { λ r at s. tuple (first_of r) s };
+
+    fn may_set_item(&self, index: usize, _at: Field<1>, item: &T) -> bool {
+        self.1.may_set(index, item)
+    }
+
+    fn set_item(&mut self, index: usize, _at: Field<1>, item: T) {
+        self.1.set_row(index, item);
+    }
 }

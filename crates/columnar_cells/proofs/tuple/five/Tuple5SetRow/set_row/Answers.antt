@@ -1,0 +1,53 @@
+use Rattle.std.proofs.Common.{[], ◌∷◌}
+use Rattle.columnar_base.specs.LongTupleLaws.{tuple_parts, within}
+use Rattle.columnar_cells.specs.RowAtLaws.{tuple_row}
+use Rattle.columnar_cells.specs.WroteLaws.{tuple_wrote, nested_wrote}
+use Rattle.columnar_cells.proofs.tuple.five.Tuple5SetRow.set_row.Goals as goal
+
+pub set_row-requires-clause-sound : goal.set_row-requires-clause-sound
+set_row-requires-clause-sound g c = (tuple_parts g.A.Column.format g.B.Column.format (g.C.Column.format ∷ g.D.Column.format ∷ g.E.Column.format ∷ []) c.requires.sound).0.sound
+
+pub set_row-requires-2-clause-sound : goal.set_row-requires-2-clause-sound
+set_row-requires-2-clause-sound g c = (tuple_parts g.A.Column.format g.B.Column.format (g.C.Column.format ∷ g.D.Column.format ∷ g.E.Column.format ∷ []) c.requires.sound).1.0.sound
+
+pub set_row-requires-3-clause-sound : goal.set_row-requires-3-clause-sound
+set_row-requires-3-clause-sound g c = (tuple_parts g.A.Column.format g.B.Column.format (g.C.Column.format ∷ g.D.Column.format ∷ g.E.Column.format ∷ []) c.requires.sound).1.1.0.sound
+
+pub set_row-requires-4-clause-sound : goal.set_row-requires-4-clause-sound
+set_row-requires-4-clause-sound g c = (tuple_parts g.A.Column.format g.B.Column.format (g.C.Column.format ∷ g.D.Column.format ∷ g.E.Column.format ∷ []) c.requires.sound).1.1.1.0.sound
+
+pub set_row-requires-5-clause-sound : goal.set_row-requires-5-clause-sound
+set_row-requires-5-clause-sound g c = (tuple_parts g.A.Column.format g.B.Column.format (g.C.Column.format ∷ g.D.Column.format ∷ g.E.Column.format ∷ []) c.requires.sound).1.1.1.1.sound
+
+pub set_row-requires-clause-in_range : goal.set_row-requires-clause-in_range
+set_row-requires-clause-in_range g c = within (tuple_parts g.A.Column.format g.B.Column.format (g.C.Column.format ∷ g.D.Column.format ∷ g.E.Column.format ∷ []) c.requires.sound).0 c.requires.in_range
+
+pub set_row-requires-2-clause-in_range : goal.set_row-requires-2-clause-in_range
+set_row-requires-2-clause-in_range g c = within (tuple_parts g.A.Column.format g.B.Column.format (g.C.Column.format ∷ g.D.Column.format ∷ g.E.Column.format ∷ []) c.requires.sound).1.0 c.requires.in_range
+
+pub set_row-requires-3-clause-in_range : goal.set_row-requires-3-clause-in_range
+set_row-requires-3-clause-in_range g c = within (tuple_parts g.A.Column.format g.B.Column.format (g.C.Column.format ∷ g.D.Column.format ∷ g.E.Column.format ∷ []) c.requires.sound).1.1.0 c.requires.in_range
+
+pub set_row-requires-4-clause-in_range : goal.set_row-requires-4-clause-in_range
+set_row-requires-4-clause-in_range g c = within (tuple_parts g.A.Column.format g.B.Column.format (g.C.Column.format ∷ g.D.Column.format ∷ g.E.Column.format ∷ []) c.requires.sound).1.1.1.0 c.requires.in_range
+
+pub set_row-requires-5-clause-in_range : goal.set_row-requires-5-clause-in_range
+set_row-requires-5-clause-in_range g c = within (tuple_parts g.A.Column.format g.B.Column.format (g.C.Column.format ∷ g.D.Column.format ∷ g.E.Column.format ∷ []) c.requires.sound).1.1.1.1 c.requires.in_range
+
+pub set_row-requires-clause-fits : goal.set_row-requires-clause-fits
+set_row-requires-clause-fits g c = let f = rw (tuple_row g.A.Column.format g.B.Column.format (g.C.Column.format ∷ g.D.Column.format ∷ g.E.Column.format ∷ []) c.args.index c.requires.sound c.requires.in_range) at c.requires.fits in f.0
+
+pub set_row-requires-2-clause-fits : goal.set_row-requires-2-clause-fits
+set_row-requires-2-clause-fits g c = let f = rw (tuple_row g.A.Column.format g.B.Column.format (g.C.Column.format ∷ g.D.Column.format ∷ g.E.Column.format ∷ []) c.args.index c.requires.sound c.requires.in_range) at c.requires.fits in f.1.0
+
+pub set_row-requires-3-clause-fits : goal.set_row-requires-3-clause-fits
+set_row-requires-3-clause-fits g c = let f = rw (tuple_row g.A.Column.format g.B.Column.format (g.C.Column.format ∷ g.D.Column.format ∷ g.E.Column.format ∷ []) c.args.index c.requires.sound c.requires.in_range) at c.requires.fits in f.1.1.0
+
+pub set_row-requires-4-clause-fits : goal.set_row-requires-4-clause-fits
+set_row-requires-4-clause-fits g c = let f = rw (tuple_row g.A.Column.format g.B.Column.format (g.C.Column.format ∷ g.D.Column.format ∷ g.E.Column.format ∷ []) c.args.index c.requires.sound c.requires.in_range) at c.requires.fits in f.1.1.1.0
+
+pub set_row-requires-5-clause-fits : goal.set_row-requires-5-clause-fits
+set_row-requires-5-clause-fits g c = let f = rw (tuple_row g.A.Column.format g.B.Column.format (g.C.Column.format ∷ g.D.Column.format ∷ g.E.Column.format ∷ []) c.args.index c.requires.sound c.requires.in_range) at c.requires.fits in f.1.1.1.1
+
+pub returns : goal.returns
+returns g c = tuple_wrote g.A.Column.format g.B.Column.format (g.C.Column.format ∷ g.D.Column.format ∷ g.E.Column.format ∷ []) c.args.index _ _ c.requires.sound c.set_row.ensures (λ s. nested_wrote g.B.Column.format g.C.Column.format (g.D.Column.format ∷ g.E.Column.format ∷ []) c.args.index _ _ s c.set_row-2.ensures (λ s. nested_wrote g.C.Column.format g.D.Column.format (g.E.Column.format ∷ []) c.args.index _ _ s c.set_row-3.ensures (λ s. nested_wrote g.D.Column.format g.E.Column.format [] c.args.index _ _ s c.set_row-4.ensures (λ s. c.set_row-5.ensures))))

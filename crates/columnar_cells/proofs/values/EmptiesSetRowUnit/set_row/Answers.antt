@@ -1,0 +1,7 @@
+use Rattle.columnar_primitive.specs.Units.{units_format}
+use Rattle.columnar_primitive.specs.UnitLaws.{unit_at}
+use Rattle.columnar_cells.specs.WroteLaws.{wrote_same}
+use Rattle.columnar_cells.proofs.values.EmptiesSetRowUnit.set_row.Goals as goal
+
+pub returns : goal.returns
+returns g c = wrote_same units_format c.args._index _ c.requires.sound (unit_at (g.CC.Count.held c.args.self.now.count) c.args._index c.requires.in_range)

@@ -1,0 +1,192 @@
+//! Rows that are lent for writing.
+ghost use Rattle.std.specs.Prelude.{◌≡◌, ◌<◌, ◌-◌, ◌↔◌, ℕ, [], length, slice_get, Some, IfSome, IsNone, true, refl};
+ghost use Rattle.std.specs.Borrow.{sem, MutBor, Lends, LendsIf};
+ghost use Rattle.std.specs.Vec.{with_item};
+ghost use Rattle.columnar_base.specs.Row.{Row, unit};
+ghost use Rattle.columnar_base.specs.Format.{IsSound};
+ghost use Rattle.columnar_cells.specs.Wrote.{Wrote};
+
+use crate::set::{SetAny, SetRow};
+use columnar_core::boxed::Boxed;
+use columnar_core::element::Element;
+use columnar_core::traits::{Column, Index, Item, Len};
+use columnar_primitive::codes::{Coded, Codes};
+use columnar_primitive::count::Count;
+use columnar_primitive::empties::Empties;
+
+/// A column that keeps each row in one value, which can be lent.
+pub trait ValueMut: Len {
+    /// The value.
+    type Value;
+
+    // the column with w for the value of row i
+    ghost with: { Self → ℕ → Self.Value → Self };
+
+    // the row that a value is
+    ghost shown: { Self.Value → Row };
+
+    // it is the value of row i
+    ghost holds: { Self → ℕ → Self.Value → Type 0 };
+
+    /// The value of row `index`. Whatever is written to it, that row alone changes.
+    fn value_mut(&mut self, index: usize) -> &mut Self::Value
+        requires sound { IsSound Self.format (Self.content self.old) }
+        requires in_range { index < length (Self.format.rows (Self.content self.old)) }
+        ensures* writes_back { sem 𝓛 (Lends Self.row Self.Value.row self.entry result (with self.old index)) }
+        ensures value { holds self.old index result.now }
+        ensures shows { slice_get (Self.format.rows (Self.content self.old)) index ≡ Some (shown result.now) }
+        ensures leaves { (w : Self.Value) → Wrote Self.format (Self.content self.old) (Self.content (with self.old index w)) index (shown w) };
+}
+
+impl<T: Element> ValueMut for Vec<T> {
+    type Value = T;
+
+    ghost with = { λ v i w. with_item v i w };
+
+    ghost shown = { T.meaning };
+
+    ghost holds = { λ v i w. slice_get v.items i ≡ Some w };
+
+    fn value_mut(&mut self, index: usize) -> &mut T {
+        &mut self[index]
+    }
+}
+
+/// Values of which each number of the width is the code of one: no write to a lent code breaks the column.
+pub trait EveryCode: Coded {
+    ghost every: { (r : Row) → Self.is_code r ≡ true };
+}
+
+impl EveryCode for usize {
+    ghost every = { λ r. refl };
+}
+
+impl EveryCode for isize {
+    ghost every = { λ r. refl };
+}
+
+impl EveryCode for u128 {
+    ghost every = { λ r. refl };
+}
+
+impl EveryCode for i128 {
+    ghost every = { λ r. refl };
+}
+
+/// Lends the code.
+impl<T: EveryCode, CV: ValueMut> ValueMut for Codes<CV, T> {
+    type Value = CV::Value;
+
+    ghost with = { λ c i w. record c { values = CV.with c.values i w } };
+
+    ghost shown = { λ w. T.row_of (CV.shown w) };
+
+    ghost holds = { λ c i w. CV.holds c.values i w };
+
+    fn value_mut(&mut self, index: usize) -> &mut CV::Value {
+        self.values.value_mut(index)
+    }
+}
+
+/// Lends the one unit.
+impl<CC: Count> ValueMut for Empties<CC> {
+    type Value = ();
+
+    ghost with = { λ c i w. record c { empty = w } };
+
+    ghost shown = { λ w. unit };
+
+    ghost holds = { λ c i w. c.empty ≡ w };
+
+    fn value_mut(&mut self, _index: usize) -> &mut () {
+        &mut self.empty
+    }
+}
+
+/// Lends what the inner column does.
+impl<C: ValueMut> ValueMut for Boxed<C> {
+    type Value = C::Value;
+
+    ghost with = { λ b i w. record b { 0 = C.with b.0 i w } };
+
+    ghost shown = { C.shown };
+
+    ghost holds = { λ b i w. C.holds b.0 i w };
+
+    fn value_mut(&mut self, index: usize) -> &mut C::Value {
+        self.0.value_mut(index)
+    }
+}
+
+/// Lends what the column does.
+impl<'b, C: ValueMut> ValueMut for &'b mut C {
+    type Value = C::Value;
+
+    ghost with = { λ s i w. record s { now = C.with s.now i w } };
+
+    ghost shown = { C.shown };
+
+    ghost holds = { λ s i w. C.holds s.now i w };
+
+    fn value_mut(&mut self, index: usize) -> &mut C::Value {
+        (**self).value_mut(index)
+    }
+}
+
+/// A column that is lent for writing: its rows can be written, and it can't be grown or cut.
+#[derive(Drop)]
+pub struct Lent<'a, C> {
+    column: &'a mut C,
+}
+
+impl<'a, C> Lent<'a, C> {
+    /// The column, lent.
+    pub fn new(column: &'a mut C) -> Lent<'a, C>
+        ensures same_reference { result.column.ghost_name ≡ column.entry.ghost_name }
+        ensures column { result.column.now ≡ column.old }
+    {
+        Lent { column }
+    }
+}
+
+impl<'b, C: Column> Column for Lent<'b, C> {
+    ghost format = { C.format };
+
+    ghost content = { λ c. C.content c.column.now };
+}
+
+impl<'b, C: Len> Len for Lent<'b, C> {
+    fn len(&self) -> usize {
+        self.column.len()
+    }
+}
+
+impl<'b, C: ValueMut> ValueMut for Lent<'b, C> {
+    type Value = C::Value;
+
+    ghost with = { λ s i w. record s { column = record s.column { now = C.with s.column.now i w } } };
+
+    ghost shown = { C.shown };
+
+    ghost holds = { λ s i w. C.holds s.column.now i w };
+
+    fn value_mut(&mut self, index: usize) -> &mut C::Value {
+        self.column.value_mut(index)
+    }
+}
+
+impl<'b, T: Item, C: SetRow<T>> SetRow<T> for Lent<'b, C> {
+    ghost fits = { C.fits };
+
+    fn may_set(&self, index: usize, item: &T) -> bool {
+        self.column.may_set(index, item)
+    }
+
+    fn set_row(&mut self, index: usize, item: T) {
+        self.column.set_row(index, item);
+    }
+}
+
+impl<'b, T: Item, C: SetAny<T>> SetAny<T> for Lent<'b, C> {
+    ghost any = { C.any };
+}

@@ -1,6 +1,9 @@
 //! Lists of rows: their items one after another in one column, and where each list ends in another.
-ghost use Rattle.columnar_base.specs.Format.{both};
+ghost use Rattle.std.specs.Prelude.{◌≡◌, ◌∷◌, ◌<◌, length, slice_get, Some};
+ghost use Rattle.columnar_base.specs.Row.{number};
+ghost use Rattle.columnar_base.specs.Format.{both, IsSound};
 ghost use Rattle.columnar_base.specs.TwoParts.{two_counted};
+ghost use Rattle.columnar_core.specs.Bounds.{numbers};
 ghost use Rattle.columnar_lists.specs.Lists.{lists_format};
 ghost use Rattle.columnar_lists.specs.ListLaws.{same_lists, lists_lawful, lists_storable};
 
@@ -47,7 +50,16 @@ impl<TC: Column, BC: Len> Len for Vecs<TC, BC> {
 impl<TC: Index + Copy, BC: Offsets> Index for Vecs<TC, BC> {
     type Ref = Slice<TC>;
 
-    fn get(&self, index: usize) -> Slice<TC> {
+    /// List `index`: the values from where the list before it ends up to its own end.
+    fn get(&self, index: usize) -> Slice<TC>
+        requires sound { IsSound (lists_format BC.format TC.format) (both (BC.content self.now.bounds) (TC.content self.now.values)) }
+        requires in_range { index < length ((lists_format BC.format TC.format).rows (both (BC.content self.now.bounds) (TC.content self.now.values))) }
+        ensures row { slice_get ((lists_format BC.format TC.format).rows (both (BC.content self.now.bounds) (TC.content self.now.values))) index ≡ Some (⟦<Slice<TC> as Item>⟧.meaning result) }
+        ensures valid { ⟦<Slice<TC> as Item>⟧.valid result }
+        ensures lower { slice_get (0 ∷ numbers (BC.format.rows (BC.content self.now.bounds))) index ≡ Some result.lower }
+        ensures upper { slice_get (BC.format.rows (BC.content self.now.bounds)) index ≡ Some (number result.upper) }
+        ensures values { TC.content result.slice ≡ TC.content self.now.values }
+    {
         let (lower, upper) = range_of(&self.bounds, index);
         Slice {
             lower,
@@ -63,7 +75,16 @@ where
 {
     type Ref = Slice<&'x TC>;
 
-    fn get(&self, index: usize) -> Slice<&'x TC> {
+    /// List `index`: the values from where the list before it ends up to its own end.
+    fn get(&self, index: usize) -> Slice<&'x TC>
+        requires sound { IsSound (lists_format BC.format TC.format) (both (BC.content self.now.now.bounds) (TC.content self.now.now.values)) }
+        requires in_range { index < length ((lists_format BC.format TC.format).rows (both (BC.content self.now.now.bounds) (TC.content self.now.now.values))) }
+        ensures row { slice_get ((lists_format BC.format TC.format).rows (both (BC.content self.now.now.bounds) (TC.content self.now.now.values))) index ≡ Some (⟦<Slice<&'x TC> as Item>⟧.meaning result) }
+        ensures valid { ⟦<Slice<&'x TC> as Item>⟧.valid result }
+        ensures lower { slice_get (0 ∷ numbers (BC.format.rows (BC.content self.now.now.bounds))) index ≡ Some result.lower }
+        ensures upper { slice_get (BC.format.rows (BC.content self.now.now.bounds)) index ≡ Some (number result.upper) }
+        ensures values { TC.content result.slice.now ≡ TC.content self.now.now.values }
+    {
         let column: &'x Vecs<TC, BC> = *self;
         let (lower, upper) = range_of(&column.bounds, index);
         Slice {

@@ -85,7 +85,7 @@ laid_refused T m {valid} {v} {old} {now} y root t rest error law l e c =
     let p : (l.taken ++ m (out-Tree T t).value ∷ []) ++ added_values m (rest ++ (out-Tree T t).kids.items) ≡ added_values m (root ∷ []) =
     append_assoc l.taken (m (out-Tree T t).value ∷ []) (added_values m (rest ++ (out-Tree T t).kids.items)) ∙ (ap (λ vs. l.taken ++ vs) (sym tv) ∙ (ap (λ ts. l.taken ++ added_values m ts) (sym e) ∙ l.values)) in
     true_from v (nodes_format v) now (both y old) (m (out-Tree T t).value ∷ []) (added_values m (root ∷ [])) error
-    (λ x h. or_right (past_count x (suc (length (v.rows old)) + length (added_values m (root ∷ [])))) (refuses_more v x old (added_values m (root ∷ [])))
+    (λ x h. or_right (past_count x (length (v.rows old) + length (added_values m (root ∷ [])))) (refuses_more v x old (added_values m (root ∷ [])))
     (subst (λ vs. refuses_more v x old vs ≡ true) p (law.more x old (length (v.rows old)) (l.taken ++ m (out-Tree T t).value ∷ []) (added_values m (rest ++ (out-Tree T t).kids.items)) (l.took.adds x (m (out-Tree T t).value ∷ []) h)))) c
 
 -- there are at least as many nodes as trees
@@ -98,7 +98,7 @@ as_many T m ts =
     let w = width-as_forest m ts in
     omega (arith, c, o, a, r, w)
 
--- the next bound would not fit, so there would be too many bounds
+-- the next bound would not fit, so there would be too many nodes
 pub laid_too_long : (T : Type 0) (m : T → Row) {valid : T → Type 0} {v : Format} {old now : Content} {before bounds : List ℕ} (y : Content) (root : Tree T) {waiting : List (Tree T)} (t : Tree T) (rest : List (Tree T))
     → Laid m valid v old now before bounds root waiting → waiting ≡ t ∷ rest → 2 ^ 64 ≤ (length (v.rows now) + length rest + 1) + length (out-Tree T t).kids.items → refuses_more (nodes_format v) too_many (both y old) (added_values m (root ∷ [])) ≡ true
 laid_too_long T m {valid} {v} {old} {now} y root t rest l e h =
@@ -108,5 +108,5 @@ laid_too_long T m {valid} {v} {old} {now} y root t rest l e h =
     let la = length-append rest (out-Tree T t).kids.items in
     let p : length (l.taken ++ added_values m (t ∷ rest)) ≡ length (added_values m (root ∷ [])) = ap (λ ts. length (l.taken ++ added_values m ts)) (sym e) ∙ ap length l.values in
     let q = length-append l.taken (added_values m (t ∷ rest)) in
-    or_left (past_count too_many (suc (length (v.rows old)) + length (added_values m (root ∷ [])))) (refuses_more v too_many old (added_values m (root ∷ [])))
-    (lt-ltb (2 ^ 64 - 1) (suc (length (v.rows old)) + length (added_values m (root ∷ []))) (omega (arith, n, tv, many, la, p, q, h)))
+    or_left (past_count too_many (length (v.rows old) + length (added_values m (root ∷ [])))) (refuses_more v too_many old (added_values m (root ∷ [])))
+    (lt-ltb (2 ^ 64 - 1) (length (v.rows old) + length (added_values m (root ∷ []))) (omega (arith, n, tv, many, la, p, q, h)))

@@ -21,9 +21,9 @@ nodes_rows v (slice bs) = []
 nodes_rows v (part l u x) = []
 nodes_rows v (plain rs) = []
 
--- the bounds can't take one more for each value, or the values can't be taken
+-- there are too many nodes, or their values may not be held
 abbrev pub nodes_refuses : Format → Excess → Content → ℕ → List Row → Bool
-nodes_refuses v e (both y z) n rs = past_count e (suc n + length rs) || v.refuses e z n rs
+nodes_refuses v e (both y z) n rs = past_count e (n + length rs) || v.refuses e z n rs
 nodes_refuses v e (slice bs) n rs = false
 nodes_refuses v e (part l u x) n rs = false
 nodes_refuses v e (plain ss) n rs = false
@@ -77,9 +77,9 @@ trees_extent v (slice bs) t = []
 trees_extent v (part l u x) t = []
 trees_extent v (plain rs) t = []
 
--- the groups can't take the trees, or the bounds and values can't take their values, pushed level by level
+-- there are too many trees, or their nodes, pushed level by level, may not be held
 abbrev pub trees_refuses : Format → Excess → Content → ℕ → List Row → Bool
-trees_refuses v e (both x n) t rs = past_count e (suc t + length rs) || nodes_refuses v e n (end_of_trees x t) (level_values rs)
+trees_refuses v e (both x n) t rs = past_count e (t + length rs) || nodes_refuses v e n (end_of_trees x t) (level_values rs)
 trees_refuses v e (slice bs) t rs = false
 trees_refuses v e (part l u x) t rs = false
 trees_refuses v e (plain ss) t rs = false

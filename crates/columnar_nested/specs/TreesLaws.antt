@@ -166,15 +166,15 @@ added_refuses v {x} {x'} {y} {y'} {z} {z'} {n} s m e rs h =
     let ll = length-append added (level_values rs) in
     let r : length (v.rows z') ≡ length (v.rows z) + length added =
     ap length m.values.grew.rows ∙ (length-append (v.rows z) m.values.fresh ∙ ap (λ i. length (v.rows z) + i) (fresh_count v m)) in
-    let a1 : suc (length (trees_rows v (both x' (both y' z')))) + length rs ≡ suc (length (trees_rows v (both x (both y z)))) + suc (length rs) = omega (arith, w) in
-    let a2 : suc (length (v.rows z')) + length (level_values rs) ≡ suc (length (v.rows z)) + length (added ++ level_values rs) = omega (arith, r, ll) in
-    let h1 : (past_count e (suc (length (trees_rows v (both x (both y z)))) + suc (length rs)) || (past_count e (suc (length (v.rows z)) + length (added ++ level_values rs)) || refuses_more v e z' (level_values rs))) ≡ true
+    let a1 : length (trees_rows v (both x' (both y' z'))) + length rs ≡ length (trees_rows v (both x (both y z))) + suc (length rs) = omega (arith, w) in
+    let a2 : length (v.rows z') + length (level_values rs) ≡ length (v.rows z) + length (added ++ level_values rs) = omega (arith, r, ll) in
+    let h1 : (past_count e (length (trees_rows v (both x (both y z))) + suc (length rs)) || (past_count e (length (v.rows z) + length (added ++ level_values rs)) || refuses_more v e z' (level_values rs))) ≡ true
     = rw (k', a1, a2) at h in
-    let q = or_both (past_count e (suc (length (trees_rows v (both x (both y z)))) + suc (length rs))) (past_count e (suc (length (v.rows z)) + length (added ++ level_values rs)) || refuses_more v e z' (level_values rs))
-    (past_count e (suc (length (trees_rows v (both x (both y z)))) + suc (length rs))) (past_count e (suc (length (v.rows z)) + length (added ++ level_values rs)) || refuses_more v e z (added ++ level_values rs))
-    (λ p. p) (or_both (past_count e (suc (length (v.rows z)) + length (added ++ level_values rs))) (refuses_more v e z' (level_values rs)) (past_count e (suc (length (v.rows z)) + length (added ++ level_values rs))) (refuses_more v e z (added ++ level_values rs)) (λ p. p) (m.values.adds e (level_values rs))) h1 in
-    ap (λ us. past_count e (suc (length (trees_rows v (both x (both y z)))) + suc (length rs)) || (past_count e (suc (end_of_trees x (length (trees_rows v (both x (both y z))))) + length us) || v.refuses e z (end_of_trees x (length (trees_rows v (both x (both y z))))) us)) lv
-    ∙ (ap (λ i. past_count e (suc (length (trees_rows v (both x (both y z)))) + suc (length rs)) || (past_count e (suc i + length (added ++ level_values rs)) || v.refuses e z i (added ++ level_values rs))) k ∙ q)
+    let q = or_both (past_count e (length (trees_rows v (both x (both y z))) + suc (length rs))) (past_count e (length (v.rows z) + length (added ++ level_values rs)) || refuses_more v e z' (level_values rs))
+    (past_count e (length (trees_rows v (both x (both y z))) + suc (length rs))) (past_count e (length (v.rows z) + length (added ++ level_values rs)) || refuses_more v e z (added ++ level_values rs))
+    (λ p. p) (or_both (past_count e (length (v.rows z) + length (added ++ level_values rs))) (refuses_more v e z' (level_values rs)) (past_count e (length (v.rows z) + length (added ++ level_values rs))) (refuses_more v e z (added ++ level_values rs)) (λ p. p) (m.values.adds e (level_values rs))) h1 in
+    ap (λ us. past_count e (length (trees_rows v (both x (both y z))) + suc (length rs)) || (past_count e (end_of_trees x (length (trees_rows v (both x (both y z)))) + length us) || v.refuses e z (end_of_trees x (length (trees_rows v (both x (both y z))))) us)) lv
+    ∙ (ap (λ i. past_count e (length (trees_rows v (both x (both y z))) + suc (length rs)) || (past_count e (i + length (added ++ level_values rs)) || v.refuses e z i (added ++ level_values rs))) k ∙ q)
 
 pub trees_took : (v : Format) {x x' y y' z z' : Content} {n : Node Row} → IsSound (trees_format v) (both x (both y z)) → OneMore v x x' y y' z z' n
     → Took (trees_format v) (both x (both y z)) (both x' (both y' z')) (tree_row n ∷ [])
@@ -218,9 +218,9 @@ trees_refused v {x} {y} {z} {z'} n {error} i t c =
       stayed = trees_stayed v i t;
       cause = true_from (nodes_format v) (trees_format v) (both y z) (both x (both y z)) (values_of (level_order (tree_and n.value n.kids no_trees))) (tree_row n ∷ []) error
           (λ e h.
-          ap (λ us. past_count e (suc (length (trees_rows v (both x (both y z)))) + 1) || nodes_refuses v e (both y z) (end_of_trees x (length (trees_rows v (both x (both y z))))) us) lv
-          ∙ (ap (λ i. past_count e (suc (length (trees_rows v (both x (both y z)))) + 1) || nodes_refuses v e (both y z) i (values_of (level_order (tree_and n.value n.kids no_trees)))) k
-          ∙ or_right (past_count e (suc (length (trees_rows v (both x (both y z)))) + 1)) (refuses_more (nodes_format v) e (both y z) (values_of (level_order (tree_and n.value n.kids no_trees)))) h)) c;
+          ap (λ us. past_count e (length (trees_rows v (both x (both y z))) + 1) || nodes_refuses v e (both y z) (end_of_trees x (length (trees_rows v (both x (both y z))))) us) lv
+          ∙ (ap (λ i. past_count e (length (trees_rows v (both x (both y z))) + 1) || nodes_refuses v e (both y z) i (values_of (level_order (tree_and n.value n.kids no_trees)))) k
+          ∙ or_right (past_count e (length (trees_rows v (both x (both y z))) + 1)) (refuses_more (nodes_format v) e (both y z) (values_of (level_order (tree_and n.value n.kids no_trees)))) h)) c;
     }
 
 pub same_trees : {v w : Format} → v ≡ w → trees_format v ≡ trees_format w

@@ -1,6 +1,6 @@
 //! The structure of a store.
 ghost use Rattle.std.specs.Prelude.{◌≡◌, ◌+◌, ◌/◌, ◌≤◌, ◌↔◌, length, IsOk, IfErr, OnOk};
-ghost use Rattle.columnar_core.specs.Frame.{IsLegal, IsStore, framed_slices};
+ghost use Rattle.columnar_core.specs.Frame.{IsLegal, IsStore, framed_slices, slice_count};
 ghost use Rattle.columnar_bytes.specs.Faults.{IsFirstBroken};
 
 use columnar_core::fault::StoreFault;
@@ -18,8 +18,8 @@ pub fn validate_structure(bytes: &[u8], expected: usize) -> Result<(), StoreFaul
     validate_structure_tallied(bytes, expected, &mut Tally::new())
 }
 
-/// As `validate_structure`; the turns that it takes are added to the tally: fewer than the bytes have words, whatever
-/// number is expected.
+/// As `validate_structure`; the turns that it takes are added to the tally: at most one for each slice that is expected,
+/// at most one for each that the table is for, and at most one for each word of the bytes, accepted or refused.
 #[tactic(auto, using(crate::specs::FaultLaws::broken_refused))]
 pub fn validate_structure_tallied<L>(
     bytes: &[u8],
@@ -31,6 +31,8 @@ pub fn validate_structure_tallied<L>(
     ensures store { OnOk result (IsStore bytes.now) }
     ensures count { OnOk result (length (framed_slices bytes.now) ≡ expected) }
     ensures turns { tally.new.turns ≤ tally.old.turns + length bytes.now / 8 }
+    ensures expected { tally.new.turns ≤ tally.old.turns + expected }
+    ensures table { tally.new.turns ≤ tally.old.turns + slice_count bytes.now }
 {
     let len = bytes.len();
     if len % 8 != 0 {

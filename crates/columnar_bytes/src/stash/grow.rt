@@ -1,8 +1,8 @@
 //! How a stash grows and is cut. On bytes a column is loaded aside first, so that a refusal leaves the variant too.
-ghost use Rattle.std.specs.Prelude.{◌≡◌, ◌≢◌, ◌-◌, ◌≤◌, length, [], ◌∷◌, take, drop, IfOk, IfErr, OnOk, OnErr};
-ghost use Rattle.std.specs.Iterator.{IsFinite};
+ghost use Rattle.std.specs.Prelude.{◌≡◌, ◌≢◌, ◌-◌, ◌≤◌, List, length, map, [], ◌∷◌, take, drop, All, IfOk, IfErr, OnOk, OnErr};
+ghost use Rattle.std.specs.Iterator.{IsFinite, HoldsAlong, Drains, Yields};
 ghost use Rattle.columnar_core.specs.Format.{IsSound};
-ghost use Rattle.columnar_core.specs.Change.{Took, Copied, Refused, Stayed, WasCut};
+ghost use Rattle.columnar_core.specs.Change.{Took, Copied, Refused, Stayed, StoppedAt, WasCut};
 
 use super::{ByteStore, Stash};
 use columnar_core::bytes::Stored;
@@ -158,8 +158,58 @@ impl<C: ContainerBytes, B: ByteStore> Stash<C, B> {
     }
 }
 
+impl<C: ContainerBytes + Drop, B: ByteStore> Stash<C, B> {
+    ghost use Rattle.columnar_bytes.specs.Stashes.{stash_content, variant_of, typed};
+
+    /// Pushes the items in turn, up to the first refusal; the items before it stay. A refusal of the first item leaves the
+    /// variant, and bytes as they were, and so does a list without items; once an item was taken it is a column.
+    pub fn extend<T: Item + Drop, I: Iterator<Item = T> + Drop>(
+        &mut self,
+        items: I,
+    ) -> Result<(), GrowError>
+    where
+        C: Push<T>,
+        requires sound { IsSound C.format (stash_content self.old) }
+        requires callable { I.can_next items }
+        requires finite { IsFinite (I.remaining items) }
+        requires valid { HoldsAlong I.next_gives items (All T.valid) }
+        ensures ok { OnOk result ((xs : List T) × (Drains I.next_gives items xs × Took C.format (stash_content self.old) (stash_content self.new) (map T.meaning xs))) }
+        ensures err { IfErr result (λ e. (xs : List T) × (rest : I) × (Yields I.next_gives items xs rest × StoppedAt C.format (stash_content self.old) (stash_content self.new) (map T.meaning xs) e)) }
+        ensures variant { C.format.rows (stash_content self.new) ≡ C.format.rows (stash_content self.old) → variant_of self.new ≡ variant_of self.old }
+        ensures bytes { C.format.rows (stash_content self.new) ≡ C.format.rows (stash_content self.old) → variant_of self.old ≢ typed → self.new ≡ self.old }
+        ensures typed { C.format.rows (stash_content self.new) ≢ C.format.rows (stash_content self.old) → variant_of self.new ≡ typed }
+    {
+        for item in items {
+            self.push(item)?;
+        }
+        Ok(())
+    }
+}
+
 impl<C: ContainerBytes + Truncate + Drop, B: ByteStore> Stash<C, B> {
     ghost use Rattle.columnar_bytes.specs.Stashes.{stash_content, variant_of, typed};
+
+    /// Adds rows that are alike to the items, one for one and in their order, or none of them; a refusal leaves the
+    /// variant, and bytes as they were.
+    pub fn push_slice<T: Item>(&mut self, items: &[T]) -> Result<(), GrowError>
+    where
+        C: PushRef<T>,
+        requires sound { IsSound C.format (stash_content self.old) }
+        requires valid { All T.valid items.now }
+        ensures ok { OnOk result (Took C.format (stash_content self.old) (stash_content self.new) (map T.meaning items.now)) }
+        ensures err { IfErr result (λ e. Refused C.format (stash_content self.old) (stash_content self.new) (map T.meaning items.now) e) }
+        ensures typed { OnOk result (variant_of self.new ≡ typed) }
+        ensures variant { OnErr result (variant_of self.new ≡ variant_of self.old) }
+        ensures bytes { OnErr result (variant_of self.old ≢ typed → self.new ≡ self.old) }
+    {
+        if let Stash::Typed(column) = self {
+            return column.push_slice(items);
+        }
+        let mut column = self.aside()?;
+        column.push_slice(items)?;
+        *self = Stash::Typed(column);
+        Ok(())
+    }
 
     /// Keeps the first `n` rows. On a column it never fails; on bytes want of memory alone refuses it, and leaves the
     /// rows and the variant.

@@ -1,9 +1,9 @@
 //! What can be pushed into a column of lists, each as one list.
-ghost use Rattle.std.specs.Prelude.{◌∷◌, [], List, map, All, OnOk, IfErr};
+ghost use Rattle.std.specs.Prelude.{◌∷◌, ◌+◌, ◌⊎◌, [], List, length, map, All, OnOk, IfErr};
 ghost use Rattle.std.specs.Iterator.{IsFinite, HoldsAlong, Drains, Yields};
-ghost use Rattle.columnar_base.specs.Row.{list};
+ghost use Rattle.columnar_base.specs.Row.{list, number};
 ghost use Rattle.columnar_base.specs.Format.{IsSound};
-ghost use Rattle.columnar_base.specs.Change.{Took, Refused};
+ghost use Rattle.columnar_base.specs.Change.{Took, Refused, IsTrueOf};
 ghost use Rattle.columnar_lists.specs.Lists.{lists_format};
 
 use super::Vecs;
@@ -40,7 +40,8 @@ fn take_items<I: Iterator<Item: Item> + Drop, TC: Truncate + Push<I::Item>>(
 
 impl<TC: Column, BC: Column> Vecs<TC, BC> {
     /// Adds one list, of rows alike to all that comes of `items`, or is refused and leaves the rows and the lengths of
-    /// all parts. Asks that the items come to an end.
+    /// all parts: where the values can't hold what came up to the refused item, or where the bounds can't take the end of
+    /// the whole list. Asks that the items come to an end.
     pub fn push_iter<I: Iterator<Item: Item> + Drop>(&mut self, items: I) -> Result<(), GrowError>
     where
         TC: Truncate + Push<I::Item>,
@@ -51,6 +52,7 @@ impl<TC: Column, BC: Column> Vecs<TC, BC> {
         requires valid { HoldsAlong I.next_gives items (All I.Item.valid) }
         ensures ok { OnOk result ((xs : List I.Item) × (Drains I.next_gives items xs × Took (lists_format BC.format TC.format) (⟦<Vecs<TC, BC> as Column>⟧.content self.old) (⟦<Vecs<TC, BC> as Column>⟧.content self.new) (list (map I.Item.meaning xs) ∷ []))) }
         ensures err { IfErr result (λ e. (xs : List I.Item) × (rest : I) × (Yields I.next_gives items xs rest × Refused (lists_format BC.format TC.format) (⟦<Vecs<TC, BC> as Column>⟧.content self.old) (⟦<Vecs<TC, BC> as Column>⟧.content self.new) (list (map I.Item.meaning xs) ∷ []) e)) }
+        ensures cause { IfErr result (λ e. (xs : List I.Item) × (((rest : I) × (Yields I.next_gives items xs rest × IsTrueOf e TC.format (TC.content self.old.values) (map I.Item.meaning xs))) ⊎ (Drains I.next_gives items xs × IsTrueOf e BC.format (BC.content self.old.bounds) (number (length (TC.format.rows (TC.content self.old.values)) + length xs) ∷ [])))) }
     {
         let before = self.values.len();
         take_items(&mut self.values, items)?;

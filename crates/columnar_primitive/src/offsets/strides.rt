@@ -1,11 +1,12 @@
 //! Offsets that follow a stride as far as they go, and then stand as they are.
 ghost use Rattle.std.specs.Prelude.{◌≡◌, ◌+◌, ◌-◌, ◌*◌, ◌/◌, ◌%◌, ◌^◌, ◌<◌, ◌≤◌, ◌∷◌, [], length, take, drop, slice_get, Some, Err, OnOk, OnErr, IfErr, IsOk, IsTrue, refl};
+ghost use Rattle.std.specs.Iterator.{IsFinite};
 ghost use Rattle.columnar_core.specs.Row.{number};
 ghost use Rattle.columnar_core.specs.Format.{both, slice, first, moved, IsSound};
 ghost use Rattle.columnar_core.specs.Elements.{word_row};
 ghost use Rattle.columnar_core.specs.Faults.{verdict};
 ghost use Rattle.columnar_core.specs.Bounds.{rises, numbers};
-ghost use Rattle.columnar_core.specs.Change.{Copied, Refused, Took, WasCut};
+ghost use Rattle.columnar_core.specs.Change.{Copied, Refused, Stayed, Took, WasCut};
 ghost use Rattle.columnar_primitive.specs.Stride.{strides_format, strides_broken, strides_rows, bounds_rows, strided, head_and_bounds, follows, joins, grown, head_pushed, bounds_pushed, offsets_in, head_extended, bounds_extended, all_join, head_cut, bounds_cut};
 ghost use Rattle.columnar_primitive.specs.StrideLaws.{strides_lawful, strides_storable, strides_bounds};
 
@@ -166,6 +167,26 @@ impl Strides<Vec<u64>, [u64; 2]> {
             self.bounds.truncate(n - length);
         }
     }
+
+    /// Makes room for the bounds of the views; the head and the bounds stay. Want of memory alone refuses it.
+    pub fn reserve_for<'x, I: Iterator<Item = Strides<View<'x, u64>, View<'x, u64>>> + Drop>(
+        &mut self,
+        views: I,
+    ) -> Result<(), GrowError>
+        requires sound { IsSound strides_format (head_and_bounds self.old.head self.old.bounds.items) }
+        requires callable { I.can_next views }
+        requires finite { IsFinite (I.remaining views) }
+        ensures stayed { Stayed strides_format (head_and_bounds self.old.head self.old.bounds.items) (head_and_bounds self.new.head self.new.bounds.items) }
+        ensures head_stays { self.new.head ≡ self.old.head }
+        ensures bounds_stay { self.new.bounds.items ≡ self.old.bounds.items }
+        ensures memory { IfErr result (λ e. e ≡ GrowError.Memory) }
+    {
+        let mut room = 0;
+        for view in views {
+            room = Self::add_room(room, view);
+        }
+        self.reserve_room(room)
+    }
 }
 
 // Is an offset behind `length` multiples the next of them, or the first?
@@ -248,7 +269,14 @@ impl Reserve for Strides<Vec<u64>, [u64; 2]> {
         0
     }
 
-    fn reserve_room(&mut self, room: usize) -> Result<(), GrowError> {
+    /// Makes room for bounds; the head and the bounds stay.
+    fn reserve_room(&mut self, room: usize) -> Result<(), GrowError>
+        requires { IsSound strides_format (head_and_bounds self.old.head self.old.bounds.items) }
+        ensures stayed { Stayed strides_format (head_and_bounds self.old.head self.old.bounds.items) (head_and_bounds self.new.head self.new.bounds.items) }
+        ensures head_stays { self.new.head ≡ self.old.head }
+        ensures bounds_stay { self.new.bounds.items ≡ self.old.bounds.items }
+        ensures memory { IfErr result (λ e. e ≡ GrowError.Memory) }
+    {
         self.bounds.reserve(room)?;
         Ok(())
     }

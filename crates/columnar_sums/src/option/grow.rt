@@ -5,7 +5,7 @@ use super::Options;
 use crate::marked::{push_marked, push_ref_marked};
 use crate::rank_select::RankSelect;
 use columnar_core::container::{
-    Borrow, Container, ExtendFrom, Reborrow, ReborrowRef, Reserve, Storage, Truncate,
+    Borrow, Container, ExtendFrom, Reborrow, Reserve, Storage, Truncate,
 };
 use columnar_core::fault::GrowError;
 use columnar_core::traits::{Clear, Index, Item, Len, Push, PushRef};

@@ -186,9 +186,10 @@ impl<'a, CC: Words, VC: Words, WC: Words> Cursor<'a, CC, VC, WC> {
         }
     }
 
-    /// The place of the next bit to look at.
+    /// The place of the next bit to look at, or the end. It never goes back.
     pub fn pos(&self) -> usize
-        ensures { result ≡ self.now.pos }
+        ensures value { result ≡ self.now.pos }
+        ensures inside { result ≤ length self.now.bits }
     {
         self.place.pos
     }
@@ -212,6 +213,8 @@ impl<'a, CC: Words, VC: Words, WC: Words> Cursor<'a, CC, VC, WC> {
     /// that in which it stood up to the one in which it then stands, each in a turn.
     pub fn next_one_tallied<L>(&mut self, tally: &mut Tally<L>) -> Option<usize>
         ensures bits { (self.new.bits ≡ self.old.bits) × (self.new.counts ≡ self.old.counts) }
+        ensures onward { self.old.pos ≤ self.new.pos }
+        ensures inside { self.new.pos ≤ length self.new.bits }
         ensures found { IfSome result (λ q. IsNextTrue self.old.bits self.old.pos q × (self.new.pos ≡ q + 1)) }
         ensures none { IfNone result (AreFalseFrom self.old.bits self.old.pos × (self.new.pos ≡ max self.old.pos (64 * (length self.old.bits / 64)))) }
         ensures loads { tally.new.words ≡ tally.old.words ++ range_with_len (self.old.word + 1) (self.new.word - self.old.word) }
@@ -235,6 +238,8 @@ impl<'a, CC: Words, VC: Words, WC: Words> Cursor<'a, CC, VC, WC> {
     /// As `step`; a word that it loads is added to the tally: the one after that in which it stood.
     pub fn step_tallied<L>(&mut self, tally: &mut Tally<L>) -> Option<bool>
         ensures bits { (self.new.bits ≡ self.old.bits) × (self.new.counts ≡ self.old.counts) }
+        ensures onward { self.old.pos ≤ self.new.pos }
+        ensures inside { self.new.pos ≤ length self.new.bits }
         ensures answer { MatchOption result ((self.old.pos ≡ length self.old.bits) × (self.new.pos ≡ self.old.pos)) (λ bit. (self.old.pos < length self.old.bits) × (bit ≡ slice_index_or self.old.bits self.old.pos false) × (self.new.pos ≡ self.old.pos + 1)) }
         ensures loads { tally.new.words ≡ tally.old.words ++ range_with_len (self.old.word + 1) (self.new.word - self.old.word) }
         ensures forward { self.old.word ≤ self.new.word }
@@ -256,6 +261,8 @@ impl<'a, CC: Words, VC: Words, WC: Words> Cursor<'a, CC, VC, WC> {
     pub fn seek_to_pos_tallied<L>(&mut self, target: usize, tally: &mut Tally<L>) -> bool
         requires { self.old.pos ≤ target }
         ensures bits { (self.new.bits ≡ self.old.bits) × (self.new.counts ≡ self.old.counts) }
+        ensures onward { self.old.pos ≤ self.new.pos }
+        ensures inside { self.new.pos ≤ length self.new.bits }
         ensures within { IsTrue result ↔ (target < length self.old.bits) }
         ensures pos { self.new.pos ≡ min target (length self.old.bits) }
         ensures reads { Adds 1 17 tally.old tally.new }
@@ -280,6 +287,8 @@ impl<'a, CC: Words, VC: Words, WC: Words> Cursor<'a, CC, VC, WC> {
     pub fn seek_to_rank_tallied<L>(&mut self, rank: u64, tally: &mut Tally<L>) -> Option<usize>
         requires { ones self.old.bits self.old.pos ≤ rank }
         ensures bits { (self.new.bits ≡ self.old.bits) × (self.new.counts ≡ self.old.counts) }
+        ensures onward { self.old.pos ≤ self.new.pos }
+        ensures inside { self.new.pos ≤ length self.new.bits }
         ensures answer { result ≡ place self.old.bits rank }
         ensures pos { MatchOption result (self.new.pos ≡ length self.old.bits) (λ q. self.new.pos ≡ q + 1) }
         ensures reads { Adds (digits self.old.counts + 2) 33 tally.old tally.new }
@@ -302,6 +311,8 @@ impl<'a, CC: Words, VC: Words, WC: Words> Cursor<'a, CC, VC, WC> {
     /// to the last word.
     pub fn next_one(&mut self) -> Option<usize>
         ensures bits { (self.new.bits ≡ self.old.bits) × (self.new.counts ≡ self.old.counts) }
+        ensures onward { self.old.pos ≤ self.new.pos }
+        ensures inside { self.new.pos ≤ length self.new.bits }
         ensures found { IfSome result (λ q. IsNextTrue self.old.bits self.old.pos q × (self.new.pos ≡ q + 1)) }
         ensures none { IfNone result (AreFalseFrom self.old.bits self.old.pos × (self.new.pos ≡ max self.old.pos (64 * (length self.old.bits / 64)))) }
     {
@@ -311,6 +322,8 @@ impl<'a, CC: Words, VC: Words, WC: Words> Cursor<'a, CC, VC, WC> {
     /// The next bit, and the cursor then stands behind it; None at the end.
     pub fn step(&mut self) -> Option<bool>
         ensures bits { (self.new.bits ≡ self.old.bits) × (self.new.counts ≡ self.old.counts) }
+        ensures onward { self.old.pos ≤ self.new.pos }
+        ensures inside { self.new.pos ≤ length self.new.bits }
         ensures answer { MatchOption result ((self.old.pos ≡ length self.old.bits) × (self.new.pos ≡ self.old.pos)) (λ bit. (self.old.pos < length self.old.bits) × (bit ≡ slice_index_or self.old.bits self.old.pos false) × (self.new.pos ≡ self.old.pos + 1)) }
     {
         self.step_tallied(&mut Tally::new())
@@ -321,6 +334,8 @@ impl<'a, CC: Words, VC: Words, WC: Words> Cursor<'a, CC, VC, WC> {
     pub fn seek_to_pos(&mut self, target: usize) -> bool
         requires { self.old.pos ≤ target }
         ensures bits { (self.new.bits ≡ self.old.bits) × (self.new.counts ≡ self.old.counts) }
+        ensures onward { self.old.pos ≤ self.new.pos }
+        ensures inside { self.new.pos ≤ length self.new.bits }
         ensures within { IsTrue result ↔ (target < length self.old.bits) }
         ensures pos { self.new.pos ≡ min target (length self.old.bits) }
     {
@@ -332,6 +347,8 @@ impl<'a, CC: Words, VC: Words, WC: Words> Cursor<'a, CC, VC, WC> {
     pub fn seek_to_rank(&mut self, rank: u64) -> Option<usize>
         requires { ones self.old.bits self.old.pos ≤ rank }
         ensures bits { (self.new.bits ≡ self.old.bits) × (self.new.counts ≡ self.old.counts) }
+        ensures onward { self.old.pos ≤ self.new.pos }
+        ensures inside { self.new.pos ≤ length self.new.bits }
         ensures answer { result ≡ place self.old.bits rank }
         ensures pos { MatchOption result (self.new.pos ≡ length self.old.bits) (λ q. self.new.pos ≡ q + 1) }
     {

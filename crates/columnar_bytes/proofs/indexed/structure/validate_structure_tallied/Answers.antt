@@ -15,4 +15,6 @@ returns g c =
       store = store_of c.args.bytes.now c.args.expected legal;
       count = count_of c.args.bytes.now c.args.expected legal;
       turns = omega arith;
+      expected = omega arith;
+      table = omega (arith, first);
     }

@@ -1,6 +1,7 @@
+use Rattle.std.proofs.Common.{inl}
 use Rattle.columnar_base.specs.ChangeLaws.{passed_on}
 use Rattle.columnar_lists.specs.ListLaws.{lists_parts}
-use Rattle.columnar_lists.specs.ListPushes.{items_not_taken, on_drained, on_not_drained}
+use Rattle.columnar_lists.specs.ListPushes.{items_not_taken, on_drained, on_not_drained, on_end_refused}
 use Rattle.columnar_lists.proofs.vector.Vecs.push_iter.Goals as goal
 
 pub len-before-requires : goal.len-before-requires
@@ -22,3 +23,11 @@ returns-clause-ok g c = let p = c.in_ok-take_items.ensures.ok in on_drained c.en
 
 pub returns-clause-err : goal.returns-clause-err
 returns-clause-err g c = let p = c.in_ok-take_items.ensures.ok in on_not_drained c.end_list.result g.BC.Column.format g.TC.Column.format (g.BC.Column.content c.end_list.new.bounds) (g.TC.Column.content c.end_list.new.values) c.len-before.result g.I.Iterator.next_gives c.args.items g.I.Item.Item.meaning p.0 c.len-before.ensures g.met.TC.Truncate.lawful c.requires.sound p.1.0 p.1.1 c.end_list.ensures.err
+
+pub returns-in_err-take_items-clause-cause : goal.returns-in_err-take_items-clause-cause
+returns-in_err-take_items-clause-cause g c =
+    let p = c.in_err-take_items.ensures.err in
+    rw (passed_on c.from_residual.result c.from_residual.ensures.1) ((p.0, inl (p.1, (p.2.0, p.2.1.cause))))
+
+pub returns-clause-cause : goal.returns-clause-cause
+returns-clause-cause g c = let p = c.in_ok-take_items.ensures.ok in on_end_refused c.end_list.result g.BC.Column.format g.TC.Column.format (g.BC.Column.content c.args.self.now.bounds) (g.BC.Column.content c.end_list.new.bounds) (g.TC.Column.content c.end_list.new.values) c.len-before.result g.I.Iterator.next_gives c.args.items g.I.Item.Item.meaning p.0 p.1.0 p.1.1 c.end_list.ensures.err

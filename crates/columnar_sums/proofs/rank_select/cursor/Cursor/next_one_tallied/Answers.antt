@@ -19,3 +19,9 @@ returns-in-Some-clause-found g c = rw (← c.self.view_is) ((stands_found c.self
 
 pub returns-in-None-clause-none : goal.returns-in-None-clause-none
 returns-in-None-clause-none g c = rw (← c.self.view_is) (stands_ended c.self.invariant c.metered_words.ensures c.in-None.ensures.at c.in-None.ensures.floor c.in-None.ensures.none).1
+
+pub returns-in-Some-clause-inside : goal.returns-in-Some-clause-inside
+returns-in-Some-clause-inside g c = (stands_found c.self.invariant c.metered_words.ensures c.in-Some.ensures.at c.in-Some.ensures.floor c.in-Some.ensures.found).stands.inside
+
+pub returns-in-None-clause-inside : goal.returns-in-None-clause-inside
+returns-in-None-clause-inside g c = (stands_ended c.self.invariant c.metered_words.ensures c.in-None.ensures.at c.in-None.ensures.floor c.in-None.ensures.none).0.inside

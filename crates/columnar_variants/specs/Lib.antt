@@ -1,0 +1,16 @@
+pub mod Variants
+pub mod VariantLists
+pub mod VariantLaws
+pub mod LawfulVariants
+pub mod VariantCuts
+pub mod VariantRows
+pub mod VariantCounts
+pub mod VariantCountLaws
+pub mod VariantBytes
+pub mod VariantCopies
+pub mod VariantRuns
+pub mod Cases
+pub mod CaseLaws
+pub mod Duals
+pub mod DualLaws
+pub mod DualCopies

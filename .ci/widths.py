@@ -17,11 +17,12 @@ import tempfile
 ROOT = os.path.dirname(os.path.dirname(os.path.abspath(__file__)))
 sys.path.insert(0, os.path.join(ROOT, ".ci", "widths"))
 
+import cells
 import earlier
 import same
 import tuples
 
-KINDS = (tuples, same, earlier)
+KINDS = (tuples, same, earlier, cells)
 
 
 def make(folder):

@@ -1,3 +1,4 @@
+// Made by .ci/widths.py: change .ci/widths/cells.template, and not this file.
 //! Tuples of three columns: a row is written in each part.
 ghost use Rattle.columnar_base.specs.Row.{first_of, second_of, tuple};
 ghost use Rattle.std.specs.Prelude.{◌≡◌};

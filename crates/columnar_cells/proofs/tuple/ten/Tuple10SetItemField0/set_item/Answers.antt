@@ -1,3 +1,4 @@
+-- Made by .ci/widths.py: change .ci/widths/cells_field_answers.template, and not this file.
 use Rattle.std.proofs.Common.{[], ◌∷◌}
 use Rattle.columnar_base.specs.LongTupleLaws.{tuple_parts, within}
 use Rattle.columnar_cells.specs.RowAtLaws.{tuple_row}

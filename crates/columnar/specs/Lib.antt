@@ -36,3 +36,6 @@ pub use Rattle.columnar_strings.specs.Strings
 pub use Rattle.columnar_bytes.specs.Machine
 pub use Rattle.columnar_bytes.specs.States
 pub use Rattle.columnar_bytes.specs.Written
+pub use Rattle.columnar_cells.specs.Wrote
+pub use Rattle.columnar_cells.specs.WroteLaws
+pub use Rattle.columnar_cells.specs.RowAtLaws

@@ -16,6 +16,11 @@ pub mod sums;
 pub mod tuple;
 pub mod vector;
 
+pub use columnar_cells::index_mut::IndexMut;
+pub use columnar_cells::items::{Field, SetItem};
+pub use columnar_cells::lent::{EveryCode, Lent, ValueMut};
+pub use columnar_cells::row_mut::RowMut;
+pub use columnar_cells::set::{SetAny, SetRow};
 pub use columnar_core::bytes::{AsBytes, Check, FromBytes, Stored};
 pub use columnar_core::container::{
     Borrow, Container, ContainerBytes, ExtendFrom, Reborrow, ReborrowRef, Reserve, Storage,

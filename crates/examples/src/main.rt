@@ -3,6 +3,7 @@
 
 mod level;
 mod log;
+mod report;
 mod spans;
 
 use columnar::bytes::stash::{Command, Stash};
@@ -10,6 +11,7 @@ use columnar::fault::GrowError;
 use columnar::{Borrow, Index, Push, Storage};
 use level::{Level, Levels};
 use log::Log;
+use report::Report;
 use spans::{Span, Spans};
 use std::alloc::{AllocError, Global};
 use std::io::{self, Write};
@@ -51,7 +53,8 @@ fn main(rt: HostRuntime) -> ExitCode {
 fn shown<O: Write>(alloc: Global, out: &mut O) -> Result<(), Failure> {
     events(alloc, out)?;
     levels(alloc, out)?;
-    times(alloc, out)
+    times(alloc, out)?;
+    pages(alloc, out)
 }
 
 // A column of values of one's own type.
@@ -80,6 +83,26 @@ fn times<O: Write>(alloc: Global, out: &mut O) -> Result<(), Failure> {
         writeln!(out, "from {} for {}", span.start, span.length)?;
     }
     writeln!(out, "{} bytes", kept.length_in_bytes().unwrap_or(0))?;
+    Ok(())
+}
+
+// A report of two pages: its counters are raised, it is written and opened, and raised once more.
+fn pages<O: Write>(alloc: Global, out: &mut O) -> Result<(), Failure> {
+    let mut report = Report::new(alloc);
+    report.add(80)?;
+    report.add(443)?;
+    for index in [1usize, 1, 0] {
+        report.raise(index)?;
+    }
+    report.print(out)?;
+    let Some(bytes) = report.written(alloc) else {
+        return Err(Failure::Growth);
+    };
+    let Ok(mut opened) = Report::open(alloc, bytes) else {
+        return Err(Failure::Growth);
+    };
+    writeln!(out, "{} {}", opened.raise(1)?, opened.raise(2)?)?;
+    opened.print(out)?;
     Ok(())
 }
 

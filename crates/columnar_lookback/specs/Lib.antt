@@ -8,3 +8,4 @@ pub mod RepeatChanges
 pub mod Lookbacks
 pub mod LookbackLaws
 pub mod LookbackBytes
+pub mod KeptLaws

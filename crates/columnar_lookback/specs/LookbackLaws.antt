@@ -270,7 +270,7 @@ lookbacks_took_back t d {x} {y} {z} {c} {r} n m l p s h g =
     recall_took_as lookbacks_code t.kin (results_format t d) (err (number m) ∷ []) (err (number 0) ∷ []) (r ∷ []) l.kindred (lookbacks_alike t d l p) s g (λ e ws k. sym (plain_limits t d p x y z (length (weave_results (ranks_bits x) (t.rows y) (d.rows z))) e (err (number m) ∷ []) ws (inr (number m, refl), tt)) ∙ k) (inr (inl refl), tt) (and_from _ _ (lt-ltb m (length vs) q.0) refl) (and_from _ _ q.1 refl)
 
 -- of a byte
-byte_row : (m : ℕ) → m < 2 ^ 8 → unsigned_row w8 m ≡ number m
+pub byte_row : (m : ℕ) → m < 2 ^ 8 → unsigned_row w8 m ≡ number m
 byte_row m b = ap number (mod-eq_of_lt b)
 
 pub lookbacks_took_byte : (t d : Format) {x y z c : Content} {r : Row} (n m : ℕ) → m < 2 ^ 8 → IsLawful t → IsPlain d → IsSound (lookbacks_format t d) (both x (both y z)) → nearest t.kin n (latest lookbacks_code [] (weave_results (ranks_bits x) (t.rows y) (d.rows z))) r ≡ Some m → Took (results_format t d) (both x (both y z)) c (err (unsigned_row w8 m) ∷ []) → Took (lookbacks_format t d) (both x (both y z)) c (r ∷ [])

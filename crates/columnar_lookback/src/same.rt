@@ -45,7 +45,7 @@ fn equals<C: Index<Ref: OrderedRow>>(column: &C, at: usize, item: &C::Ref) -> bo
 
 impl<T: Element + OrderedRow> SameAs<T> for Vec<T> {
     fn same(&self, at: usize, item: &T) -> bool {
-        equals(self, at, item)
+        equals::<Vec<T>>(self, at, item)
     }
 }
 
@@ -127,6 +127,13 @@ impl<R: Item, C: SameAs<R>> SameAs<Boxed<R>> for Boxed<C> {
     }
 }
 
+/// The same as what lies in the box.
+impl<T: Item, C: SameAs<T>> SameAs<Box<T>> for Boxed<C> {
+    fn same(&self, at: usize, item: &Box<T>) -> bool {
+        self.0.same(at, &**item)
+    }
+}
+
 /// The same bytes.
 impl<T: Text, BC: Offsets> SameAs<T> for Strings<BC, Vec<u8>> {
     fn same(&self, at: usize, item: &T) -> bool {
@@ -188,5 +195,17 @@ impl<'x, T: Item, TC: SameAs<T> + Truncate, CC: Words, VC: Words, WC: Words> Sam
     for Options<TC, CC, VC, WC> {
     fn same(&self, at: usize, item: &&'x Option<T>) -> bool {
         SameAs::<Option<T>>::same(self, at, *item)
+    }
+}
+
+impl<'x, R: Item, C: SameAs<R>> SameAs<&'x Boxed<R>> for Boxed<C> {
+    fn same(&self, at: usize, item: &&'x Boxed<R>) -> bool {
+        SameAs::<Boxed<R>>::same(self, at, *item)
+    }
+}
+
+impl<'x, T: Item, C: SameAs<T>> SameAs<&'x Box<T>> for Boxed<C> {
+    fn same(&self, at: usize, item: &&'x Box<T>) -> bool {
+        SameAs::<Box<T>>::same(self, at, *item)
     }
 }

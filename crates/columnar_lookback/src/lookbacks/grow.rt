@@ -1,13 +1,13 @@
 //! Columns that refer back to one of the last values, as they grow and are cut.
-ghost use Rattle.std.specs.Prelude.{◌≡◌, ◌+◌, ◌++◌, [], ◌∷◌, length, cond, is_none, OnOk, IfErr, IfSome};
+ghost use Rattle.std.specs.Prelude.{◌≡◌, ◌≢◌, ◌≤◌, ◌+◌, ◌-◌, ◌++◌, [], ◌∷◌, length, take, drop, cond, is_none, OnOk, IfErr, IfSome};
 ghost use Rattle.columnar_lookback.specs.LookbackLaws.{lookbacks_lawful, same_lookbacks};
 ghost use Rattle.std.specs.Int.{to_le_bytes, w8};
 ghost use Rattle.columnar_base.specs.Row.{number};
 ghost use Rattle.columnar_base.specs.Format.{IsSound};
-ghost use Rattle.columnar_base.specs.Change.{Took, Refused};
+ghost use Rattle.columnar_base.specs.Change.{Took, Copied, Refused};
 ghost use Rattle.columnar_base.specs.Elements.{elements};
 ghost use Rattle.columnar_base.specs.Numbers.{unsigned_row_of};
-ghost use Rattle.columnar_lookback.specs.Lookbacks.{bytes_format, lookbacks_format, nearest, owned_lookbacks, values_back};
+ghost use Rattle.columnar_lookback.specs.Lookbacks.{bytes_format, lookbacks_format, kept_rows, nearest, nearest_each, owned_lookbacks, values_back, viewed_lookbacks};
 ghost use Rattle.columnar_base.specs.ElementLaws.{elements_lawful};
 
 use super::Lookbacks;
@@ -77,6 +77,7 @@ impl<T: Item + Drop, TC: Truncate + Push<T> + SameAs<T>, const N: u8> Push<T>
         ensures err { IfErr result (λ e. Refused (lookbacks_format TC.format bytes_format) (owned_lookbacks TC.content self.old.inner) (owned_lookbacks TC.content self.new.inner) (T.meaning item ∷ []) e) }
         ensures stored { OnOk result (length (TC.format.rows (TC.content self.new.inner.oks)) ≡ length (TC.format.rows (TC.content self.old.inner.oks)) + cond (is_none (nearest TC.format.kin N (values_back TC.format (owned_lookbacks TC.content self.old.inner)) (T.meaning item))) 1 0) }
         ensures distance { OnOk result (IfSome (nearest TC.format.kin N (values_back TC.format (owned_lookbacks TC.content self.old.inner)) (T.meaning item)) (λ m. bytes_format.rows (elements (to_le_bytes w8) self.new.inner.errs.items) ≡ bytes_format.rows (elements (to_le_bytes w8) self.old.inner.errs.items) ++ number m ∷ [])) }
+        ensures kept { OnOk result (kept_rows TC.format (owned_lookbacks TC.content self.new.inner) ≡ kept_rows TC.format (owned_lookbacks TC.content self.old.inner) ++ nearest TC.format.kin N (values_back TC.format (owned_lookbacks TC.content self.old.inner)) (T.meaning item) ∷ []) }
     {
         match self.distance_to(&item) {
             Some(back) => Push::<Result<T, u8>>::push(&mut self.inner, Err(back)),
@@ -95,6 +96,7 @@ impl<T: Item, TC: Truncate + PushRef<T> + SameAs<T>, const N: u8> PushRef<T>
         ensures err { IfErr result (λ e. Refused (lookbacks_format TC.format bytes_format) (owned_lookbacks TC.content self.old.inner) (owned_lookbacks TC.content self.new.inner) (T.meaning item.now ∷ []) e) }
         ensures stored { OnOk result (length (TC.format.rows (TC.content self.new.inner.oks)) ≡ length (TC.format.rows (TC.content self.old.inner.oks)) + cond (is_none (nearest TC.format.kin N (values_back TC.format (owned_lookbacks TC.content self.old.inner)) (T.meaning item.now))) 1 0) }
         ensures distance { OnOk result (IfSome (nearest TC.format.kin N (values_back TC.format (owned_lookbacks TC.content self.old.inner)) (T.meaning item.now)) (λ m. bytes_format.rows (elements (to_le_bytes w8) self.new.inner.errs.items) ≡ bytes_format.rows (elements (to_le_bytes w8) self.old.inner.errs.items) ++ number m ∷ [])) }
+        ensures kept { OnOk result (kept_rows TC.format (owned_lookbacks TC.content self.new.inner) ≡ kept_rows TC.format (owned_lookbacks TC.content self.old.inner) ++ nearest TC.format.kin N (values_back TC.format (owned_lookbacks TC.content self.old.inner)) (T.meaning item.now) ∷ []) }
     {
         match self.distance_to(item) {
             Some(back) => push_marked(&mut self.inner.errs, back, &mut self.inner.indexes, false),
@@ -103,7 +105,8 @@ impl<T: Item, TC: Truncate + PushRef<T> + SameAs<T>, const N: u8> PushRef<T>
     }
 }
 
-/// A front that is copied into a column without rows is copied as it stands; of any other range each row is pushed.
+/// A front that is copied into a column without rows is copied as it stands; of any other range each row is kept as if it
+/// were pushed.
 impl<
     'x,
     V: Index + Copy,
@@ -118,11 +121,22 @@ impl<
         <Inner<TC> as ExtendFrom<ViewedInner<'x, V>>>::add_room(room, view.inner)
     }
 
+    /// Stores of each row in turn the least distance at which one of the last `N` values is the same, or one value more
+    /// where there is none; but a front that is copied into a column without rows is stored as it was.
     fn extend_from_self(
         &mut self,
         view: Lookbacks<V, N, &'x [u8], View<'x, u64>, View<'x, u64>, View<'x, u64>>,
         range: Range<usize>,
-    ) -> Result<(), GrowError> {
+    ) -> Result<(), GrowError>
+        requires sound { IsSound (lookbacks_format TC.format bytes_format) (owned_lookbacks TC.content self.old.inner) }
+        requires view_sound { IsSound (lookbacks_format V.format bytes_format) (viewed_lookbacks V.content view.inner.indexes view.inner.oks view.inner.errs.now) }
+        requires ordered { range.start ≤ range.«end» }
+        requires in_range { range.«end» ≤ length ((lookbacks_format V.format bytes_format).rows (viewed_lookbacks V.content view.inner.indexes view.inner.oks view.inner.errs.now)) }
+        ensures ok { OnOk result (Copied (lookbacks_format TC.format bytes_format) (owned_lookbacks TC.content self.old.inner) (owned_lookbacks TC.content self.new.inner) range.start (take (range.«end» - range.start) (drop range.start ((lookbacks_format V.format bytes_format).rows (viewed_lookbacks V.content view.entry.inner.indexes view.entry.inner.oks view.entry.inner.errs.now))))) }
+        ensures err { IfErr result (λ e. Refused (lookbacks_format TC.format bytes_format) (owned_lookbacks TC.content self.old.inner) (owned_lookbacks TC.content self.new.inner) (take (range.«end» - range.start) (drop range.start ((lookbacks_format V.format bytes_format).rows (viewed_lookbacks V.content view.entry.inner.indexes view.entry.inner.oks view.entry.inner.errs.now)))) e) }
+        ensures kept { OnOk result (((lookbacks_format TC.format bytes_format).rows (owned_lookbacks TC.content self.old.inner) ≡ [] → range.start ≢ 0) → kept_rows TC.format (owned_lookbacks TC.content self.new.inner) ≡ kept_rows TC.format (owned_lookbacks TC.content self.old.inner) ++ nearest_each TC.format.kin N (values_back TC.format (owned_lookbacks TC.content self.old.inner)) (take (range.«end» - range.start) (drop range.start ((lookbacks_format V.format bytes_format).rows (viewed_lookbacks V.content view.entry.inner.indexes view.entry.inner.oks view.entry.inner.errs.now))))) }
+        ensures front { OnOk result ((lookbacks_format TC.format bytes_format).rows (owned_lookbacks TC.content self.old.inner) ≡ [] → range.start ≡ 0 → kept_rows TC.format (owned_lookbacks TC.content self.new.inner) ≡ take (range.«end» - range.start) (drop range.start (kept_rows V.format (viewed_lookbacks V.content view.entry.inner.indexes view.entry.inner.oks view.entry.inner.errs.now)))) }
+    {
         let start = range.start;
         let end = range.end;
         let before = self.inner.len();

@@ -5,6 +5,7 @@ use Rattle.columnar_base.specs.Row.{ok, err}
 use Rattle.columnar_base.specs.Numbers.{unsigned_row, unsigned_row_of}
 use Rattle.columnar_lookback.specs.Lookbacks.{bytes_format}
 use Rattle.columnar_lookback.specs.LookbackLaws.{elements_plain, lookbacks_results, values_pushed, byte_pushed, nearest_below, lookbacks_took_value, lookbacks_took_byte, lookbacks_refused_value, lookbacks_refused_byte}
+use Rattle.columnar_lookback.specs.KeptLaws.{pushed_value, pushed_byte}
 use Rattle.columnar_lookback.proofs.lookbacks.grow.LookbacksVecU8VecU64VecU64ArrayU642Push.push.Goals as goal
 
 pub push-requires-clause-sound : goal.push-requires-clause-sound
@@ -36,3 +37,9 @@ returns-in-None-clause-stored g c = let e = sym c.distance_to.ensures ∙ c.in-N
 
 pub returns-in-None-clause-distance : goal.returns-in-None-clause-distance
 returns-in-None-clause-distance g c = let e = sym c.distance_to.ensures ∙ c.in-None.is in on_ok_weaker c.push-in-None.result (λ h. rw e tt) c.push-in-None.ensures.ok
+
+pub returns-in-Some-clause-kept : goal.returns-in-Some-clause-kept
+returns-in-Some-clause-kept g c = let e = (sym c.distance_to.ensures ∙ c.in-Some.is) in let l = nearest_below g.TC.Column.format.kin g.row.N _ _ c.in-Some.back e in let b : c.in-Some.back < 2 ^ 8 = omega (arith, l, g.N.fits) in on_ok_weaker c.push.result (λ h. pushed_byte g.TC.Column.format g.row.N (g.T.Item.meaning c.args.item) c.in-Some.back b e h) c.push.ensures.ok
+
+pub returns-in-None-clause-kept : goal.returns-in-None-clause-kept
+returns-in-None-clause-kept g c = let e = sym c.distance_to.ensures ∙ c.in-None.is in on_ok_weaker c.push-in-None.result (λ h. pushed_value g.TC.Column.format g.row.N (g.T.Item.meaning c.args.item) e h) c.push-in-None.ensures.ok

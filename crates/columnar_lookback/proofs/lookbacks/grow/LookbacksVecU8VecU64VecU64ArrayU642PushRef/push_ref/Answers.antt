@@ -8,6 +8,7 @@ use Rattle.columnar_sums.specs.Marked.{on_ok_both}
 use Rattle.columnar_sums.specs.ResultLaws.{results_took_ok, results_took_err, results_refused_ok, results_refused_err}
 use Rattle.columnar_lookback.specs.Lookbacks.{bytes_format}
 use Rattle.columnar_lookback.specs.LookbackLaws.{elements_plain, lookbacks_results, values_pushed, byte_pushed, lookbacks_values, nearest_below, lookbacks_took_value, lookbacks_took_byte, lookbacks_refused_value, lookbacks_refused_byte}
+use Rattle.columnar_lookback.specs.KeptLaws.{pushed_value, pushed_byte}
 use Rattle.columnar_lookback.proofs.lookbacks.grow.LookbacksVecU8VecU64VecU64ArrayU642PushRef.push_ref.Goals as goal
 
 pub push_ref_marked-requires-clause-values : goal.push_ref_marked-requires-clause-values
@@ -36,3 +37,9 @@ returns-in-None-clause-stored g c = let e = sym c.distance_to.ensures ∙ c.in-N
 
 pub returns-in-None-clause-distance : goal.returns-in-None-clause-distance
 returns-in-None-clause-distance g c = let e = sym c.distance_to.ensures ∙ c.in-None.is in on_ok_both c.push_ref_marked.result (λ h k. rw e tt) c.push_ref_marked.ensures.value c.push_ref_marked.ensures.bit
+
+pub returns-in-Some-clause-kept : goal.returns-in-Some-clause-kept
+returns-in-Some-clause-kept g c = let e = (sym c.distance_to.ensures ∙ c.in-Some.is) in let l = nearest_below g.TC.Column.format.kin g.row.N _ _ c.in-Some.back e in let b : c.in-Some.back < 2 ^ 8 = omega (arith, l, g.N.fits) in on_ok_both c.push_marked.result (λ h k. pushed_byte g.TC.Column.format g.row.N (g.T.Item.meaning c.args.item.now) c.in-Some.back b e (results_took_err g.TC.Column.format bytes_format g.met.TC.Truncate.lawful.same ((elements_lawful 1 1 (unsigned_row_of w8)).same) (lookbacks_results g.TC.Column.format bytes_format c.requires.sound) h k)) c.push_marked.ensures.value c.push_marked.ensures.bit
+
+pub returns-in-None-clause-kept : goal.returns-in-None-clause-kept
+returns-in-None-clause-kept g c = let e = sym c.distance_to.ensures ∙ c.in-None.is in on_ok_both c.push_ref_marked.result (λ h k. pushed_value g.TC.Column.format g.row.N (g.T.Item.meaning c.args.item.now) e (results_took_ok g.TC.Column.format bytes_format g.met.TC.Truncate.lawful.same ((elements_lawful 1 1 (unsigned_row_of w8)).same) (lookbacks_results g.TC.Column.format bytes_format c.requires.sound) h k)) c.push_ref_marked.ensures.value c.push_ref_marked.ensures.bit

@@ -21,8 +21,9 @@ import cells
 import earlier
 import same
 import tuples
+import types_of_tuples
 
-KINDS = (tuples, same, earlier, cells)
+KINDS = (tuples, same, earlier, cells, types_of_tuples)
 
 
 def make(folder):

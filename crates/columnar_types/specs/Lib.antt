@@ -1,0 +1,4 @@
+pub mod Owned
+pub mod OwnedLaws
+pub mod Made
+pub mod MadeLaws

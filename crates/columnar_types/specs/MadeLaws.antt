@@ -1,0 +1,26 @@
+use Rattle.std.proofs.Common.{List, [], ◌∷◌, ◌++◌, ◌≡◌, ◌∙◌, map, true, ap}
+use Rattle.std.proofs.lemmas.List.{map-append}
+use Rattle.columnar_base.specs.Row.{Row}
+use Rattle.columnar_base.specs.Format.{Format, Content, IsSound, all_alike, refuses_more}
+use Rattle.columnar_base.specs.Change.{Took, Refused, IsTrueOf}
+use Rattle.columnar_base.specs.ChangeLaws.{true_from}
+use Rattle.columnar_base.specs.declared.fault.GrowError.{GrowError}
+use Rattle.columnar_types.specs.Made.{Made, NotMade}
+
+pub made : {f : Format} {start c : Content} {items : List Row} → f.rows start ≡ [] → Took f start c items → Made f c items
+made {f} {start} {c} {items} e t = record {
+  sound = t.grew.sound;
+  alike = let r : f.rows c ≡ t.fresh = t.grew.rows ∙ ap (λ rs. rs ++ t.fresh) e in rw r t.alike;
+}
+
+pub not_made : {T : Type 0} {f : Format} {start mid new : Content} {error : GrowError} (meaning : T → Row) (xs : List T) (x : T) → IsSound f start → f.rows start ≡ [] → Took f start mid (map meaning xs) → Refused f mid new (meaning x ∷ []) error → NotMade f (map meaning (xs ++ x ∷ [])) error
+not_made {T} {f} {start} {mid} {new} {error} meaning xs x s e t r = record {
+  start = start;
+  sound = s;
+  bare = e;
+  cause = rw (map-append meaning xs (x ∷ [])) (true_from f f mid start (meaning x ∷ []) (map meaning xs ++ meaning x ∷ []) error (λ w h. t.adds w (meaning x ∷ []) h) r.cause);
+}
+
+-- all at once
+pub not_made_of : {f : Format} {start new : Content} {items : List Row} {error : GrowError} → IsSound f start → f.rows start ≡ [] → Refused f start new items error → NotMade f items error
+not_made_of {f} {start} {new} {items} {error} s e r = record { start = start; sound = s; bare = e; cause = r.cause }

@@ -1,0 +1,91 @@
+// Made by .ci/widths.py: change .ci/widths/types.template, and not this file.
+//! Tuples of ten.
+ghost use Rattle.columnar_types.specs.Owned.{pair_unfit};
+
+use crate::types::{Columnar, FromRow};
+use columnar_base::fault::OwnError;
+use columnar_base::traits::Item;
+use std::alloc::Global;
+
+impl<
+    A: Columnar,
+    B: Columnar,
+    C: Columnar,
+    D: Columnar,
+    E: Columnar,
+    F: Columnar,
+    G: Columnar,
+    H: Columnar,
+    I: Columnar,
+    J: Columnar,
+> Columnar for (A, B, C, D, E, F, G, H, I, J) {
+    ghost unfit = { pair_unfit A.unfit (pair_unfit B.unfit (pair_unfit C.unfit (pair_unfit D.unfit (pair_unfit E.unfit (pair_unfit F.unfit (pair_unfit G.unfit (pair_unfit H.unfit (pair_unfit I.unfit J.unfit)))))))) };
+
+    type Container = (
+        A::Container,
+        B::Container,
+        C::Container,
+        D::Container,
+        E::Container,
+        F::Container,
+        G::Container,
+        H::Container,
+        I::Container,
+        J::Container,
+    );
+}
+
+/// Read as the nested pairs of the first value and of the others.
+impl<
+    P: Item,
+    Q: Item + Drop,
+    R: Item + Drop,
+    S: Item + Drop,
+    T: Item + Drop,
+    U: Item + Drop,
+    V: Item + Drop,
+    W: Item + Drop,
+    X: Item + Drop,
+    Y: Item + Drop,
+    A: FromRow<P>,
+    B: FromRow<Q>,
+    C: FromRow<R>,
+    D: FromRow<S>,
+    E: FromRow<T>,
+    F: FromRow<U>,
+    G: FromRow<V>,
+    H: FromRow<W>,
+    I: FromRow<X>,
+    J: FromRow<Y>,
+> FromRow<(P, Q, R, S, T, U, V, W, X, Y)> for (A, B, C, D, E, F, G, H, I, J) {
+    fn from_row(
+        alloc: Global,
+        row: (P, Q, R, S, T, U, V, W, X, Y),
+    ) -> Result<(A, B, C, D, E, F, G, H, I, J), OwnError> {
+        let (first, second, third, fourth, fifth, sixth, seventh, eighth, ninth, tenth) = row;
+        let (
+            first,
+            (second, (third, (fourth, (fifth, (sixth, (seventh, (eighth, (ninth, tenth)))))))),
+        ) = <(A, (B, (C, (D, (E, (F, (G, (H, (I, J))))))))) as FromRow<
+            (P, (Q, (R, (S, (T, (U, (V, (W, (X, Y))))))))),
+        >>::from_row(
+            alloc,
+            (
+                first,
+                (
+                    second,
+                    (
+                        third,
+                        (
+                            fourth,
+                            (fifth, (sixth, (seventh, (eighth, (ninth, tenth))))),
+                        ),
+                    ),
+                ),
+            ),
+        )?;
+        Ok((
+            first, second, third, fourth, fifth, sixth, seventh, eighth, ninth, tenth,
+        ))
+    }
+}

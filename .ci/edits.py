@@ -13,10 +13,11 @@ Those are tried whose record is not of what stands (gate/record.py), and a tenth
 usage: .ci/edits.py [--all | --tenth N] [--jobs N] [CRATE ..]
                                       after the crates' libraries were built, as by rt all check: tries what is not recorded,
                                       and all others, or the tenth N, 0 to 9, of them; writes the record of what passed
-       .ci/edits.py --behind LOG      beside the rt ci that writes LOG: the edits of a crate begin once the libraries that
+       .ci/edits.py --behind LOG [--record]
+                                      beside the rt ci that writes LOG: the edits of a crate begin once the libraries that
                                       it stands on are proved, and fail where it is not proved itself. A line 'ended' in
                                       LOG says that no more comes. The tenth is the one that the commit's name chooses,
-                                      and no record is written
+                                      and a record is written with --record alone
 """
 import argparse
 import functools
@@ -41,6 +42,7 @@ def asked():
     which.add_argument("--all", action="store_true")
     which.add_argument("--tenth", type=int, choices=range(10))
     which.add_argument("--behind")
+    parser.add_argument("--record", action="store_true")
     parser.add_argument("--jobs", type=int, default=len(os.sched_getaffinity(0)))
     parser.add_argument("crates", nargs="*")
     return parser.parse_args()
@@ -50,7 +52,7 @@ class Run:
     """One run over the edits of some crates."""
 
     def __init__(self, words):
-        self.cores, self.behind = words.jobs, words.behind
+        self.cores, self.records = words.jobs, words.record or not words.behind
         self.log = Log(words.behind) if words.behind else None
         tenth = record.tenth_of_commit() if words.behind else words.tenth
         names = [name for name in crates() if not words.crates or name in words.crates]
@@ -77,7 +79,7 @@ class Run:
         crate = Crate(name, libraries, kept, self.jobs)
         if not self.log and os.path.isdir(f"{crate.folder}/out/incremental"):
             shutil.copytree(f"{crate.folder}/out/incremental", kept)
-        self.tries[name] = its = Tries(crate, self.choices[name])
+        self.tries[name] = its = Tries(crate, self.choices[name], self.records)
         if self.log or its.is_proved():
             its.first()
             for group in its.groups:
@@ -114,7 +116,7 @@ class Run:
                 time.sleep(0.5)
 
     def end(self):
-        """Says what came of all, and writes the records; the status."""
+        """Says what came of all; the status."""
         self.times.tell()
         passed = failed = 0
         for name, choice in self.choices.items():
@@ -124,10 +126,10 @@ class Run:
             is_proved = not self.log or self.log.proved.get(name)
             if choice.edits and not is_proved:
                 say(f"edits of {name}: all failed: rt ci has not proved it")
-            well = self.tries[name].passed if name in self.tries and is_proved else {}
-            passed, failed = passed + len(well), failed + len(choice.edits) - len(well)
-            if not self.log:
-                choice.write_record(well)
+            well = self.tries[name].passed() if name in self.tries and is_proved else 0
+            passed, failed = passed + well, failed + len(choice.edits) - well
+            if self.records and choice.gone and not choice.edits:
+                choice.write_record({})
         print(f"edits: {passed} passed, {failed} failed")
         return 1 if failed else 0
 

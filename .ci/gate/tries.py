@@ -36,20 +36,21 @@ class Choice:
         self.left_out = len(its) - len(self.edits)
         self.gone = sorted(set(self.recorded) - {it.name for it in its})
 
-    def write_record(self, passed):
-        """Writes what passed into the record, and takes out what did not, and what is no edit any more."""
-        tried = {it.name for it in self.edits}
-        entries = {name: it for name, it in self.recorded.items() if name not in self.gone and name not in tried}
-        entries.update((name, (self.sums[name], verdict)) for name, verdict in passed.items())
+    def write_record(self, told):
+        """Writes the verdicts that came into the record, by edit, and takes out what did not pass (None), and what is no
+        edit any more."""
+        entries = {name: it for name, it in self.recorded.items() if name not in self.gone and name not in told}
+        entries.update((name, (self.sums[name], verdict)) for name, verdict in told.items() if verdict is not None)
         if entries != self.recorded:
             record.write(self.name, entries)
 
 
 class Tries:
-    """The chosen edits of a crate, in the groups that are left to try, the largest last, and the verdicts that came."""
+    """The chosen edits of a crate, in the groups that are left to try, the largest last, and the verdicts that came, which
+    go into the record as they come, if they are to."""
 
-    def __init__(self, crate, choice):
-        self.crate, self.choice, self.passed, well = crate, choice, {}, []
+    def __init__(self, crate, choice, records):
+        self.crate, self.choice, self.records, self.told, well = crate, choice, records, {}, []
         for edit in choice.edits:
             why = edit.made({})
             if why:
@@ -58,6 +59,9 @@ class Tries:
                 well.append(edit)
         self.groups = sorted(grouped(well), key=lambda it: len(it["edits"]))
 
+    def passed(self):
+        return sum(verdict is not None for verdict in self.told.values())
+
     def is_proved(self):
         status, said = self.crate.check({}, keeps=True)
         if status != 0:
@@ -65,9 +69,10 @@ class Tries:
         return status == 0
 
     def tell(self, edit, well, text):
-        if well:
-            with SAYING:
-                self.passed[edit.name] = text
+        with SAYING:
+            self.told[edit.name] = text if well else None
+            if self.records:
+                self.choice.write_record(self.told)
         say(f"edit {self.crate.name}/{edit.name} ({self.choice.why[edit.name]}): {text}")
 
     def first(self):

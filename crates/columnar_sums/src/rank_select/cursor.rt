@@ -144,6 +144,21 @@ fn place_at<L>(words: &MeteredWords<'_, L>, end: usize, tally: &mut Tally<L>) ->
     }
 }
 
+impl<CC: Words, VC: Words, WC: Words> RankSelect<CC, VC, WC> {
+    // The first set bit from bit `from` on. It loads the words from that of `from` on, up to that of the bit.
+    pub(crate) fn next_true(&self, from: usize) -> Option<usize>
+        requires ranked { IsRanked CC.bytes VC.bytes WC.bytes self.now }
+        requires in_range { from ≤ length (bits_ranked VC.bytes WC.bytes self.now) }
+        ensures found { IfSome result (λ q. (q < length (bits_ranked VC.bytes WC.bytes self.now)) × IsNextTrue (bits_ranked VC.bytes WC.bytes self.now) from q) }
+        ensures none { IfNone result (AreFalseFrom (bits_ranked VC.bytes WC.bytes self.now) from) }
+    {
+        let tally = &mut Tally::new();
+        let words = self.metered_words();
+        let mut place = place_at(&words, from, tally);
+        next_in(&words, &mut place, tally)
+    }
+}
+
 /// A place among the bits of a column, which goes forward alone. It keeps the word in which it stands and the number
 /// of set bits before it.
 #[derive(Drop)]

@@ -2,7 +2,7 @@
 ghost use Rattle.columnar_core.specs.Format.{IsSound};
 
 use crate::callers::writes_where_it_fits;
-use crate::rows::{after_a_write, column_of, writes, writes_item};
+use crate::rows::{after_a_write, column_of, repeated, writes, writes_item};
 use columnar_bits::bools::Bools;
 use columnar_bytes::stash::Stash;
 use columnar_cells::index_mut::IndexMut;
@@ -143,12 +143,7 @@ fn durations_and_boxes(rt: HostRuntime) -> Result<(), Fail> {
 
 // Has a column of as many bits, all as `bit`, just one other once bit `index` is written the other way?
 fn one_bit_turned(alloc: Global, count: usize, bit: bool, index: usize) -> Result<bool, Fail> {
-    let mut column = Bools::<Vec<u64>, [u64; 2]>::empty(alloc);
-    for i in 0..count {
-        if column.push(bit).is_err() {
-            return Err(Fail::from("refused"));
-        }
-    }
+    let mut column: Bools<Vec<u64>, [u64; 2]> = repeated(alloc, count, bit)?;
     if !writes(&mut column, index, !bit) {
         return Ok(false);
     }
@@ -192,7 +187,8 @@ fn the_last_row_is_lent(rt: HostRuntime) -> Result<(), Fail> {
 fn the_last_row_is_lent_with_its_column(rt: HostRuntime) -> Result<(), Fail> {
     let mut pairs: (Vec<u64>, Vec<u64>) = column_of(rt.alloc(), [(7, 8), (9, 10)].as_slice())?;
     holds!(rt; last_written(&mut pairs, (1u64, 2u64)));
-    holds!(rt; reads(&pairs, [(7, 8), (1, 2)].as_slice()));
+    equal!(rt; pairs.0.as_slice(), [7, 1].as_slice());
+    equal!(rt; pairs.1.as_slice(), [8, 2].as_slice());
     let mut none = <(Vec<u64>, Vec<u64>)>::empty(rt.alloc());
     holds!(rt; !last_written(&mut none, (1u64, 2u64)));
     Ok(())
@@ -201,7 +197,6 @@ fn the_last_row_is_lent_with_its_column(rt: HostRuntime) -> Result<(), Fail> {
 // Writes the last pair by what is lent of it; false where there is none
 fn last_written(pairs: &mut (Vec<u64>, Vec<u64>), item: (u64, u64)) -> bool
     requires { IsSound ⟦<(Vec<u64>, Vec<u64>) as Column>⟧.format (⟦<(Vec<u64>, Vec<u64>) as Column>⟧.content pairs.old) }
-    ensures { IsSound ⟦<(Vec<u64>, Vec<u64>) as Column>⟧.format (⟦<(Vec<u64>, Vec<u64>) as Column>⟧.content pairs.new) }
 {
     match pairs.last_mut() {
         Some(mut last) => last.set_checked(item),

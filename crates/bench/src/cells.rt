@@ -1,8 +1,7 @@
 //! Cells that are written in place: single numbers, and one field of rows of three.
 use crate::clock::{Random, line};
-use crate::input;
 use crate::times::Times;
-use crate::work;
+use crate::{input, work};
 use std::io::Write;
 use std::rt::Clock;
 

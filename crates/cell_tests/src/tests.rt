@@ -174,8 +174,11 @@ fn the_last_row_is_lent(rt: HostRuntime) -> Result<(), Fail> {
     }
     equal!(rt; numbers.as_slice(), [1, 9].as_slice());
     let mut sizes: Usizes = column_of(rt.alloc(), [1, 2].as_slice())?;
-    *sizes.get_mut(0) += 8;
-    equal!(rt; sizes.values.as_slice(), [9, 2].as_slice());
+    match sizes.last_mut() {
+        Some(last) => *last = 9,
+        None => {}
+    }
+    equal!(rt; sizes.values.as_slice(), [1, 9].as_slice());
     let mut none = Vec::<u64>::new(rt.alloc());
     holds!(rt; IndexMut::last_mut(&mut none).is_none());
     let mut units: Empties = column_of(rt.alloc(), [()].as_slice())?;
@@ -202,6 +205,40 @@ fn last_written(pairs: &mut (Vec<u64>, Vec<u64>), item: (u64, u64)) -> bool
         Some(mut last) => last.set_checked(item),
         None => false,
     }
+}
+
+// Writes the last row that may be absent
+fn last_option_written(column: &mut Options<Vec<u64>>, item: Option<u64>) -> bool
+    requires { IsSound ⟦<Options<Vec<u64>> as Column>⟧.format (⟦<Options<Vec<u64>> as Column>⟧.content column.old) }
+{
+    match column.last_mut() {
+        Some(mut last) => last.set_checked(item),
+        None => false,
+    }
+}
+
+// Writes an item of the last list
+fn last_list_written(lists: &mut Vecs<Vec<u64>>, at: usize, item: u64) -> bool
+    requires { IsSound ⟦<Vecs<Vec<u64>> as Column>⟧.format (⟦<Vecs<Vec<u64>> as Column>⟧.content lists.old) }
+{
+    match lists.last_mut() {
+        Some(mut last) => last.set_item_checked(at, item),
+        None => false,
+    }
+}
+
+#[test]
+fn the_last_option_and_the_last_list(rt: HostRuntime) -> Result<(), Fail> {
+    let mut column: Options<Vec<u64>> = column_of(rt.alloc(), [None, Some(7)].as_slice())?;
+    holds!(rt; last_option_written(&mut column, Some(8)));
+    equal!(rt; column.somes.as_slice(), [8].as_slice());
+    holds!(rt; !last_option_written(&mut Options::<Vec<u64>>::empty(rt.alloc()), Some(8)));
+    let mut lists = Vecs::<Vec<u64>>::empty(rt.alloc());
+    holds!(rt; !last_list_written(&mut lists, 0, 9));
+    holds!(rt; takes(&mut lists, [1, 2].as_slice()) && takes(&mut lists, [3, 4].as_slice()));
+    holds!(rt; last_list_written(&mut lists, 1, 9));
+    equal!(rt; lists.values.as_slice(), [1, 2, 3, 9].as_slice());
+    Ok(())
 }
 
 #[test]

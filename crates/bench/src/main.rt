@@ -4,6 +4,7 @@
 
 mod amount;
 mod bits;
+mod cells;
 mod clock;
 mod input;
 mod kinds;
@@ -31,6 +32,7 @@ fn all<R: Clock, O: Write>(times: &mut Times<'_, R, O>) -> Option<()> {
         strings::measure(times)?;
         kinds::measure(times)?;
         repeated::measure(times)?;
+        cells::measure(times)?;
     }
     Some(())
 }

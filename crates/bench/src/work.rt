@@ -13,6 +13,8 @@ use columnar_base::storage::Storage;
 use columnar_base::traits::{Column, Index, Len, Push, PushRef};
 use columnar_base::view::View;
 use columnar_bytes::indexed::{encode, validate, write};
+use columnar_cells::items::{Field, SetItem};
+use columnar_cells::lent::ValueMut;
 use columnar_core::bytes::{AsBytes, Stored};
 use columnar_core::container::ExtendFrom;
 use columnar_core::slice::Slice;
@@ -81,6 +83,31 @@ fn total<V: Len + Index<Ref: Amount>>(view: &V) -> u64
         sum = sum.wrapping_add(view.get(i).amount());
     }
     sum
+}
+
+/// Adds one to the number at each place that there is.
+#[inline(never)]
+pub fn add_each<C: ValueMut<Value = u64>>(column: &mut C, places: &[usize])
+    requires { IsSound C.format (C.content column.old) }
+    ensures { IsSound C.format (C.content column.new) }
+{
+    for place in places {
+        if *place < column.len() {
+            let value = column.value_mut(*place);
+            *value = value.wrapping_add(1);
+        }
+    }
+}
+
+/// Writes the second field of the row at each place that there is.
+#[inline(never)]
+pub fn set_second_each<C: SetItem<Field<1>, u64>>(column: &mut C, places: &[usize])
+    requires { IsSound C.format (C.content column.old) }
+    ensures { IsSound C.format (C.content column.new) }
+{
+    for place in places {
+        column.set_item_checked(*place, Field::<1>, *place as u64);
+    }
 }
 
 #[inline(never)]

@@ -25,6 +25,24 @@ pub fn column_of<T: Item + Copy, C: Storage + Push<T>>(alloc: Global, rows: &[T]
     Ok(column)
 }
 
+/// A column of as many rows as `count`, all of them this one.
+pub fn repeated<T: Item + Copy, C: Storage + Push<T>>(
+    alloc: Global,
+    count: usize,
+    item: T,
+) -> Result<C, Fail>
+    requires { T.valid item }
+    ensures { IfOk result (λ c. IsSound C.format (C.content c)) }
+{
+    let mut column = C::empty(alloc);
+    for _row in 0..count {
+        if column.push(item).is_err() {
+            return Err(Fail::from("refused"));
+        }
+    }
+    Ok(column)
+}
+
 /// Writes row `index` where the item fits.
 pub fn writes<T: Item + Drop, C: SetRow<T>>(column: &mut C, index: usize, item: T) -> bool
     requires sound { IsSound C.format (C.content column.old) }

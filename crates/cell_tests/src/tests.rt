@@ -2,7 +2,7 @@
 ghost use Rattle.columnar_core.specs.Format.{IsSound};
 
 use crate::callers::writes_where_it_fits;
-use crate::rows::{after_a_write, column_of, writes, writes_item};
+use crate::rows::{after_a_write, column_of, repeated, writes, writes_item};
 use columnar_bits::bools::Bools;
 use columnar_bytes::stash::Stash;
 use columnar_cells::index_mut::IndexMut;
@@ -143,12 +143,7 @@ fn durations_and_boxes(rt: HostRuntime) -> Result<(), Fail> {
 
 // Has a column of as many bits, all as `bit`, just one other once bit `index` is written the other way?
 fn one_bit_turned(alloc: Global, count: usize, bit: bool, index: usize) -> Result<bool, Fail> {
-    let mut column = Bools::<Vec<u64>, [u64; 2]>::empty(alloc);
-    for i in 0..count {
-        if column.push(bit).is_err() {
-            return Err(Fail::from("refused"));
-        }
-    }
+    let mut column: Bools<Vec<u64>, [u64; 2]> = repeated(alloc, count, bit)?;
     if !writes(&mut column, index, !bit) {
         return Ok(false);
     }
@@ -179,8 +174,11 @@ fn the_last_row_is_lent(rt: HostRuntime) -> Result<(), Fail> {
     }
     equal!(rt; numbers.as_slice(), [1, 9].as_slice());
     let mut sizes: Usizes = column_of(rt.alloc(), [1, 2].as_slice())?;
-    *sizes.get_mut(0) += 8;
-    equal!(rt; sizes.values.as_slice(), [9, 2].as_slice());
+    match sizes.last_mut() {
+        Some(last) => *last = 9,
+        None => {}
+    }
+    equal!(rt; sizes.values.as_slice(), [1, 9].as_slice());
     let mut none = Vec::<u64>::new(rt.alloc());
     holds!(rt; IndexMut::last_mut(&mut none).is_none());
     let mut units: Empties = column_of(rt.alloc(), [()].as_slice())?;
@@ -192,7 +190,8 @@ fn the_last_row_is_lent(rt: HostRuntime) -> Result<(), Fail> {
 fn the_last_row_is_lent_with_its_column(rt: HostRuntime) -> Result<(), Fail> {
     let mut pairs: (Vec<u64>, Vec<u64>) = column_of(rt.alloc(), [(7, 8), (9, 10)].as_slice())?;
     holds!(rt; last_written(&mut pairs, (1u64, 2u64)));
-    holds!(rt; reads(&pairs, [(7, 8), (1, 2)].as_slice()));
+    equal!(rt; pairs.0.as_slice(), [7, 1].as_slice());
+    equal!(rt; pairs.1.as_slice(), [8, 2].as_slice());
     let mut none = <(Vec<u64>, Vec<u64>)>::empty(rt.alloc());
     holds!(rt; !last_written(&mut none, (1u64, 2u64)));
     Ok(())
@@ -201,12 +200,45 @@ fn the_last_row_is_lent_with_its_column(rt: HostRuntime) -> Result<(), Fail> {
 // Writes the last pair by what is lent of it; false where there is none
 fn last_written(pairs: &mut (Vec<u64>, Vec<u64>), item: (u64, u64)) -> bool
     requires { IsSound ⟦<(Vec<u64>, Vec<u64>) as Column>⟧.format (⟦<(Vec<u64>, Vec<u64>) as Column>⟧.content pairs.old) }
-    ensures { IsSound ⟦<(Vec<u64>, Vec<u64>) as Column>⟧.format (⟦<(Vec<u64>, Vec<u64>) as Column>⟧.content pairs.new) }
 {
     match pairs.last_mut() {
         Some(mut last) => last.set_checked(item),
         None => false,
     }
+}
+
+// Writes the last row that may be absent
+fn last_option_written(column: &mut Options<Vec<u64>>, item: Option<u64>) -> bool
+    requires { IsSound ⟦<Options<Vec<u64>> as Column>⟧.format (⟦<Options<Vec<u64>> as Column>⟧.content column.old) }
+{
+    match column.last_mut() {
+        Some(mut last) => last.set_checked(item),
+        None => false,
+    }
+}
+
+// Writes an item of the last list
+fn last_list_written(lists: &mut Vecs<Vec<u64>>, at: usize, item: u64) -> bool
+    requires { IsSound ⟦<Vecs<Vec<u64>> as Column>⟧.format (⟦<Vecs<Vec<u64>> as Column>⟧.content lists.old) }
+{
+    match lists.last_mut() {
+        Some(mut last) => last.set_item_checked(at, item),
+        None => false,
+    }
+}
+
+#[test]
+fn the_last_option_and_the_last_list(rt: HostRuntime) -> Result<(), Fail> {
+    let mut column: Options<Vec<u64>> = column_of(rt.alloc(), [None, Some(7)].as_slice())?;
+    holds!(rt; last_option_written(&mut column, Some(8)));
+    equal!(rt; column.somes.as_slice(), [8].as_slice());
+    holds!(rt; !last_option_written(&mut Options::<Vec<u64>>::empty(rt.alloc()), Some(8)));
+    let mut lists = Vecs::<Vec<u64>>::empty(rt.alloc());
+    holds!(rt; !last_list_written(&mut lists, 0, 9));
+    holds!(rt; takes(&mut lists, [1, 2].as_slice()) && takes(&mut lists, [3, 4].as_slice()));
+    holds!(rt; last_list_written(&mut lists, 1, 9));
+    equal!(rt; lists.values.as_slice(), [1, 2, 3, 9].as_slice());
+    Ok(())
 }
 
 #[test]

@@ -85,4 +85,19 @@ impl<'b, C: Len> RowMut<'b, C> {
         let index = self.index;
         self.column.set_item(index, at, item);
     }
+    /// Writes the item at a place of the row, or answers false and changes nothing, as `set_item_checked`.
+    pub fn set_item_checked<P: Copy, T: Item + Drop>(&mut self, at: P, item: T) -> bool
+    where
+        C: SetItem<P, T>,
+        requires sound { IsSound C.format (C.content self.old.column.now) }
+        requires valid { T.valid item }
+        ensures same_reference { self.new.column.ghost_name ≡ self.old.column.ghost_name }
+        ensures index { self.new.index ≡ self.old.index }
+        ensures exact { IsTrue result ↔ ((self.old.index < length (C.format.rows (C.content self.old.column.now))) × C.fits (row_at (C.format.rows (C.content self.old.column.now)) self.old.index) at item) }
+        ensures written { IsTrue result → Wrote C.format (C.content self.old.column.now) (C.content self.new.column.now) self.old.index (C.put (row_at (C.format.rows (C.content self.old.column.now)) self.old.index) at (T.meaning item)) }
+        ensures kept { result ≡ false → self.new.column.now ≡ self.old.column.now }
+    {
+        let index = self.index;
+        self.column.set_item_checked(index, at, item)
+    }
 }

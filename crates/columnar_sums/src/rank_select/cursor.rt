@@ -216,6 +216,13 @@ impl<'a, CC: Words, VC: Words, WC: Words> Cursor<'a, CC, VC, WC> {
         self.rank
     }
 
+    // The same, for a body that counts what it reads: a number that the cursor keeps.
+    pub(crate) fn trues_before(&self) -> u64
+        ensures { result ≡ ones self.now.bits self.now.pos }
+    {
+        self.rank
+    }
+
     /// How many bits there are.
     pub fn total_bits(&self) -> usize
         ensures { result ≡ length self.now.bits }

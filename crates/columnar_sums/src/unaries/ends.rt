@@ -49,7 +49,7 @@ impl<'a, CC: Words, VC: Words, WC: Words> UnaryEnds<'a, CC, VC, WC> {
         ensures counts { tally.new.counts ≡ tally.old.counts }
     {
         match self.cursor.next_one_tallied(tally) {
-            Some(place) => Some(place as u64 - (self.cursor.rank() - 1)),
+            Some(place) => Some(place as u64 - (self.cursor.trues_before() - 1)),
             None => None,
         }
     }

@@ -1,12 +1,12 @@
 //! Offsets in unary that grow and are cut.
-ghost use Rattle.std.specs.Prelude.{◌≡◌, ℕ, ◌+◌, ◌-◌, ◌*◌, ◌/◌, ◌%◌, ◌^◌, ◌<◌, ◌≤◌, [], ◌∷◌, ◌++◌, length, true, OnOk, OnErr, IfErr, IsOk, refl};
+ghost use Rattle.std.specs.Prelude.{◌≡◌, ℕ, ◌+◌, ◌-◌, ◌*◌, ◌/◌, ◌%◌, ◌^◌, ◌<◌, ◌≤◌, [], ◌∷◌, ◌++◌, length, slice_range, true, OnOk, OnErr, IfErr, refl};
 ghost use Rattle.columnar_core.specs.Format.{IsSound};
 ghost use Rattle.columnar_core.specs.Change.{Stayed};
 ghost use Rattle.columnar_core.specs.Bounds.{numbers, last_or};
-ghost use Rattle.columnar_core.specs.WordViews.{words_in, le_bytes};
-ghost use Rattle.columnar_bits.specs.BoolColumns.{bools_format, owned_content, owned_bits};
+ghost use Rattle.columnar_core.specs.WordViews.{words_in, le_bytes, view_bytes};
+ghost use Rattle.columnar_bits.specs.BoolColumns.{bools_format, owned_content, owned_bits, IsOfGrowth};
 ghost use Rattle.columnar_sums.specs.Counting.{ones};
-ghost use Rattle.columnar_sums.specs.RankColumns.{ranks_format, owned_ranks, ranked_bits};
+ghost use Rattle.columnar_sums.specs.RankColumns.{ranks_format, ranks_content, bits_ranked, owned_ranks, ranked_bits};
 ghost use Rattle.columnar_sums.specs.RankLaws.{ranks_lawful};
 ghost use Rattle.columnar_sums.specs.Unary.{zeros};
 ghost use Rattle.columnar_sums.specs.UnaryLaws.{unary_lawful};
@@ -176,6 +176,25 @@ fn push_long(bits: &mut Held, count: usize) -> Result<(), GrowError>
     }
 }
 
+// Appends the bits of the range of others; all or none.
+fn copy_bits(
+    bits: &mut Held,
+    other: &RankSelect<View<'_, u64>, View<'_, u64>, View<'_, u64>>,
+    range: Range<usize>,
+) -> Result<(), GrowError>
+    requires sound { IsSound ranks_format (owned_ranks bits.old) }
+    requires other { IsSound ranks_format (ranks_content view_bytes view_bytes view_bytes other.now) }
+    requires ordered { range.start ≤ range.«end» }
+    requires in_range { range.«end» ≤ length (bits_ranked view_bytes view_bytes other.now) }
+    ensures ok { OnOk result (ranked_bits bits.new ≡ ranked_bits bits.old ++ slice_range (bits_ranked view_bytes view_bytes other.now) range.start range.«end») }
+    ensures err { OnErr result (Stayed ranks_format (owned_ranks bits.old) (owned_ranks bits.new)) }
+    ensures length { result ≡ Err GrowError.Length → 2 ^ 64 ≤ length (ranked_bits bits.old) + (range.«end» - range.start) }
+    ensures kinds { IfErr result IsOfGrowth }
+    ensures sound { IsSound ranks_format (owned_ranks bits.new) }
+{
+    bits.extend_ranked_tallied(other, range, &mut Tally::new())
+}
+
 impl Owned {
     // The last offset, 0 where there is none.
     fn last_end(&self) -> u64
@@ -297,8 +316,7 @@ impl<'x> ExtendShifted<Viewed<'x>> for Owned {
     ) -> Result<(), GrowError> {
         let from = lower as usize + range.start;
         let to = view.cut_end(range.end);
-        self.bits
-            .extend_ranked_tallied(&view.bits, from..to, &mut Tally::new())
+        copy_bits(&mut self.bits, &view.bits, from..to)
     }
 }
 

@@ -1,6 +1,6 @@
 use Rattle.std.proofs.Common.{inl}
 use Rattle.columnar_base.specs.ChangeLaws.{passed_on}
-use Rattle.columnar_lists.specs.ListLaws.{lists_parts}
+use Rattle.columnar_lists.specs.ListLaws.{lists_parts, lists_last}
 use Rattle.columnar_lists.specs.ListPushes.{items_not_taken, on_drained, on_not_drained, on_end_refused}
 use Rattle.columnar_lists.proofs.vector.Vecs.push_iter.Goals as goal
 
@@ -31,3 +31,6 @@ returns-in_err-take_items-clause-cause g c =
 
 pub returns-clause-cause : goal.returns-clause-cause
 returns-clause-cause g c = let p = c.in_ok-take_items.ensures.ok in on_end_refused c.end_list.result g.BC.Column.format g.TC.Column.format (g.BC.Column.content c.args.self.now.bounds) (g.BC.Column.content c.end_list.new.bounds) (g.TC.Column.content c.end_list.new.values) c.len-before.result g.I.Iterator.next_gives c.args.items g.I.Item.Item.meaning p.0 p.1.0 p.1.1 c.end_list.ensures.err
+
+pub end_list-requires-clause-last : goal.end_list-requires-clause-last
+end_list-requires-clause-last g c = lists_last g.BC.Column.format g.TC.Column.format c.len-before.result c.requires.sound c.len-before.ensures

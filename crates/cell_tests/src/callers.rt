@@ -120,3 +120,13 @@ pub fn writes_lent(column: &mut Pair, index: usize)
 {
     column.get_mut(index).set((7u64, 9u64));
 }
+
+/// Writes a value of one part, by the part's own field.
+pub fn writes_part(column: &mut Pair, index: usize)
+    requires sound { IsSound ⟦<Vec<u64> as Column>⟧.format (⟦<Vec<u64> as Column>⟧.content column.old.0) }
+    requires in_range { index < length (⟦<Vec<u64> as Column>⟧.format.rows (⟦<Vec<u64> as Column>⟧.content column.old.0)) }
+    ensures first { Wrote ⟦<Vec<u64> as Column>⟧.format (⟦<Vec<u64> as Column>⟧.content column.old.0) (⟦<Vec<u64> as Column>⟧.content column.new.0) index (word_row 9) }
+    ensures second { column.new.1 ≡ column.old.1 }
+{
+    *IndexMut::get_mut(&mut column.0, index) = 9;
+}

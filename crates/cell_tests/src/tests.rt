@@ -234,10 +234,10 @@ fn the_last_option_and_the_last_list(rt: HostRuntime) -> Result<(), Fail> {
     equal!(rt; column.somes.as_slice(), [8].as_slice());
     holds!(rt; !last_option_written(&mut Options::<Vec<u64>>::empty(rt.alloc()), Some(8)));
     let mut lists = Vecs::<Vec<u64>>::empty(rt.alloc());
-    holds!(rt; !last_list_written(&mut lists, 0, 9));
     holds!(rt; takes(&mut lists, [1, 2].as_slice()) && takes(&mut lists, [3, 4].as_slice()));
     holds!(rt; last_list_written(&mut lists, 1, 9));
     equal!(rt; lists.values.as_slice(), [1, 2, 3, 9].as_slice());
+    holds!(rt; !last_list_written(&mut Vecs::<Vec<u64>>::empty(rt.alloc()), 0, 9));
     Ok(())
 }
 

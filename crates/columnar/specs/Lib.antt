@@ -23,6 +23,13 @@ pub use Rattle.columnar_sums.specs.Options
 pub use Rattle.columnar_sums.specs.Results
 pub use Rattle.columnar_sums.specs.Discriminants
 pub use Rattle.columnar_sums.specs.DiscriminantLaws
+pub use Rattle.columnar_variants.specs.Variants
+pub use Rattle.columnar_variants.specs.VariantLaws
+pub use Rattle.columnar_variants.specs.Duals
+pub use Rattle.columnar_variants.specs.DualLaws
+pub use Rattle.columnar_types.specs.Owned
+pub use Rattle.columnar_types.specs.OwnedLaws
+pub use Rattle.columnar_types.specs.Made
 pub use Rattle.columnar_nested.specs.Forest
 pub use Rattle.columnar_nested.specs.Layout
 pub use Rattle.columnar_nested.specs.TreeRows

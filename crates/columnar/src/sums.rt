@@ -4,3 +4,4 @@ pub mod discriminant;
 pub mod option;
 pub mod rank_select;
 pub mod result;
+pub mod variants;

@@ -1,8 +1,8 @@
-use Rattle.std.proofs.Common.{List, [], ◌∷◌, ◌++◌, ◌≡◌, ◌∙◌, map, true, ap}
+use Rattle.std.proofs.Common.{List, [], ◌∷◌, ◌++◌, ◌≡◌, ◌∙◌, map, ap}
 use Rattle.std.proofs.lemmas.List.{map-append}
 use Rattle.columnar_base.specs.Row.{Row}
-use Rattle.columnar_base.specs.Format.{Format, Content, IsSound, all_alike, refuses_more}
-use Rattle.columnar_base.specs.Change.{Took, Refused, IsTrueOf}
+use Rattle.columnar_base.specs.Format.{Format, Content, IsSound}
+use Rattle.columnar_base.specs.Change.{Took, Refused}
 use Rattle.columnar_base.specs.ChangeLaws.{true_from}
 use Rattle.columnar_base.specs.declared.fault.GrowError.{GrowError}
 use Rattle.columnar_types.specs.Made.{Made, NotMade}

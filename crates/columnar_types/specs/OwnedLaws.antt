@@ -1,6 +1,6 @@
 -- Rows that have a value of a type.
-use Rattle.std.proofs.Common.{◌≡◌, ℕ, zero, suc, ◌+◌, ◌<◌, ◌≤◌, Bool, true, false, not, ◌||◌, List, [], ◌∷◌, ◌++◌, length, take, map, refl, sym, ap, ◌∙◌, arith}
-use Rattle.std.specs.Prelude.{All, slice_get, Some, nat_eq}
+use Rattle.std.proofs.Common.{◌≡◌, ℕ, zero, suc, ◌+◌, Bool, true, false, not, ◌||◌, List, [], ◌∷◌, ◌++◌, length, take, map, refl, sym, ap, ◌∙◌, arith}
+use Rattle.std.specs.Prelude.{slice_get, Some, nat_eq}
 use Rattle.std.proofs.lemmas.Bool.{eq-eqb, eqb-true}
 use Rattle.std.proofs.lemmas.List.{length-map}
 use Rattle.std.specs.Str.{IsUtf8, is_utf8}
@@ -11,7 +11,7 @@ use Rattle.std.proofs.Math.Seq.{take-length}
 use Rattle.columnar_base.specs.Row.{Row, list, items_of}
 use Rattle.columnar_base.specs.RowLaws.{items_of-list}
 use Rattle.columnar_base.specs.ChangeLaws.{take-suc_get}
-use Rattle.columnar_base.specs.Texts.{bytes_of, text_row}
+use Rattle.columnar_base.specs.Texts.{text_row}
 use Rattle.columnar_core.specs.Bytes.{AreBytes}
 use Rattle.columnar_strings.specs.StringLaws.{bytes_back}
 use Rattle.columnar_base.specs.declared.fault.OwnError.{OwnError}

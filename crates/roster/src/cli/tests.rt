@@ -9,6 +9,21 @@ static USAGE_LINE: &str = "usage: roster [first | write PATH | check PATH]\n";
 
 static CANNOT_WRITE: &str = "failed: cannot write\n";
 
+static CANNOT_READ: &str = "failed: cannot read\n";
+
+// The slices of the roster, and the ages: 20, 21, 22, and twice each number below 1024
+static SHOWN: &str = "align: 8, bytes.len(): 8
+align: 1, bytes.len(): 5
+align: 8, bytes.len(): 8
+align: 8, bytes.len(): 8200
+align: 8, bytes.len(): 16400
+align: 1, bytes.len(): 16220
+align: 8, bytes.len(): 16400
+align: 1, bytes.len(): 1026
+align: 8, bytes.len(): 8208
+Present values summed: 1047615
+";
+
 // Takes so many bytes, and then fails
 #[derive(Drop)]
 struct Brief {
@@ -93,7 +108,6 @@ fn is_misuse(rt: &HostRuntime, words: &[&str]) -> Result<bool, Fail> {
 
 #[test]
 fn every_other_use_prints_the_usage_line(rt: HostRuntime) -> Result<(), Fail> {
-    assert!(rt; is_misuse(&rt, [].as_slice())?);
     assert!(rt; is_misuse(&rt, [""].as_slice())?);
     assert!(rt; is_misuse(&rt, ["First"].as_slice())?);
     assert!(rt; is_misuse(&rt, ["first "].as_slice())?);
@@ -101,8 +115,8 @@ fn every_other_use_prints_the_usage_line(rt: HostRuntime) -> Result<(), Fail> {
     assert!(rt; is_misuse(&rt, ["first", "first"].as_slice())?);
     assert!(rt; is_misuse(&rt, ["write"].as_slice())?);
     assert!(rt; is_misuse(&rt, ["check"].as_slice())?);
-    assert!(rt; is_misuse(&rt, ["write", "a"].as_slice())?);
-    assert!(rt; is_misuse(&rt, ["check", "a"].as_slice())?);
+    assert!(rt; is_misuse(&rt, ["Write", "a"].as_slice())?);
+    assert!(rt; is_misuse(&rt, ["check", "a", "b"].as_slice())?);
     assert!(rt; is_misuse(&rt, ["write", "a", "b"].as_slice())?);
     Ok(())
 }
@@ -133,5 +147,59 @@ fn a_standard_error_that_fails_changes_no_status(rt: HostRuntime) -> Result<(), 
         assert_eq!(rt; done.status, 1);
         assert_eq!(rt; done.err.as_slice(), front(CANNOT_WRITE.as_bytes(), limit));
     }
+    Ok(())
+}
+
+#[test]
+fn no_word_shows_the_roster(rt: HostRuntime) -> Result<(), Fail> {
+    let done = outcome_of(&rt, [].as_slice(), 1000, 100)?;
+    assert_eq!(rt; done.status, 0);
+    assert_eq!(rt; done.out.as_slice(), SHOWN.as_bytes());
+    let done = outcome_of(&rt, [].as_slice(), 100, 100)?;
+    assert_eq!(rt; done.status, 1);
+    assert_eq!(rt; done.err.as_slice(), CANNOT_WRITE.as_bytes());
+    Ok(())
+}
+
+// What a check of these bytes prints, and its status
+fn judged(rt: &HostRuntime, bytes: &[u8]) -> Result<Outcome, Fail> {
+    let alloc = rt.alloc();
+    let mut out = Brief {
+        taken: Vec::new(alloc),
+        limit: 100,
+    };
+    let status = judge(alloc, bytes.to_vec(alloc)?, &mut out).unwrap_or(9);
+    Ok(Outcome {
+        status,
+        out: out.taken,
+        err: Vec::new(alloc),
+    })
+}
+
+#[test]
+fn the_written_roster_is_accepted_and_no_part_of_it(rt: HostRuntime) -> Result<(), Fail> {
+    let bytes = roster_bytes(rt.alloc()).ok().ok_or("no roster")?;
+    assert_eq!(rt; bytes.len(), 66568);
+    let done = judged(&rt, bytes.as_slice())?;
+    assert_eq!(rt; done.status, 0);
+    assert_eq!(rt; done.out.as_slice(), b"rows: 1026\n".as_slice());
+    let done = judged(&rt, front(bytes.as_slice(), 66560))?;
+    assert_eq!(rt; done.status, 1);
+    assert_eq!(rt; done.out.as_slice(), b"refused: 6 in slice 8\n".as_slice());
+    for words in 0..100 {
+        let done = judged(&rt, front(bytes.as_slice(), 8 * words))?;
+        assert_eq!(rt; done.status, 1);
+    }
+    Ok(())
+}
+
+#[test]
+fn missing_files_and_folders_are_told(rt: HostRuntime) -> Result<(), Fail> {
+    let done = outcome_of(&rt, ["check", "no/such/file"].as_slice(), 100, 100)?;
+    assert_eq!(rt; done.status, 1);
+    assert_eq!(rt; done.err.as_slice(), CANNOT_READ.as_bytes());
+    let done = outcome_of(&rt, ["write", "no/such/file"].as_slice(), 100, 100)?;
+    assert_eq!(rt; done.status, 1);
+    assert_eq!(rt; done.err.as_slice(), CANNOT_WRITE.as_bytes());
     Ok(())
 }

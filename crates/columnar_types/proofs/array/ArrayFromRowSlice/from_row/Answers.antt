@@ -1,4 +1,4 @@
-use Rattle.std.proofs.Common.{arith, ◌≡◌, length, ◌∙◌, sym}
+use Rattle.std.proofs.Common.{arith, ◌∙◌, sym}
 use Rattle.columnar_base.specs.Format.{part, part_rows}
 use Rattle.columnar_base.specs.ArrayLaws.{array_row_is}
 use Rattle.columnar_types.specs.OwnedLaws.{array_fit, array_length_why, lists_level}

@@ -1,0 +1,16 @@
+//! What a column of a sum type of one's own is made of: the variants of its rows, and the values of each variant in a column of
+//! their own. With two variants, each trait of a container is one call of these.
+
+pub use columnar_variants::case::{push_case, push_ref_case, rows_before};
+pub use columnar_variants::copy::extend_variants;
+pub use columnar_variants::count::{count_variants, judge_counts};
+pub use columnar_variants::dual::bytes::{
+    byte_slice_of_dual, check_dual, count_dual, judge_dual, load_dual, rows_in_dual, sizes_of_dual,
+    slice_of_dual, view_of_dual,
+};
+pub use columnar_variants::dual::copy::extend_dual;
+pub use columnar_variants::dual::{
+    get_dual, len_of_dual, push_first, push_first_ref, push_second, push_second_ref, reserve_dual,
+    truncate_dual,
+};
+pub use columnar_variants::run::push_variants;

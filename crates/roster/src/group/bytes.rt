@@ -1,0 +1,90 @@
+//! Groups in slices of bytes: those of the solos, of the teams, and of the variants.
+ghost use Rattle.std.specs.Prelude.{◌++◌, refl};
+ghost use Rattle.columnar.specs.Discriminants.{forms_content};
+ghost use Rattle.columnar.specs.DualLaws.{dual_storable, dual_counted};
+
+use super::GroupContainer;
+use columnar::bytes::ByteSlice;
+use columnar::bytes::indexed::DecodedStore;
+use columnar::common::{Tally, View};
+use columnar::fault::{GrowError, StoreFault};
+use columnar::primitive::offsets::Words;
+use columnar::sums::discriminant::Variants;
+use columnar::sums::variants::{
+    byte_slice_of_dual, check_dual, count_dual, judge_dual, load_dual, rows_in_dual, sizes_of_dual,
+    slice_of_dual, view_of_dual,
+};
+use columnar::{AsBytes, Check, ContainerBytes, FromBytes, Len, Stored};
+use std::alloc::Global;
+
+/// The rules of the solos, of the teams, of the variants, then that each variant is one of the two, then that there are as
+/// many values as rows of their variant: `Variant` and `Parts`, at the first slice.
+impl<SC: Stored, TC: Stored, CVar: Variants, COff: Words> Stored
+    for GroupContainer<SC, TC, CVar, COff> {
+    ghost storable = { dual_storable SC.format TC.format SC.storable TC.storable };
+
+    ghost counted = { λ g. dual_counted SC.format TC.format (SC.content g.Solo) (TC.content g.Team) (forms_content CVar.bytes COff.bytes g.indexes) (SC.counted g.Solo) (TC.counted g.Team) refl };
+
+    fn slice_count() -> usize {
+        count_dual::<SC, TC>()
+    }
+
+    fn element_sizes(sizes: &mut Vec<usize>) -> Result<(), GrowError> {
+        sizes_of_dual::<SC, TC>(sizes)
+    }
+
+    fn judge_tallied<L>(
+        store: &DecodedStore<'_>,
+        offset: usize,
+        tally: &mut Tally<L>,
+    ) -> Result<(), StoreFault> {
+        judge_dual::<SC, TC, L>(store, offset, tally)
+    }
+
+    fn rows_in(store: &DecodedStore<'_>, offset: usize) -> usize {
+        rows_in_dual::<SC, TC>(store, offset)
+    }
+}
+
+impl<SC: Check + Len, TC: Check + Len, CVar: Variants, COff: Words> Check
+    for GroupContainer<SC, TC, CVar, COff> {
+    fn check_from_tallied<L>(&self, from: usize, tally: &mut Tally<L>) -> Result<(), StoreFault> {
+        check_dual(&self.Solo, &self.Team, &self.indexes, from, tally)
+    }
+}
+
+impl<'s, SC: FromBytes<'s>, TC: FromBytes<'s>> FromBytes<'s>
+    for GroupContainer<SC, TC, &'s [u8], View<'s, u64>> {
+    fn from_store(store: &DecodedStore<'s>, offset: &mut usize) -> Self {
+        let (solos, teams, indexes) = view_of_dual::<SC, TC>(store, offset);
+        GroupContainer {
+            Solo: solos,
+            Team: teams,
+            indexes,
+        }
+    }
+}
+
+impl<'s, SC: AsBytes<'s>, TC: AsBytes<'s>> AsBytes<'s>
+    for GroupContainer<SC, TC, &'s [u8], View<'s, u64>> {
+    fn get_byte_slice(&self, index: usize) -> (u64, ByteSlice<'s>) {
+        slice_of_dual(&self.Solo, &self.Team, &self.indexes, index)
+    }
+}
+
+/// Where memory is refused for a part, those that were loaded are dropped.
+impl<SC: ContainerBytes + Drop, TC: ContainerBytes + Drop> ContainerBytes
+    for GroupContainer<SC, TC, Vec<u8>, Vec<u64>> {
+    fn byte_slice(&self, index: usize) -> ByteSlice<'_> {
+        byte_slice_of_dual(&self.Solo, &self.Team, &self.indexes, index)
+    }
+
+    fn load(alloc: Global, store: &DecodedStore<'_>, offset: usize) -> Result<Self, GrowError> {
+        let (solos, teams, indexes) = load_dual::<SC, TC>(alloc, store, offset)?;
+        Ok(GroupContainer {
+            Solo: solos,
+            Team: teams,
+            indexes,
+        })
+    }
+}

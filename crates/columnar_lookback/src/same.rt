@@ -21,6 +21,7 @@ use columnar_primitive::empties::Empties;
 use columnar_primitive::offsets::Strides;
 use columnar_strings::string::{Strings, Text};
 use columnar_sums::option::Options;
+use columnar_sums::unaries::Unaries;
 use std::time::Duration;
 
 /// A column that tells whether a row is the same as an item: whether the relation of its format, an equivalence that
@@ -74,6 +75,12 @@ impl<CC: Count> SameAs<()> for Empties<CC> {
 }
 
 impl<BC: Words, HC: Words> SameAs<u64> for Strides<BC, HC> {
+    fn same(&self, at: usize, item: &u64) -> bool {
+        equals(self, at, item)
+    }
+}
+
+impl<CC: Words, VC: Words, WC: Words> SameAs<u64> for Unaries<CC, VC, WC> {
     fn same(&self, at: usize, item: &u64) -> bool {
         equals(self, at, item)
     }
@@ -174,6 +181,12 @@ impl<'x, CC: Count> SameAs<&'x ()> for Empties<CC> {
 }
 
 impl<'x, BC: Words, HC: Words> SameAs<&'x u64> for Strides<BC, HC> {
+    fn same(&self, at: usize, item: &&'x u64) -> bool {
+        SameAs::<u64>::same(self, at, *item)
+    }
+}
+
+impl<'x, CC: Words, VC: Words, WC: Words> SameAs<&'x u64> for Unaries<CC, VC, WC> {
     fn same(&self, at: usize, item: &&'x u64) -> bool {
         SameAs::<u64>::same(self, at, *item)
     }

@@ -1,4 +1,4 @@
-//! Tests of lists, strings, rows that may be absent, trees and framing, by their public calls alone. They stand here and
+//! Tests of lists, strings, rows that may be absent, bounds in unary, trees and framing, by their public calls alone. They stand here and
 //! not in the layers' own crates, since a crate with tests is proved twice: once without them, and once with them.
 #![tactic(auto)]
 
@@ -24,3 +24,5 @@ mod rows;
 mod strings;
 #[cfg(test)]
 mod trees;
+#[cfg(test)]
+mod unaries;

@@ -5,7 +5,7 @@ ghost use Rattle.columnar_base.specs.Format.{IsSound, representable};
 use columnar_core::bytes::{AsBytes, Check, Stored};
 use columnar_core::container::{Borrow, ContainerBytes, ExtendFrom, Reborrow, Storage};
 use columnar_core::fault::StoreFault;
-use columnar_core::offsets::Offsets;
+use columnar_core::offsets::{Offsets, PushAfter};
 use columnar_core::slice::Slice;
 use columnar_core::traits::{Clear, Column, Index, Item, Len, Push, PushRef};
 use columnar_core::view::View;
@@ -147,7 +147,7 @@ fn takes_three<'x, T: Item + Drop, C: Push<&'x T> + PushRef<T> + Push<T>>(
 }
 
 // Pushes lists from slices, vectors and a range of a view; which of them are taken?
-fn takes_each<'v, TC: ExtendFrom<View<'v, u64>> + PushRef<u64>, BC: Offsets + Push<u64>>(
+fn takes_each<'v, TC: ExtendFrom<View<'v, u64>> + PushRef<u64>, BC: Offsets + PushAfter>(
     lists: &mut Vecs<TC, BC>,
     items: &[u64],
     range: &Slice<View<'v, u64>>,

@@ -18,6 +18,7 @@ use columnar_base::view::View;
 use columnar_core::byte_slice::ByteSlice;
 use columnar_core::bytes::{AsBytes, Check, FromBytes, Stored};
 use columnar_core::container::ContainerBytes;
+use columnar_core::earlier::Kept;
 use columnar_core::store::DecodedStore;
 use columnar_core::words::Words;
 use columnar_sums::rank_select::RankSelect;
@@ -136,3 +137,6 @@ impl<TC: ContainerBytes + Drop, const N: u8> ContainerBytes
         Ok(Lookbacks { inner })
     }
 }
+
+impl<TC: ContainerBytes + Drop, const N: u8> Kept
+    for Lookbacks<TC, N, Vec<u8>, Vec<u64>, Vec<u64>, [u64; 2]> {}

@@ -15,6 +15,7 @@ use columnar_base::view::View;
 use columnar_core::byte_slice::ByteSlice;
 use columnar_core::bytes::{AsBytes, Check, FromBytes, Stored};
 use columnar_core::container::ContainerBytes;
+use columnar_core::earlier::Kept;
 use columnar_core::store::DecodedStore;
 use columnar_core::words::Words;
 use columnar_sums::option::Options;
@@ -110,3 +111,5 @@ impl<TC: ContainerBytes> ContainerBytes for Repeats<TC, Vec<u64>, Vec<u64>, [u64
         Ok(Repeats { inner })
     }
 }
+
+impl<TC: ContainerBytes + Drop> Kept for Repeats<TC, Vec<u64>, Vec<u64>, [u64; 2]> {}

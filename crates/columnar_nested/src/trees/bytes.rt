@@ -16,6 +16,7 @@ use columnar_base::view::View;
 use columnar_core::byte_slice::ByteSlice;
 use columnar_core::bytes::{AsBytes, Check, FromBytes, Stored};
 use columnar_core::container::ContainerBytes;
+use columnar_core::earlier::Kept;
 use columnar_core::store::DecodedStore;
 use columnar_core::words::{byte_count, word_at, word_count};
 use std::alloc::Global;
@@ -175,3 +176,5 @@ impl<TC: ContainerBytes> ContainerBytes for Trees<TC, Vec<u64>> {
         })
     }
 }
+
+impl<TC: ContainerBytes + Drop> Kept for Trees<TC, Vec<u64>> {}

@@ -8,7 +8,7 @@ use columnar_bytes::indexed::{encode, validate};
 use columnar_bytes::stash::Stash;
 use columnar_core::byte_slice::ByteSlice;
 use columnar_core::container::{Borrow, ContainerBytes, Storage, Truncate};
-use columnar_core::offsets::Offsets;
+use columnar_core::offsets::{Offsets, PushAfter};
 use columnar_core::traits::{Column, Index, Item, Len, Push, PushRef};
 use columnar_strings::string::Strings;
 use std::alloc::Global;
@@ -65,7 +65,7 @@ fn bounds_end_at_the_bytes(rt: HostRuntime) -> Result<(), Fail> {
 }
 
 // Pushes texts and bytes by value, behind a reference and by reference; which of them are taken?
-fn takes_each<BC: Offsets + Push<u64>, VC: Truncate + PushRef<u8>>(
+fn takes_each<BC: Offsets + PushAfter, VC: Truncate + PushRef<u8>>(
     texts: &mut Strings<BC, VC>,
     bytes: &[u8],
     boxed: &BoxedStr,

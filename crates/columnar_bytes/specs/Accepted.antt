@@ -4,7 +4,7 @@ use Rattle.columnar_core.specs.Format.{Format, IsSound, first}
 use Rattle.columnar_core.specs.Faults.{fault_of}
 use Rattle.columnar_core.specs.Frame.{Frame, IsLegal, IsStore, framed_slices}
 use Rattle.columnar_core.specs.declared.fault.StoreFault.{StoreFault}
-use Rattle.columnar_bytes.specs.Faults.{IsFirstBroken}
+use Rattle.columnar_bytes.specs.StructureFaults.{IsFirstBroken}
 
 -- The bytes are whole words that frame as many slices as the type has, and these make a well-formed column.
 pub record Accepts (f : Format) (bytes : List ℕ) : Type 0 where

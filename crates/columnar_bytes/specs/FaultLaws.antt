@@ -3,7 +3,7 @@ use Rattle.std.proofs.Common.{ℕ, List, ◌≢◌, ◌<◌, ◌%◌, arith, ⊎
 use Rattle.columnar_core.specs.Bytes.{word}
 use Rattle.columnar_core.specs.Frame.{IsLegal}
 use Rattle.columnar_core.specs.FrameLaws.{table_of}
-use Rattle.columnar_bytes.specs.Faults.{IsBroken}
+use Rattle.columnar_bytes.specs.StructureFaults.{IsBroken}
 use Rattle.columnar_core.specs.declared.fault.StoreFault.{StoreFault}
 use Rattle.columnar_core.specs.declared.fault.StoreFault.TheVariants.{NotWords, Empty, FirstOffset, Table, SliceCount, PastEnd, Backwards, ElementSize, HeadSize, Parts, Bounds, Counts, TailBits, Value, Lookback, Stride, Variant, Tree, Length}
 

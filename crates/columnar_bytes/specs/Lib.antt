@@ -1,4 +1,4 @@
-pub mod Faults
+pub mod StructureFaults
 pub mod FaultLaws
 pub mod PlanLaws
 pub mod Tight

@@ -1,7 +1,7 @@
 //! The table of a store, as people read it.
 ghost use Rattle.std.specs.Prelude.{◌≡◌, ◌+◌, ◌*◌, ◌≤◌, ◌↔◌, length, IsOk, IfOk, IfErr};
 ghost use Rattle.columnar.specs.Frame.{IsStore, framed_slices, slice_count};
-ghost use Rattle.columnar_bytes.specs.Faults.{IsFirstBroken};
+ghost use Rattle.columnar_bytes.specs.StructureFaults.{IsFirstBroken};
 
 use columnar::bytes::indexed::validate_structure;
 use columnar::fault::StoreFault;

@@ -1,7 +1,7 @@
 //! The structure of a store.
 ghost use Rattle.std.specs.Prelude.{◌≡◌, ◌+◌, ◌/◌, ◌≤◌, ◌↔◌, length, IsOk, IfErr, OnOk};
 ghost use Rattle.columnar_core.specs.Frame.{IsLegal, IsStore, framed_slices, slice_count};
-ghost use Rattle.columnar_bytes.specs.Faults.{IsFirstBroken};
+ghost use Rattle.columnar_bytes.specs.StructureFaults.{IsFirstBroken};
 
 use columnar_core::fault::StoreFault;
 use columnar_core::store::{round_up, word_in_bytes};

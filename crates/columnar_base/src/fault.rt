@@ -62,6 +62,17 @@ pub enum WriteFault<E: Drop> {
     Writer(E),
 }
 
+/// Why no column was made of a store, of its type's form or of the earlier one.
+#[derive(Clone, Copy, Debug, PartialEq, Eq, Error)]
+pub enum EitherFault {
+    /// The store is accepted for neither form.
+    #[error("{0}")]
+    Store(StoreFault),
+    /// The store is of the earlier form, and no column was made of it.
+    #[error("{0}")]
+    Grow(GrowError),
+}
+
 /// Why a tree's values were not summed.
 #[derive(Clone, Copy, Debug, PartialEq, Eq, Error)]
 pub enum SumError {

@@ -11,6 +11,8 @@ pub mod Stashes
 pub mod FramedContent
 pub mod StashLaws
 pub mod StashLends
+pub mod Either
+pub mod EitherLaws
 pub mod Machine
 pub mod States
 pub mod MachineLaws

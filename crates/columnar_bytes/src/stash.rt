@@ -8,6 +8,7 @@ mod aligned;
 mod clone;
 mod commands;
 mod convert;
+mod either;
 mod framed;
 mod grow;
 mod read;

@@ -1,5 +1,5 @@
 -- Columns of 64-bit numbers as offsets.
-use Rattle.std.proofs.Common.{◌≡◌, ℕ, zero, suc, ◌+◌, ◌%◌, ◌^◌, ◌<◌, ◌≤◌, Bool, false, ◌&&◌, List, [], ◌∷◌, length, drop, refl, sym, ◌∙◌, ap, arith}
+use Rattle.std.proofs.Common.{◌≡◌, ℕ, zero, suc, ◌+◌, ◌-◌, ◌/◌, ◌%◌, ◌^◌, ◌<◌, ◌≤◌, Bool, false, ◌&&◌, List, [], ◌∷◌, length, take, drop, map, refl, sym, ◌∙◌, ap, arith}
 use Rattle.std.specs.Prelude.{slice_get, Some, nat_le}
 use Rattle.std.proofs.lemmas.Option.{slice_get-map}
 use Rattle.std.proofs.lemmas.Bool.{le-leb, lt-leb}
@@ -7,12 +7,22 @@ use Rattle.std.proofs.Math.Nat.{mul-div-le}
 use Rattle.columnar_base.specs.Row.{Row, number}
 use Rattle.columnar_base.specs.Format.{Content, slice, both, part, plain, bytes_held}
 use Rattle.columnar_base.specs.AlikeLaws.{row_eq_exact}
-use Rattle.columnar_base.specs.Elements.{elements_rows, word_row, word_row_of, words_format}
+use Rattle.columnar_base.specs.Elements.{elements_rows, word_row, word_row_of, words_format, pieces}
 use Rattle.columnar_base.specs.ElementLaws.{length-elements}
-use Rattle.columnar_core.specs.Bounds.{rises, numbers, IsBounds}
+use Rattle.columnar_core.specs.Bounds.{rises, numbers, last_or, shifted, IsBounds}
+
+pub words_numbers : (c : Content) → elements_rows 8 word_row_of c ≡ map number (numbers (elements_rows 8 word_row_of c))
+words_numbers (slice bs) = are_numbers (pieces 8 (length bs / 8) bs)
+  where
+    are_numbers : (ps : List (List ℕ)) → map word_row_of ps ≡ map number (numbers (map word_row_of ps))
+    are_numbers [] = refl
+    are_numbers (p ∷ ps) = ap (λ (t : List Row). word_row_of p ∷ t) (are_numbers ps)
+words_numbers (both x y) = refl
+words_numbers (part l u x) = refl
+words_numbers (plain rs) = refl
 
 pub words_bounds : IsBounds words_format
-words_bounds = record { exact = row_eq_exact; swift = omega arith }
+words_bounds = record { exact = row_eq_exact; swift = omega arith; are_numbers = λ c s. words_numbers c }
 
 -- a number of 64 bits, as a row
 pub word_is : (n : ℕ) → n < 2 ^ 64 → word_row n ≡ number n
@@ -49,3 +59,24 @@ rises_on rs i last n end all p h w l =
     let q = rises_step (numbers rs) i last n end (number_at rs i n h w) in
     let k = le-leb last n l in
     p ∙ (rw k at q)
+
+-- ---- offsets by their places
+
+pub number_get : (rs : List Row) (i n : ℕ) → slice_get rs i ≡ Some (number n) → slice_get (numbers rs) i ≡ Some n
+number_get rs i n h = rw (slice_get-map, h) refl
+
+pub number_before : (rs : List Row) (i n : ℕ) → 0 < i → slice_get rs (i - 1) ≡ Some (number n) → slice_get (0 ∷ numbers rs) i ≡ Some n
+number_before rs zero n l h = absurd (omega arith)
+number_before rs (suc i) n l h = let e : suc i - 1 ≡ i = omega arith in number_get rs i n (rw e at h)
+
+pub number_after : (rs : List Row) (i n : ℕ) → slice_get rs i ≡ Some (number n) → slice_get (0 ∷ numbers rs) (i + 1) ≡ Some n
+number_after rs i n h = let e : i + 1 ≡ suc i = omega arith in rw e (number_get rs i n h)
+
+pub shifted_get : (lower start : ℕ) (rs : List Row) (i n : ℕ) → slice_get rs i ≡ Some (number n) → slice_get (shifted lower start (numbers rs)) i ≡ Some (number (start + (n - lower)))
+shifted_get lower start rs i n h = rw (slice_get-map, number_get rs i n h) refl
+
+-- offset n - 1 is the last of the first n
+pub last_at : (n from : ℕ) (ns : List ℕ) (e : ℕ) → slice_get (from ∷ ns) n ≡ Some e → last_or from (take n ns) ≡ e
+last_at zero from ns e p = cc
+last_at (suc n) from [] e p = cc
+last_at (suc n) from (m ∷ ns) e p = last_at n m ns e p

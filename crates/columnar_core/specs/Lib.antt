@@ -18,6 +18,8 @@ pub mod BoundLaws
 pub mod StoreLaws
 pub mod Appended
 pub mod SidesLaws
+pub mod Earlier
+pub mod EarlierLaws
 pub use Rattle.columnar_base.specs.Row
 pub use Rattle.columnar_base.specs.Format
 pub use Rattle.columnar_base.specs.FaultLaws

@@ -6,6 +6,7 @@ pub mod byte_column;
 pub mod byte_slice;
 pub mod bytes;
 pub mod container;
+pub mod earlier;
 pub mod lent;
 pub mod offsets;
 pub mod owned;

@@ -7,12 +7,14 @@ ghost use Rattle.columnar_core.specs.BoundLaws.{words_bounds};
 ghost use Rattle.columnar_core.specs.Store.{slices_in};
 
 use crate::bytes::Stored;
-use crate::offsets::{Offsets, StoredOffsets};
+use crate::offsets::{ExtendShifted, Offsets, PushAfter, StoredOffsets, push_shifted};
 use crate::store::DecodedStore;
+use columnar_base::fault::GrowError;
 use columnar_base::tally::Tally;
-use columnar_base::traits::{Column, Index, Len};
+use columnar_base::traits::{Column, Index, Len, Push};
 use columnar_base::view::View;
 pub use columnar_base::words::{Words, byte_count, word_at, word_count};
+use std::ops::Range;
 
 // As `rises_to` of a column of numbers: reads them one by one, a turn for each.
 fn rises_by_reading<C: Index<Ref = u64> + Len, L>(
@@ -45,6 +47,27 @@ impl Offsets for Vec<u64> {
 
     fn rises_to_tallied<L>(&self, end: u64, tally: &mut Tally<L>) -> bool {
         rises_by_reading(self, end, tally)
+    }
+}
+
+impl PushAfter for Vec<u64> {
+    #[inline(always)]
+    fn push_after(&mut self, _last: u64, offset: u64) -> Result<(), GrowError> {
+        Push::<u64>::push(self, offset)
+    }
+}
+
+/// A push for each offset.
+impl<W: Offsets> ExtendShifted<W> for Vec<u64> {
+    fn extend_shifted_tallied<L>(
+        &mut self,
+        view: &W,
+        range: Range<usize>,
+        lower: u64,
+        start: usize,
+        tally: &mut Tally<L>,
+    ) -> Result<(), GrowError> {
+        push_shifted(self, view, range, lower, start, tally)
     }
 }
 

@@ -9,8 +9,9 @@ use Rattle.columnar_base.specs.Row.{Row, list, number, items_of, list_end, empty
 use Rattle.columnar_base.specs.RowLaws.{row_eq-is, is-row_eq, same_items, items_of-list, end_of-list}
 use Rattle.columnar_base.specs.Format.{IsSame, IsExact, all_alike}
 use Rattle.columnar_base.specs.AlikeLaws.{alike_is, alike_all, same_pulled, same_both, row_eq_same, row_eq_exact, alike_back, alike_on, alike_take, alike_drop}
-use Rattle.columnar_core.specs.Bounds.{rises, numbers}
-use Rattle.columnar_lists.specs.Lists.{list_alike, joined, cut, last_or, ends, shifted}
+use Rattle.columnar_core.specs.Bounds.{rises, numbers, last_or, shifted}
+use Rattle.columnar_core.specs.BoundLaws.{last_at}
+use Rattle.columnar_lists.specs.Lists.{list_alike, joined, cut, ends}
 
 pub rises-last : (from : ℕ) (ns : List ℕ) (end : ℕ) → rises from ns end ≡ true → last_or from ns ≡ end
 rises-last from [] end h = eqb-true from end h
@@ -205,11 +206,6 @@ ends_cut lower start from here (n ∷ ns) end vs e l h w =
     let k : here + (n - from) ≡ start + (n - lower) = omega arith in
     rw (i, k) (ap (λ t. number (start + (n - lower)) ∷ t) (ends_cut lower start n (start + (n - lower)) ns end vs refl (omega arith) p.1 w))
 
-pub last_at : (n from : ℕ) (ns : List ℕ) (e : ℕ) → slice_get (from ∷ ns) n ≡ Some e → last_or from (take n ns) ≡ e
-last_at zero from ns e p = cc
-last_at (suc n) from [] e p = cc
-last_at (suc n) from (m ∷ ns) e p = last_at n m ns e p
-
 last-append : (from : ℕ) (ns ms : List ℕ) → last_or from (ns ++ ms) ≡ last_or (last_or from ns) ms
 last-append from [] ms = refl
 last-append from (n ∷ ns) ms = last-append n ns ms
@@ -263,13 +259,3 @@ rises_get zero from (n ∷ ns) end l u h p q =
 rises_get (suc i) from (n ∷ ns) end l u h p q =
     let r = and_parts (nat_le from n) (rises n ns end) h in
     rises_get i n ns end l u r.1 p q
-
-pub number_get : (rs : List Row) (i n : ℕ) → slice_get rs i ≡ Some (number n) → slice_get (numbers rs) i ≡ Some n
-number_get rs i n h = rw (slice_get-map, h) refl
-
-pub number_before : (rs : List Row) (i n : ℕ) → 0 < i → slice_get rs (i - 1) ≡ Some (number n) → slice_get (0 ∷ numbers rs) i ≡ Some n
-number_before rs zero n l h = absurd (omega arith)
-number_before rs (suc i) n l h = let e : suc i - 1 ≡ i = omega arith in number_get rs i n (rw e at h)
-
-pub shifted_get : (lower start : ℕ) (rs : List Row) (i n : ℕ) → slice_get rs i ≡ Some (number n) → slice_get (shifted lower start (numbers rs)) i ≡ Some (number (start + (n - lower)))
-shifted_get lower start rs i n h = rw (slice_get-map, number_get rs i n h) refl

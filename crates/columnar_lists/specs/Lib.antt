@@ -4,3 +4,4 @@ pub mod ListLaws
 pub mod ListPushes
 pub mod Cut
 pub mod CutIs
+pub mod EarlierLists

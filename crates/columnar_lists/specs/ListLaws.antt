@@ -14,9 +14,10 @@ use Rattle.columnar_base.specs.Change.{Keeps, Grew, Stayed, WasCut, Took, Copied
 use Rattle.columnar_base.specs.ChangeLaws.{grew_exactly, true_from}
 use Rattle.columnar_base.specs.TwoParts.{TwoParts, two_parts, two_sound, two_storable}
 use Rattle.columnar_base.specs.declared.fault.GrowError.{GrowError}
-use Rattle.columnar_core.specs.Bounds.{rises, numbers, IsBounds}
-use Rattle.columnar_lists.specs.Lists.{lists_format, lists_rise, lists_rows, lists_refuses, joined, cut, last_or, end_at, ends, shifted}
-use Rattle.columnar_lists.specs.CutLaws.{rises-last, rises-from, rises-append, rises-take, last-take, length-cut, cut-take, cut-append, cut-more, are_lists, cut_lists, joined-cut, joined-append, ends-append, ends_rise, cut_alike, cut_exactly, lists_same, lists_related, ends_cut, rises-range, cut-range, shifted-range, rises_get, last_at, number_get, bound_between}
+use Rattle.columnar_core.specs.Bounds.{rises, numbers, last_or, shifted, IsBounds}
+use Rattle.columnar_core.specs.BoundLaws.{last_at, number_get}
+use Rattle.columnar_lists.specs.Lists.{lists_format, lists_rise, lists_rows, lists_refuses, joined, cut, end_at, ends}
+use Rattle.columnar_lists.specs.CutLaws.{rises-last, rises-from, rises-append, rises-take, last-take, length-cut, cut-take, cut-append, cut-more, are_lists, cut_lists, joined-cut, joined-append, ends-append, ends_rise, cut_alike, cut_exactly, lists_same, lists_related, ends_cut, rises-range, cut-range, shifted-range, rises_get, bound_between}
 
 -- what the soundness of lists is made of
 pub record SoundLists (b t : Format) (x y : Content) : Type 0 where
@@ -217,6 +218,10 @@ lists_cut b t {x} {x'} {y} {y'} {n} s g h =
       };
     }
 
+-- the last bound is the number of the values
+pub lists_last : (b t : Format) {x y : Content} (n : ℕ) → IsSound (lists_format b t) (both x y) → n ≡ length (t.rows y) → last_or 0 (numbers (b.rows x)) ≡ n
+lists_last b t {x} {y} n s e = rises-last 0 (numbers (b.rows x)) (length (t.rows y)) (lists_parts b t s).rise ∙ sym e
+
 pub same_lists : {b b' t t' : Format} → b ≡ b' → t ≡ t' → lists_format b t ≡ lists_format b' t'
 same_lists {b} {b'} {t} {t'} p q = rw (p, q) refl
 
@@ -270,8 +275,6 @@ piece_sound b t {x} {y} i {l} {u} s p h =
 -- one list
 
 -- a number of 64 bits, as it is pushed
-pub word_end : (n : ℕ) {m : ℕ} → n ≡ m → n < 2 ^ 64 → word_row n ≡ number m
-word_end n {m} e l = let k : n % 2 ^ 64 ≡ m = omega (arith, e) in ap number k
 
 one_joined : (us : List Row) → joined (list us ∷ []) ≡ us
 one_joined us = append-nil (items_of (list us)) ∙ items_of-list us

@@ -2,12 +2,7 @@
 use Rattle.std.specs.Prelude.{ℕ, Bool, false, List, [], ◌∷◌, ◌++◌, length, ◌+◌, ◌-◌, take, drop, ◌&&◌, ◌||◌, map}
 use Rattle.columnar_base.specs.Row.{Row, list, number, items_of, list_end, row_eq}
 use Rattle.columnar_base.specs.Format.{Format, Content, slice, both, part, plain, Fault, two_broken, all_alike, Excess}
-use Rattle.columnar_core.specs.Bounds.{numbers, rises}
-
--- the last bound, or `from` where there is none
-abbrev pub last_or : ℕ → List ℕ → ℕ
-last_or from [] = from
-last_or from (n ∷ ns) = last_or n ns
+use Rattle.columnar_core.specs.Bounds.{numbers, rises, last_or}
 
 -- the lists that the bounds cut out of vs, the first from `from` on
 abbrev pub cut : ℕ → List ℕ → List Row → List Row
@@ -23,10 +18,6 @@ joined (r ∷ rs) = items_of r ++ joined rs
 abbrev pub ends : ℕ → List Row → List Row
 ends from [] = []
 ends from (r ∷ rs) = number (from + length (items_of r)) ∷ ends (from + length (items_of r)) rs
-
--- bounds that are moved from `lower` to `start`, as rows
-abbrev pub shifted : ℕ → ℕ → List ℕ → List Row
-shifted lower start ns = map (λ n. number (start + (n - lower))) ns
 
 -- do the bounds rise to the number of the values
 abbrev pub lists_rise : Format → Format → Content → Content → Bool

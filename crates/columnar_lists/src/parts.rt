@@ -5,15 +5,15 @@ ghost use Rattle.columnar_base.specs.Row.{list, number};
 ghost use Rattle.columnar_base.specs.Format.{both, bytes_held, first, moved, representable, IsSound};
 ghost use Rattle.columnar_base.specs.Faults.{verdict};
 ghost use Rattle.columnar_base.specs.Change.{Copied, Refused, Stayed, Took, WasCut};
-ghost use Rattle.columnar_core.specs.Bounds.{numbers};
-ghost use Rattle.columnar_lists.specs.Lists.{lists_format, shifted};
+ghost use Rattle.columnar_core.specs.Bounds.{numbers, last_or};
+ghost use Rattle.columnar_lists.specs.Lists.{lists_format};
 
 use columnar_base::fault::{GrowError, StoreFault};
 use columnar_base::tally::Tally;
-use columnar_base::traits::{Column, Index, Item, Len, Push, PushRef};
+use columnar_base::traits::{Column, Index, Item, Len, PushRef};
 use columnar_core::bytes::Check;
 use columnar_core::container::{ExtendFrom, Reserve, Truncate};
-use columnar_core::offsets::{Offsets, StoredOffsets};
+use columnar_core::offsets::{ExtendShifted, Offsets, PushAfter, StoredOffsets};
 use columnar_core::two::check_two;
 use std::ops::Range;
 
@@ -69,7 +69,7 @@ pub fn reserve_lists<TC: Reserve, BC: Reserve>(
 
 // Ends a list whose items stand behind the first `before` values; where the bounds refuse its end, these are taken back.
 #[inline(always)]
-pub(crate) fn end_list<TC: Truncate, BC: Push<u64>>(
+pub(crate) fn end_list<TC: Truncate, BC: PushAfter>(
     bounds: &mut BC,
     values: &mut TC,
     before: usize,
@@ -77,11 +77,12 @@ pub(crate) fn end_list<TC: Truncate, BC: Push<u64>>(
     requires bounds { IsSound BC.format (BC.content bounds.old) }
     requires values { IsSound TC.format (TC.content values.old) }
     requires in_range { before ≤ length (TC.format.rows (TC.content values.old)) }
+    requires last { last_or 0 (numbers (BC.format.rows (BC.content bounds.old))) ≡ before }
     ensures ok { OnOk result (Took BC.format (BC.content bounds.old) (BC.content bounds.new) (number (length (TC.format.rows (TC.content values.old))) ∷ []) × (TC.content values.new ≡ TC.content values.old)) }
     ensures err { IfErr result (λ e. Refused BC.format (BC.content bounds.old) (BC.content bounds.new) (number (length (TC.format.rows (TC.content values.old))) ∷ []) e × WasCut TC.format (TC.content values.old) (TC.content values.new) before) }
 {
     let end = values.len();
-    match bounds.push(end as u64) {
+    match bounds.push_after(before as u64, end as u64) {
         Ok(()) => Ok(()),
         Err(error) => {
             values.truncate(before);
@@ -92,7 +93,7 @@ pub(crate) fn end_list<TC: Truncate, BC: Push<u64>>(
 
 /// Adds one list, of rows alike to the items, or is refused and leaves the rows and the lengths of both parts.
 #[inline(always)]
-pub fn push_list<T: Item, TC: Truncate + PushRef<T>, BC: Offsets + Push<u64>>(
+pub fn push_list<T: Item, TC: Truncate + PushRef<T>, BC: Offsets + PushAfter>(
     bounds: &mut BC,
     values: &mut TC,
     items: &[T],
@@ -107,47 +108,13 @@ pub fn push_list<T: Item, TC: Truncate + PushRef<T>, BC: Offsets + Push<u64>>(
     end_list(bounds, values, before)
 }
 
-// Pushes bounds of a view, those of the range, each moved from `lower` to `start`; or none of them. The turns that it
-// takes are added to the tally.
-fn push_shifted<W: Offsets, BC: Truncate + Push<u64>, L>(
-    bounds: &mut BC,
-    view: &W,
-    range: Range<usize>,
-    lower: u64,
-    start: usize,
-    tally: &mut Tally<L>,
-) -> Result<(), GrowError>
-    requires sound { IsSound BC.format (BC.content bounds.old) }
-    requires view_sound { IsSound W.format (W.content view.now) }
-    requires ordered { range.start ≤ range.«end» }
-    requires in_range { range.«end» ≤ length (W.format.rows (W.content view.now)) }
-    requires held { (i n : ℕ) → range.start ≤ i → i < range.«end» → slice_get (numbers (W.format.rows (W.content view.now))) i ≡ Some n → (lower ≤ n) × (start + (n - lower) < 2 ^ 64) }
-    ensures ok { OnOk result (Took BC.format (BC.content bounds.old) (BC.content bounds.new) (take (range.«end» - range.start) (drop range.start (shifted lower start (numbers (W.format.rows (W.content view.now))))))) }
-    ensures err { IfErr result (λ e. Refused BC.format (BC.content bounds.old) (BC.content bounds.new) (take (range.«end» - range.start) (drop range.start (shifted lower start (numbers (W.format.rows (W.content view.now)))))) e) }
-    ensures turns { tally.new.turns ≤ tally.old.turns + (range.«end» - range.start) }
-{
-    let before = bounds.len();
-    for i in range.start..range.end {
-        tally.tick();
-        let end = view.offset(i) - lower;
-        match bounds.push(start as u64 + end) {
-            Ok(()) => {}
-            Err(error) => {
-                bounds.truncate(before);
-                return Err(error);
-            }
-        }
-    }
-    Ok(())
-}
-
-/// As `copy_lists`. The turns over the bounds are added to the tally: at most one for each list. Those of the values,
-/// which their own column copies at once, are not.
+/// As `copy_lists`. The turns over the bounds are added to the tally: at most one for each list. Those of what a column
+/// copies at once are not: the values, and bounds in unary, which are bits.
 pub fn copy_lists_tallied<
     V: Index + Copy,
     W: Offsets,
     TC: ExtendFrom<V>,
-    BC: Truncate + Offsets + Push<u64>,
+    BC: ExtendShifted<W> + Offsets,
     L,
 >(
     bounds: &mut BC,
@@ -171,7 +138,7 @@ pub fn copy_lists_tallied<
     values.extend_from_self(items, lower as usize..upper as usize)?;
     // All values have a number of 64 bits, so the moved bounds do.
     let _end = values.len();
-    match push_shifted(bounds, view, range, lower, before, tally) {
+    match bounds.extend_shifted_tallied(view, range, lower, before, tally) {
         Ok(()) => Ok(()),
         Err(error) => {
             values.truncate(before);
@@ -183,12 +150,7 @@ pub fn copy_lists_tallied<
 /// Adds lists alike to those of a view, from bounds `view` and values `items`, or none of them: the items at once, and
 /// then where each list ends. A front, copied where there are no lists, is there as it was; a refusal leaves the rows
 /// and the lengths of both parts.
-pub fn copy_lists<
-    V: Index + Copy,
-    W: Offsets,
-    TC: ExtendFrom<V>,
-    BC: Truncate + Offsets + Push<u64>,
->(
+pub fn copy_lists<V: Index + Copy, W: Offsets, TC: ExtendFrom<V>, BC: ExtendShifted<W> + Offsets>(
     bounds: &mut BC,
     values: &mut TC,
     view: &W,

@@ -4,18 +4,19 @@ ghost use Rattle.columnar_base.specs.TwoParts.{two_counted};
 ghost use Rattle.columnar_lists.specs.Lists.{lists_format};
 ghost use Rattle.columnar_lists.specs.ListLaws.{same_lists, lists_lawful, lists_storable};
 
+mod earlier;
 mod push;
 
 use crate::parts::{check_lists, copy_lists, cut_lists, range_of, reserve_lists};
 use columnar_base::fault::{GrowError, StoreFault};
 use columnar_base::tally::Tally;
-use columnar_base::traits::{Clear, Column, Index, Item, Len, Push};
+use columnar_base::traits::{Clear, Column, Index, Item, Len};
 use columnar_core::byte_slice::ByteSlice;
 use columnar_core::bytes::{AsBytes, Check, FromBytes, Stored};
 use columnar_core::container::{
     Borrow, Container, ContainerBytes, ExtendFrom, Named, Reborrow, Reserve, Storage, Truncate,
 };
-use columnar_core::offsets::{Offsets, StoredOffsets};
+use columnar_core::offsets::{ExtendShifted, Offsets, PushAfter, StoredOffsets};
 use columnar_core::slice::Slice;
 use columnar_core::store::DecodedStore;
 use columnar_core::two::{byte_slice_of_two, judge_two, load_two, sizes_of_two, slice_of_two};
@@ -135,7 +136,7 @@ impl<
     V: Index + Copy,
     W: Index + Offsets + Copy,
     TC: ExtendFrom<V>,
-    BC: ExtendFrom<W> + Offsets + Push<u64>,
+    BC: ExtendFrom<W> + ExtendShifted<W> + Offsets,
 > ExtendFrom<Vecs<V, W>> for Vecs<TC, BC> {
     fn add_room(room: (BC::Room, TC::Room), view: Vecs<V, W>) -> (BC::Room, TC::Room) {
         (
@@ -158,7 +159,11 @@ impl<
 impl<
     'a,
     TC: Container<'a>,
-    BC: Container<'a> + Borrow<'a, Borrowed: Offsets> + Offsets + Push<u64>,
+    BC: Container<'a>
+        + Borrow<'a, Borrowed: Offsets>
+        + ExtendShifted<<BC as Borrow<'a>>::Borrowed>
+        + Offsets
+        + PushAfter,
 > Container<'a> for Vecs<TC, BC> {}
 
 impl<'b, TC: Reborrow<'b>, BC: Reborrow<'b>> Reborrow<'b> for Vecs<TC, BC> {

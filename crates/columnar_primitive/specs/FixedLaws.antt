@@ -10,14 +10,14 @@ use Rattle.columnar_core.specs.Change.{Keeps, Grew, WasCut, Took, Copied, IsTrue
 use Rattle.columnar_core.specs.ChangeLaws.{unchanged}
 use Rattle.columnar_core.specs.Elements.{first_slice}
 use Rattle.columnar_core.specs.ElementLaws.{first_built}
-use Rattle.columnar_core.specs.Bounds.{IsBounds, rises, numbers}
+use Rattle.columnar_core.specs.Bounds.{IsBounds, AreNumbers, rises, numbers}
 use Rattle.columnar_core.specs.Bytes.{word, le_bytes}
 use Rattle.columnar_core.specs.declared.fault.GrowError.{GrowError}
 use Rattle.columnar_core.specs.declared.fault.GrowError.TheVariants.{Memory, Length, Offset, Format as FormatError}
 use Rattle.columnar_core.specs.Elements.{word_row}
 use Rattle.columnar_primitive.specs.Held.{counted}
 use Rattle.columnar_primitive.specs.HeldLaws.{count-word, word_number}
-use Rattle.columnar_primitive.specs.Multiples.{multiples, multiples-none, multiples-more, length-multiples, multiples-append, multiples-take, multiples-piece, multiples_get, multiples-shift, multiples_end}
+use Rattle.columnar_primitive.specs.Multiples.{multiples, multiples_numbers, multiples-none, multiples-more, length-multiples, multiples-append, multiples-take, multiples-piece, multiples_get, multiples-shift, multiples_end}
 use Rattle.columnar_primitive.specs.Fixed.{fixed_broken, fixed_rows, strays, passes, fixed_refuses, fixed_format, IsCauseOf}
 
 -- what the soundness of a column of multiples is made of
@@ -141,8 +141,14 @@ fixed_storable k = record {
   built = first_built;
 }
 
+fixed_numbers : (k : ℕ) → AreNumbers (fixed_format k)
+fixed_numbers k (slice bs) s = multiples_numbers k 0 (word bs 0)
+fixed_numbers k (both x y) s = refl
+fixed_numbers k (part l u x) s = refl
+fixed_numbers k (plain rs) s = refl
+
 pub fixed_bounds : (k : ℕ) → IsBounds (fixed_format k)
-fixed_bounds k = record { exact = row_eq_exact; swift = omega arith }
+fixed_bounds k = record { exact = row_eq_exact; swift = omega arith; are_numbers = fixed_numbers k }
 
 -- changes
 

@@ -1,5 +1,5 @@
 -- The multiples of a stride, as rows, and the offsets that they are.
-use Rattle.std.proofs.Common.{◌≡◌, ℕ, zero, suc, ◌+◌, ◌-◌, ◌*◌, ◌<◌, ◌≤◌, true, List, [], ◌∷◌, ◌++◌, length, take, drop, refl, ◌∙◌, ap, arith, append-nil}
+use Rattle.std.proofs.Common.{◌≡◌, ℕ, zero, suc, ◌+◌, ◌-◌, ◌*◌, ◌<◌, ◌≤◌, true, List, [], ◌∷◌, ◌++◌, length, take, drop, map, refl, ◌∙◌, ap, arith, append-nil}
 use Rattle.std.specs.Prelude.{slice_get, Some, nat_eq, nat_le}
 use Rattle.std.proofs.lemmas.Bool.{le-leb}
 use Rattle.columnar_core.specs.Row.{Row, number}
@@ -22,6 +22,12 @@ pub length-multiples : (k from n : ℕ) → length (multiples k from n) ≡ n
 unfolding multiples
 length-multiples k from zero = refl
 length-multiples k from (suc n) = ap suc (length-multiples k (suc from) n)
+
+-- they are numbers
+pub multiples_numbers : (k from n : ℕ) → multiples k from n ≡ map number (numbers (multiples k from n))
+unfolding multiples
+multiples_numbers k from zero = refl
+multiples_numbers k from (suc n) = ap (λ (t : List Row). number (k * suc from) ∷ t) (multiples_numbers k (suc from) n)
 
 pub multiples-append : (k from m n : ℕ) → multiples k from (m + n) ≡ multiples k from m ++ multiples k (from + m) n
 unfolding multiples

@@ -13,7 +13,8 @@ use Rattle.columnar_core.specs.Change.{Keeps, WasCut, Took, Copied, IsTrueOf, Re
 use Rattle.columnar_core.specs.ChangeLaws.{unchanged, grew_exactly, refused_more, took_none}
 use Rattle.columnar_core.specs.Elements.{elements_broken, first_slice, word_row, word_row_of}
 use Rattle.columnar_core.specs.ElementLaws.{length-elements, past_more, row_at, rows_typed, word_element}
-use Rattle.columnar_core.specs.Bounds.{IsBounds, rises, numbers}
+use Rattle.columnar_core.specs.Bounds.{IsBounds, AreNumbers, rises, numbers}
+use Rattle.columnar_core.specs.BoundLaws.{words_numbers}
 use Rattle.columnar_core.specs.Bytes.{word, word_bytes, le_bytes, AreBytes}
 use Rattle.columnar_core.specs.ByteLaws.{bytes-word}
 use Rattle.columnar_core.specs.StoreLaws.{drop_at, first_at}
@@ -22,8 +23,8 @@ use Rattle.columnar_core.specs.WordViewLaws.{length-le_bytes, front_number}
 use Rattle.columnar_core.specs.declared.fault.GrowError.{GrowError}
 use Rattle.columnar_core.specs.declared.fault.GrowError.TheVariants.{Length}
 use Rattle.columnar_primitive.specs.HeldLaws.{word_number}
-use Rattle.columnar_primitive.specs.Multiples.{multiples, multiples-none, multiples-more, length-multiples, multiples-append, multiples-take, multiples_get, multiples-rise}
-use Rattle.columnar_primitive.specs.Stride.{head_broken, bounds_rows, stride_fits, length_fits, strides_broken, strides_rows, strides_extent, strides_format, head_and_bounds, follows, joins, grown, bounds_pushed}
+use Rattle.columnar_primitive.specs.Multiples.{multiples, multiples_numbers, multiples-none, multiples-more, length-multiples, multiples-append, multiples-take, multiples_get, multiples-rise}
+use Rattle.columnar_primitive.specs.Stride.{head_broken, stride_of, length_of, bounds_rows, stride_fits, length_fits, strides_broken, strides_rows, strides_extent, strides_format, head_and_bounds, follows, joins, grown, bounds_pushed}
 
 -- what the soundness of a head and bounds is made of
 pub record SoundStrides (hs bs : List ℕ) : Type 0 where
@@ -151,8 +152,17 @@ strides_storable = record {
   built = strides_built;
 }
 
+strides_numbers : AreNumbers strides_format
+strides_numbers (both x y) s =
+    let m : List Row = multiples (stride_of x) 0 (length_of x) in
+    let b : List Row = bounds_rows y in
+    sym (ap (map number) (map-append number_of m b) ∙ map-append number (numbers m) (numbers b) ∙ ap (λ (t : List Row). t ++ map number (numbers b)) (sym (multiples_numbers (stride_of x) 0 (length_of x))) ∙ ap (λ (t : List Row). m ++ t) (sym (words_numbers y)))
+strides_numbers (slice bs) s = refl
+strides_numbers (part l u x) s = refl
+strides_numbers (plain rs) s = refl
+
 pub strides_bounds : IsBounds strides_format
-strides_bounds = record { exact = row_eq_exact; swift = omega arith }
+strides_bounds = record { exact = row_eq_exact; swift = omega arith; are_numbers = strides_numbers }
 
 -- heads, and offsets that stand as they are
 

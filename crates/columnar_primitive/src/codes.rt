@@ -13,6 +13,7 @@ use columnar_core::bytes::{AsBytes, Check, FromBytes, Stored};
 use columnar_core::container::{
     Borrow, Container, ContainerBytes, ExtendFrom, Reborrow, Reserve, Storage, Truncate,
 };
+use columnar_core::earlier::Kept;
 use columnar_core::fault::{GrowError, StoreFault};
 use columnar_core::store::DecodedStore;
 use columnar_core::tally::Tally;
@@ -268,3 +269,5 @@ impl<T: Coded, CV: ContainerBytes + Flat<Ref = T::Code>> ContainerBytes for Code
         })
     }
 }
+
+impl<T: Coded, CV: ContainerBytes + Flat<Ref = T::Code> + Drop> Kept for Codes<CV, T> {}

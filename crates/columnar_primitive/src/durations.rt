@@ -15,6 +15,7 @@ use columnar_core::bytes::{AsBytes, Check, FromBytes, Stored};
 use columnar_core::container::{
     Borrow, Container, ContainerBytes, ExtendFrom, Reborrow, Reserve, Storage, Truncate,
 };
+use columnar_core::earlier::Kept;
 use columnar_core::fault::{GrowError, StoreFault};
 use columnar_core::store::DecodedStore;
 use columnar_core::tally::Tally;
@@ -337,3 +338,6 @@ impl<SC: ContainerBytes + Flat + Drop, NC: ContainerBytes + Flat<Ref = u32>> Con
         })
     }
 }
+
+impl<SC: ContainerBytes + Flat + Drop, NC: ContainerBytes + Flat<Ref = u32> + Drop> Kept
+    for Durations<SC, NC> {}

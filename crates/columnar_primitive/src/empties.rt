@@ -13,6 +13,7 @@ use columnar_core::bytes::{AsBytes, Check, FromBytes, Stored};
 use columnar_core::container::{
     Borrow, Container, ContainerBytes, ExtendFrom, Reborrow, Reserve, Storage, Truncate,
 };
+use columnar_core::earlier::Kept;
 use columnar_core::element::Element;
 use columnar_core::fault::{GrowError, StoreFault};
 use columnar_core::store::DecodedStore;
@@ -278,3 +279,5 @@ fn number_of(bytes: &[u8]) -> u64
 {
     <u64 as Element>::from_le_bytes(bytes)
 }
+
+impl Kept for Empties<u64> {}

@@ -15,7 +15,8 @@ use Rattle.columnar_base.specs.NumberLaws.{unsigned_element}
 use Rattle.columnar_base.specs.Texts.{bytes_of, text_row}
 use Rattle.columnar_core.specs.Bounds.{numbers}
 use Rattle.columnar_core.specs.Bytes.{AreBytes}
-use Rattle.columnar_lists.specs.CutLaws.{cut_get, rises_get, number_get}
+use Rattle.columnar_core.specs.BoundLaws.{number_get}
+use Rattle.columnar_lists.specs.CutLaws.{cut_get, rises_get}
 use Rattle.columnar_lists.specs.ListLaws.{lists_parts}
 use Rattle.columnar_strings.specs.Strings.{Shows, bytes_format, strings_format}
 

@@ -12,18 +12,19 @@ ghost use Rattle.columnar_lists.specs.Lists.{lists_format};
 ghost use Rattle.columnar_lists.specs.ListLaws.{same_lists, lists_lawful, lists_storable};
 ghost use Rattle.columnar_strings.specs.Strings.{bytes_format, strings_format};
 
+mod earlier;
 mod push;
 mod show;
 
 use columnar_base::fault::{GrowError, OwnError, StoreFault};
 use columnar_base::tally::Tally;
-use columnar_base::traits::{Clear, Column, Index, Len, Push};
+use columnar_base::traits::{Clear, Column, Index, Len};
 use columnar_core::byte_slice::ByteSlice;
 use columnar_core::bytes::{AsBytes, Check, FromBytes, Stored};
 use columnar_core::container::{
     Borrow, Container, ContainerBytes, ExtendFrom, Named, Reborrow, Reserve, Storage, Truncate,
 };
-use columnar_core::offsets::{Offsets, StoredOffsets};
+use columnar_core::offsets::{ExtendShifted, Offsets, PushAfter, StoredOffsets};
 use columnar_core::store::DecodedStore;
 use columnar_core::two::{byte_slice_of_two, slice_of_two};
 use columnar_core::vector::elements_between;
@@ -170,7 +171,7 @@ impl<'a, BC: Borrow<'a, Borrowed: Offsets>> Borrow<'a> for Strings<BC, Vec<u8>> 
 impl<
     W: Index + Offsets + Copy,
     V: Index + Copy,
-    BC: ExtendFrom<W> + Offsets + Push<u64>,
+    BC: ExtendFrom<W> + ExtendShifted<W> + Offsets,
     VC: ExtendFrom<V>,
 > ExtendFrom<Strings<W, V>> for Strings<BC, VC> {
     fn add_room(room: (BC::Room, VC::Room), view: Strings<W, V>) -> (BC::Room, VC::Room) {
@@ -224,8 +225,14 @@ impl Strings<Vec<u64>, Vec<u8>> {
     }
 }
 
-impl<'a, BC: Container<'a> + Borrow<'a, Borrowed: Offsets> + Offsets + Push<u64>> Container<'a>
-    for Strings<BC, Vec<u8>> {}
+impl<
+    'a,
+    BC: Container<'a>
+        + Borrow<'a, Borrowed: Offsets>
+        + ExtendShifted<<BC as Borrow<'a>>::Borrowed>
+        + Offsets
+        + PushAfter,
+> Container<'a> for Strings<BC, Vec<u8>> {}
 
 impl<'b, BC: Reborrow<'b>, VC: Reborrow<'b>> Reborrow<'b> for Strings<BC, VC> {
     type Short = Strings<BC::Short, VC::Short>;

@@ -18,3 +18,11 @@ pub mod Marked
 pub mod Discriminants
 pub mod DiscriminantLaws
 pub mod FormLaws
+pub mod Unary
+pub mod UnaryLists
+pub mod UnaryLaws
+pub mod UnaryColumns
+pub mod UnaryBits
+pub mod UnaryRanges
+pub mod UnaryChanges
+pub mod EarlierSums

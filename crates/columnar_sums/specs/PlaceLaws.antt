@@ -3,7 +3,7 @@ use Rattle.std.proofs.Common.{◌≡◌, ℕ, zero, suc, ◌+◌, ◌-◌, ◌*�
 use Rattle.std.proofs.Math.Path.{ap₂}
 use Rattle.std.specs.Int.{bit_at, bit_not, w64, trailing_zeros}
 use Rattle.std.specs.List.{range_with_len}
-use Rattle.std.specs.Prelude.{slice_index, bit_and}
+use Rattle.std.specs.Prelude.{slice_index, bit_and, Option, Some, None, IfNone}
 use Rattle.std.proofs.lemmas.List.{append-nil, append_assoc, map-id}
 use Rattle.std.proofs.lemmas.List.FromFn.{map-range_with_len_more}
 use Rattle.std.proofs.lemmas.Bool.{cases_lt, eq-eqb, true≢false, cases_eq}
@@ -239,3 +239,7 @@ adds_twice a b m n x y z p q =
         let g : x ≡ y = cc in let i : y ≡ z = cc in
         let k = front_kept xs ys zs e f (omega arith) in
         ap₂ (λ (u : ℕ) (v : List ℕ). u ∷ v) (sym i ∙ sym g) k
+
+pub none_then : {X P Q : Type 0} (r : Option X) → IfNone r P → (P → Q) → IfNone r Q
+none_then (Some x) h f = h
+none_then None h f = f h

@@ -10,6 +10,7 @@ use super::{Bools, count_bits, tail_parts};
 use columnar_core::byte_slice::ByteSlice;
 use columnar_core::bytes::{AsBytes, Check, FromBytes, Stored};
 use columnar_core::container::ContainerBytes;
+use columnar_core::earlier::Kept;
 use columnar_core::fault::{GrowError, StoreFault};
 use columnar_core::store::DecodedStore;
 use columnar_core::tally::Tally;
@@ -130,3 +131,5 @@ impl ContainerBytes for Bools<Vec<u64>, [u64; 2]> {
         })
     }
 }
+
+impl Kept for Bools<Vec<u64>, [u64; 2]> {}

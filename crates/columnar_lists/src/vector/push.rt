@@ -12,7 +12,7 @@ use columnar_base::element::Element;
 use columnar_base::fault::GrowError;
 use columnar_base::traits::{Column, Index, Item, Push, PushInto, PushRef};
 use columnar_core::container::{ExtendFrom, Truncate};
-use columnar_core::offsets::Offsets;
+use columnar_core::offsets::{Offsets, PushAfter};
 use columnar_core::slice::Slice;
 use smallvec::SmallVec;
 
@@ -44,7 +44,7 @@ impl<TC: Column, BC: Column> Vecs<TC, BC> {
     pub fn push_iter<I: Iterator<Item: Item> + Drop>(&mut self, items: I) -> Result<(), GrowError>
     where
         TC: Truncate + Push<I::Item>,
-        BC: Offsets + Push<u64>,
+        BC: Offsets + PushAfter,
         requires sound { IsSound (lists_format BC.format TC.format) (⟦<Vecs<TC, BC> as Column>⟧.content self.old) }
         requires callable { I.can_next items }
         requires finite { IsFinite (I.remaining items) }
@@ -66,7 +66,7 @@ impl<P: PushInto<Vecs<TC, BC>>, TC: Column, BC: Column> Push<P> for Vecs<TC, BC>
 }
 
 /// The rows of the range are copied at once.
-impl<V: Index + Copy, TC: ExtendFrom<V>, BC: Offsets + Push<u64>> PushInto<Vecs<TC, BC>>
+impl<V: Index + Copy, TC: ExtendFrom<V>, BC: Offsets + PushAfter> PushInto<Vecs<TC, BC>>
     for Slice<V> {
     fn push_into(self, column: &mut Vecs<TC, BC>) -> Result<(), GrowError> {
         let before = column.values.len();
@@ -78,7 +78,7 @@ impl<V: Index + Copy, TC: ExtendFrom<V>, BC: Offsets + Push<u64>> PushInto<Vecs<
 }
 
 /// The items are pushed by reference.
-impl<'x, T: Item, TC: Truncate + PushRef<T>, BC: Offsets + Push<u64>> PushInto<Vecs<TC, BC>>
+impl<'x, T: Item, TC: Truncate + PushRef<T>, BC: Offsets + PushAfter> PushInto<Vecs<TC, BC>>
     for &'x [T] {
     fn push_into(self, column: &mut Vecs<TC, BC>) -> Result<(), GrowError> {
         push_list(&mut column.bounds, &mut column.values, self)
@@ -86,7 +86,7 @@ impl<'x, T: Item, TC: Truncate + PushRef<T>, BC: Offsets + Push<u64>> PushInto<V
 }
 
 /// The items are pushed by reference.
-impl<'x, T: Item, TC: Truncate + PushRef<T>, BC: Offsets + Push<u64>> PushInto<Vecs<TC, BC>>
+impl<'x, T: Item, TC: Truncate + PushRef<T>, BC: Offsets + PushAfter> PushInto<Vecs<TC, BC>>
     for &'x Vec<T> {
     fn push_into(self, column: &mut Vecs<TC, BC>) -> Result<(), GrowError> {
         push_list(&mut column.bounds, &mut column.values, self.as_slice())
@@ -94,7 +94,7 @@ impl<'x, T: Item, TC: Truncate + PushRef<T>, BC: Offsets + Push<u64>> PushInto<V
 }
 
 /// The items are pushed by reference, and then let go.
-impl<T: Item + Drop, TC: Truncate + PushRef<T>, BC: Offsets + Push<u64>> PushInto<Vecs<TC, BC>>
+impl<T: Item + Drop, TC: Truncate + PushRef<T>, BC: Offsets + PushAfter> PushInto<Vecs<TC, BC>>
     for Vec<T> {
     fn push_into(self, column: &mut Vecs<TC, BC>) -> Result<(), GrowError> {
         push_list(&mut column.bounds, &mut column.values, self.as_slice())
@@ -102,7 +102,7 @@ impl<T: Item + Drop, TC: Truncate + PushRef<T>, BC: Offsets + Push<u64>> PushInt
 }
 
 /// The elements are pushed by reference.
-impl<'x, T: Element, const N: usize, TC: Truncate + PushRef<T>, BC: Offsets + Push<u64>> PushInto<
+impl<'x, T: Element, const N: usize, TC: Truncate + PushRef<T>, BC: Offsets + PushAfter> PushInto<
     Vecs<TC, BC>,
 > for &'x [T; N] {
     fn push_into(self, column: &mut Vecs<TC, BC>) -> Result<(), GrowError> {
@@ -111,7 +111,7 @@ impl<'x, T: Element, const N: usize, TC: Truncate + PushRef<T>, BC: Offsets + Pu
 }
 
 /// The elements are pushed by reference.
-impl<T: Element, const N: usize, TC: Truncate + PushRef<T>, BC: Offsets + Push<u64>> PushInto<
+impl<T: Element, const N: usize, TC: Truncate + PushRef<T>, BC: Offsets + PushAfter> PushInto<
     Vecs<TC, BC>,
 > for [T; N] {
     fn push_into(self, column: &mut Vecs<TC, BC>) -> Result<(), GrowError> {
@@ -120,7 +120,7 @@ impl<T: Element, const N: usize, TC: Truncate + PushRef<T>, BC: Offsets + Push<u
 }
 
 /// The items are pushed by reference.
-impl<'x, T: Item, const N: usize, TC: Truncate + PushRef<T>, BC: Offsets + Push<u64>> PushInto<
+impl<'x, T: Item, const N: usize, TC: Truncate + PushRef<T>, BC: Offsets + PushAfter> PushInto<
     Vecs<TC, BC>,
 > for &'x SmallVec<T, N> {
     fn push_into(self, column: &mut Vecs<TC, BC>) -> Result<(), GrowError> {
@@ -129,7 +129,7 @@ impl<'x, T: Item, const N: usize, TC: Truncate + PushRef<T>, BC: Offsets + Push<
 }
 
 /// The items are pushed by reference, and then let go.
-impl<T: Item + Drop, const N: usize, TC: Truncate + PushRef<T>, BC: Offsets + Push<u64>> PushInto<
+impl<T: Item + Drop, const N: usize, TC: Truncate + PushRef<T>, BC: Offsets + PushAfter> PushInto<
     Vecs<TC, BC>,
 > for SmallVec<T, N> {
     fn push_into(self, column: &mut Vecs<TC, BC>) -> Result<(), GrowError> {
@@ -137,27 +137,27 @@ impl<T: Item + Drop, const N: usize, TC: Truncate + PushRef<T>, BC: Offsets + Pu
     }
 }
 
-impl<'x, T: Item, TC: Truncate + PushRef<T>, BC: Offsets + Push<u64>> PushRef<&'x [T]>
+impl<'x, T: Item, TC: Truncate + PushRef<T>, BC: Offsets + PushAfter> PushRef<&'x [T]>
     for Vecs<TC, BC> {
     fn push_ref(&mut self, item: &&'x [T]) -> Result<(), GrowError> {
         push_list(&mut self.bounds, &mut self.values, *item)
     }
 }
 
-impl<T: Item, TC: Truncate + PushRef<T>, BC: Offsets + Push<u64>> PushRef<Vec<T>> for Vecs<TC, BC> {
+impl<T: Item, TC: Truncate + PushRef<T>, BC: Offsets + PushAfter> PushRef<Vec<T>> for Vecs<TC, BC> {
     fn push_ref(&mut self, item: &Vec<T>) -> Result<(), GrowError> {
         push_list(&mut self.bounds, &mut self.values, item.as_slice())
     }
 }
 
-impl<T: Element, const N: usize, TC: Truncate + PushRef<T>, BC: Offsets + Push<u64>> PushRef<[T; N]>
+impl<T: Element, const N: usize, TC: Truncate + PushRef<T>, BC: Offsets + PushAfter> PushRef<[T; N]>
     for Vecs<TC, BC> {
     fn push_ref(&mut self, item: &[T; N]) -> Result<(), GrowError> {
         push_list(&mut self.bounds, &mut self.values, item.as_slice())
     }
 }
 
-impl<T: Item, const N: usize, TC: Truncate + PushRef<T>, BC: Offsets + Push<u64>> PushRef<
+impl<T: Item, const N: usize, TC: Truncate + PushRef<T>, BC: Offsets + PushAfter> PushRef<
     SmallVec<T, N>,
 > for Vecs<TC, BC> {
     fn push_ref(&mut self, item: &SmallVec<T, N>) -> Result<(), GrowError> {
@@ -165,7 +165,7 @@ impl<T: Item, const N: usize, TC: Truncate + PushRef<T>, BC: Offsets + Push<u64>
     }
 }
 
-impl<V: Index + Copy, TC: ExtendFrom<V>, BC: Offsets + Push<u64>> PushRef<Slice<V>>
+impl<V: Index + Copy, TC: ExtendFrom<V>, BC: Offsets + PushAfter> PushRef<Slice<V>>
     for Vecs<TC, BC> {
     fn push_ref(&mut self, item: &Slice<V>) -> Result<(), GrowError> {
         (*item).push_into(self)

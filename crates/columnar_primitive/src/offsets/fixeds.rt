@@ -17,8 +17,9 @@ use columnar_core::bytes::{AsBytes, Check, FromBytes, Stored};
 use columnar_core::container::{
     Borrow, Container, ContainerBytes, ExtendFrom, Reborrow, Reserve, Storage, Truncate,
 };
+use columnar_core::earlier::Kept;
 use columnar_core::fault::{GrowError, StoreFault};
-use columnar_core::offsets::{Offsets, StoredOffsets};
+use columnar_core::offsets::{ExtendShifted, Offsets, PushAfter, StoredOffsets, push_shifted};
 use columnar_core::store::{DecodedStore, word_in_bytes};
 use columnar_core::tally::Tally;
 use columnar_core::traits::{Clear, Column, Index, Len, Push, PushRef};
@@ -309,6 +310,8 @@ impl<const K: u64> ContainerBytes for Fixeds<K, u64> {
     }
 }
 
+impl<const K: u64> Kept for Fixeds<K, u64> {}
+
 impl<const K: u64, CC: Words> Offsets for Fixeds<K, CC> {
     ghost bounds = { fixed_bounds K };
 
@@ -318,6 +321,26 @@ impl<const K: u64, CC: Words> Offsets for Fixeds<K, CC> {
 
     fn rises_to_tallied<L>(&self, end: u64, tally: &mut Tally<L>) -> bool {
         K * self.count.word(0) == end
+    }
+}
+
+impl<const K: u64> PushAfter for Fixeds<K, u64> {
+    fn push_after(&mut self, _last: u64, offset: u64) -> Result<(), GrowError> {
+        Push::<u64>::push(self, offset)
+    }
+}
+
+/// A push for each offset.
+impl<const K: u64, W: Offsets> ExtendShifted<W> for Fixeds<K, u64> {
+    fn extend_shifted_tallied<L>(
+        &mut self,
+        view: &W,
+        range: Range<usize>,
+        lower: u64,
+        start: usize,
+        tally: &mut Tally<L>,
+    ) -> Result<(), GrowError> {
+        push_shifted(self, view, range, lower, start, tally)
     }
 }
 

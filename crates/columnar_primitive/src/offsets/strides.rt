@@ -14,8 +14,9 @@ use columnar_core::bytes::{AsBytes, Check, FromBytes, Stored};
 use columnar_core::container::{
     Borrow, Container, ContainerBytes, ExtendFrom, Reborrow, Reserve, Storage, Truncate,
 };
+use columnar_core::earlier::Kept;
 use columnar_core::fault::{GrowError, StoreFault};
-use columnar_core::offsets::{Offsets, StoredOffsets};
+use columnar_core::offsets::{ExtendShifted, Offsets, PushAfter, StoredOffsets, push_shifted};
 use columnar_core::store::{DecodedStore, word_in_bytes};
 use columnar_core::tally::Tally;
 use columnar_core::traits::{Clear, Column, Index, Len, Push, PushRef};
@@ -497,6 +498,8 @@ fn rise<BC: Words, L>(bounds: &BC, first: u64, end: u64, tally: &mut Tally<L>) -
     last == end
 }
 
+impl Kept for Strides<Vec<u64>, [u64; 2]> {}
+
 impl<BC: Words, HC: Words> Offsets for Strides<BC, HC> {
     ghost bounds = { strides_bounds };
 
@@ -507,6 +510,26 @@ impl<BC: Words, HC: Words> Offsets for Strides<BC, HC> {
     fn rises_to_tallied<L>(&self, end: u64, tally: &mut Tally<L>) -> bool {
         let stride = self.head.word(0);
         rise(&self.bounds, stride * self.head.word(1), end, tally)
+    }
+}
+
+impl PushAfter for Strides<Vec<u64>, [u64; 2]> {
+    fn push_after(&mut self, _last: u64, offset: u64) -> Result<(), GrowError> {
+        Push::<u64>::push(self, offset)
+    }
+}
+
+/// A push for each offset.
+impl<W: Offsets> ExtendShifted<W> for Strides<Vec<u64>, [u64; 2]> {
+    fn extend_shifted_tallied<L>(
+        &mut self,
+        view: &W,
+        range: Range<usize>,
+        lower: u64,
+        start: usize,
+        tally: &mut Tally<L>,
+    ) -> Result<(), GrowError> {
+        push_shifted(self, view, range, lower, start, tally)
     }
 }
 

@@ -6,7 +6,7 @@ use super::Strings;
 use columnar_base::fault::GrowError;
 use columnar_base::traits::{Item, Push, PushRef};
 use columnar_core::container::Truncate;
-use columnar_core::offsets::Offsets;
+use columnar_core::offsets::{Offsets, PushAfter};
 use columnar_lists::parts::push_list;
 use std::boxed::BoxedStr;
 
@@ -60,7 +60,7 @@ impl<'x, T: Text> Text for &'x T {
 }
 
 /// The bytes are copied, all at once.
-impl<T: Text + Drop, BC: Offsets + Push<u64>, VC: Truncate + PushRef<u8>> Push<T>
+impl<T: Text + Drop, BC: Offsets + PushAfter, VC: Truncate + PushRef<u8>> Push<T>
     for Strings<BC, VC> {
     #[inline(always)]
     fn push(&mut self, item: T) -> Result<(), GrowError> {
@@ -69,7 +69,7 @@ impl<T: Text + Drop, BC: Offsets + Push<u64>, VC: Truncate + PushRef<u8>> Push<T
 }
 
 /// The bytes are copied, all at once.
-impl<T: Text, BC: Offsets + Push<u64>, VC: Truncate + PushRef<u8>> PushRef<T> for Strings<BC, VC> {
+impl<T: Text, BC: Offsets + PushAfter, VC: Truncate + PushRef<u8>> PushRef<T> for Strings<BC, VC> {
     #[inline(always)]
     fn push_ref(&mut self, item: &T) -> Result<(), GrowError> {
         push_list(&mut self.bounds, &mut self.values, item.text_bytes())

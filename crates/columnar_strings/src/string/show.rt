@@ -6,7 +6,7 @@ ghost use Rattle.columnar_strings.specs.Strings.{AddsShown, IsUnshown, RefusesSh
 use super::Strings;
 use columnar_base::fault::GrowError;
 use columnar_base::traits::{Column, Push};
-use columnar_core::offsets::Offsets;
+use columnar_core::offsets::{Offsets, PushAfter};
 use columnar_lists::parts::push_list;
 use std::alloc::Global;
 use std::fmt::{self, Display, Write};
@@ -51,7 +51,7 @@ fn text_of<D: Display>(alloc: Global, value: &D) -> Result<Vec<u8>, GrowError>
     }
 }
 
-impl<BC: Offsets + Push<u64>> Strings<BC, Vec<u8>> {
+impl<BC: Offsets + PushAfter> Strings<BC, Vec<u8>> {
     /// Adds the text that the value shows, as one string. It is refused as a push of this text, and by Format where the
     /// value itself failed; nothing is then left of it, and the rows and the lengths of both parts are as before. Takes
     /// memory for the text besides.

@@ -144,6 +144,21 @@ fn place_at<L>(words: &MeteredWords<'_, L>, end: usize, tally: &mut Tally<L>) ->
     }
 }
 
+impl<CC: Words, VC: Words, WC: Words> RankSelect<CC, VC, WC> {
+    // The first set bit from bit `from` on. It loads the words from that of `from` on, up to that of the bit.
+    pub(crate) fn next_true(&self, from: usize) -> Option<usize>
+        requires ranked { IsRanked CC.bytes VC.bytes WC.bytes self.now }
+        requires in_range { from ≤ length (bits_ranked VC.bytes WC.bytes self.now) }
+        ensures found { IfSome result (λ q. (q < length (bits_ranked VC.bytes WC.bytes self.now)) × IsNextTrue (bits_ranked VC.bytes WC.bytes self.now) from q) }
+        ensures none { IfNone result (AreFalseFrom (bits_ranked VC.bytes WC.bytes self.now) from) }
+    {
+        let tally = &mut Tally::new();
+        let words = self.metered_words();
+        let mut place = place_at(&words, from, tally);
+        next_in(&words, &mut place, tally)
+    }
+}
+
 /// A place among the bits of a column, which goes forward alone. It keeps the word in which it stands and the number
 /// of set bits before it.
 #[derive(Drop)]
@@ -195,6 +210,13 @@ impl<'a, CC: Words, VC: Words, WC: Words> Cursor<'a, CC, VC, WC> {
 
     /// How many bits before it are set.
     pub fn rank(&self) -> u64
+        ensures { result ≡ ones self.now.bits self.now.pos }
+    {
+        self.rank
+    }
+
+    // The same, for a body that counts what it reads: a number that the cursor keeps.
+    pub(crate) fn trues_before(&self) -> u64
         ensures { result ≡ ones self.now.bits self.now.pos }
     {
         self.rank

@@ -1,6 +1,6 @@
 use Rattle.std.proofs.Common.{◌≡◌, ◌+◌, ◌-◌, take, drop, arith, length-append}
 use Rattle.columnar_base.specs.ChangeLaws.{passed_on, unchanged, undone}
-use Rattle.columnar_lists.specs.ListLaws.{range_of, range_held, range_length, range_copied, range_refused_values, range_refused_bounds, took_length, lists_parts, lists_within_le}
+use Rattle.columnar_lists.specs.ListLaws.{range_of, range_held, range_length, range_copied, range_refused_values, range_refused_bounds, took_length, lists_parts, lists_last, lists_within_le}
 use Rattle.columnar_lists.proofs.parts.copy_lists_tallied.Goals as goal
 use Rattle.columnar_lists.proofs.parts.copy_lists_tallied.Goals.{in-Ok, in-Err}
 
@@ -40,17 +40,23 @@ returns-in_err-extend_from_self-clause-err g c =
 pub len-end-requires : goal.len-end-requires
 len-end-requires g c = c.in_ok-extend_from_self.ensures.ok.took.grew.sound
 
-pub push_shifted-requires-clause-sound : goal.push_shifted-requires-clause-sound
-push_shifted-requires-clause-sound g c = (lists_parts g.BC.Column.format g.TC.Column.format c.requires.sound).bounds
+pub extend_shifted_tallied-requires-clause-sound : goal.extend_shifted_tallied-requires-clause-sound
+extend_shifted_tallied-requires-clause-sound g c = (lists_parts g.BC.Column.format g.TC.Column.format c.requires.sound).bounds
 
-pub push_shifted-requires-clause-view_sound : goal.push_shifted-requires-clause-view_sound
-push_shifted-requires-clause-view_sound g c = (lists_parts g.W.Column.format g.V.Column.format c.requires.view_sound).bounds
+pub extend_shifted_tallied-requires-clause-view_sound : goal.extend_shifted_tallied-requires-clause-view_sound
+extend_shifted_tallied-requires-clause-view_sound g c = (lists_parts g.W.Column.format g.V.Column.format c.requires.view_sound).bounds
 
-pub push_shifted-requires-clause-in_range : goal.push_shifted-requires-clause-in_range
-push_shifted-requires-clause-in_range g c = lists_within_le g.W.Column.format g.V.Column.format (g.W.Column.content c.args.view.now) (g.V.Column.content c.args.items) c.args.range.«end» c.requires.in_range
+pub extend_shifted_tallied-requires-clause-lower : goal.extend_shifted_tallied-requires-clause-lower
+extend_shifted_tallied-requires-clause-lower g c = c.start_of-lower.ensures
 
-pub push_shifted-requires-clause-held : goal.push_shifted-requires-clause-held
-push_shifted-requires-clause-held g c =
+pub extend_shifted_tallied-requires-clause-last : goal.extend_shifted_tallied-requires-clause-last
+extend_shifted_tallied-requires-clause-last g c = lists_last g.BC.Column.format g.TC.Column.format c.len-before.result c.requires.sound c.len-before.ensures
+
+pub extend_shifted_tallied-requires-clause-in_range : goal.extend_shifted_tallied-requires-clause-in_range
+extend_shifted_tallied-requires-clause-in_range g c = lists_within_le g.W.Column.format g.V.Column.format (g.W.Column.content c.args.view.now) (g.V.Column.content c.args.items) c.args.range.«end» c.requires.in_range
+
+pub extend_shifted_tallied-requires-clause-held : goal.extend_shifted_tallied-requires-clause-held
+extend_shifted_tallied-requires-clause-held g c =
     let r = range_of g.W.Column.format g.V.Column.format c.args.range.start c.args.range.«end» c.requires.view_sound c.requires.ordered c.start_of-lower.ensures c.start_of-upper.ensures in
     let n = took_length {us = take (c.start_of-upper.result - c.start_of-lower.result) (drop c.start_of-lower.result (g.V.Column.format.rows (g.V.Column.content c.args.items)))} c.in_ok-extend_from_self.ensures.ok.took in
     let e : c.len-end.result ≡ c.len-before.result + (c.start_of-upper.result - c.start_of-lower.result) = omega (arith, n, range_length r, c.len-end.ensures, c.len-before.ensures) in
@@ -65,7 +71,7 @@ truncate-requires-clause-in_range g c = rw c.in_ok-extend_from_self.ensures.ok.t
 pub returns-clause-ok : goal.returns-clause-ok
 returns-clause-ok g c =
     let r = range_of g.W.Column.format g.V.Column.format c.args.range.start c.args.range.«end» c.requires.view_sound c.requires.ordered c.start_of-lower.ensures c.start_of-upper.ensures in
-    elim c.match-push_shifted.branch [
+    elim c.match-extend_shifted_tallied.branch [
       | in-Ok w ↦ rw (w.values-is, w.result-is) (range_copied g.BC.Column.format g.TC.Column.format g.met.BC.Offsets.bounds c.requires.sound r c.start_of-lower.ensures c.in_ok-extend_from_self.ensures.ok (rw c.len-before.ensures at w.in-Ok.ensures.ok))
       | in-Err w ↦ rw w.result-is tt
     ]
@@ -73,7 +79,7 @@ returns-clause-ok g c =
 pub returns-clause-err : goal.returns-clause-err
 returns-clause-err g c =
     let r = range_of g.W.Column.format g.V.Column.format c.args.range.start c.args.range.«end» c.requires.view_sound c.requires.ordered c.start_of-lower.ensures c.start_of-upper.ensures in
-    elim c.match-push_shifted.branch [
+    elim c.match-extend_shifted_tallied.branch [
       | in-Ok w ↦ rw w.result-is tt
       | in-Err w ↦ rw (w.values-is, w.result-is) (range_refused_bounds g.BC.Column.format g.TC.Column.format c.requires.sound r (rw c.len-before.ensures at w.in-Err.ensures.err) (undone {mid = g.TC.Column.content c.extend_from_self.new.self} g.met.TC.Truncate.lawful (lists_parts g.BC.Column.format g.TC.Column.format c.requires.sound).values c.in_ok-extend_from_self.ensures.ok.took.grew (rw c.len-before.ensures at w.truncate.ensures)))
     ]

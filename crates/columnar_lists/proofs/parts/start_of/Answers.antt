@@ -1,5 +1,5 @@
 use Rattle.std.proofs.Common.{◌<◌, arith}
-use Rattle.columnar_lists.specs.CutLaws.{number_before}
+use Rattle.columnar_core.specs.BoundLaws.{number_before}
 use Rattle.columnar_lists.proofs.parts.start_of.Goals as goal
 
 pub returns-else-index-eq0 : goal.returns-else-index-eq0

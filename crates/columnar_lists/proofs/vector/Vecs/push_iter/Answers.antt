@@ -1,5 +1,5 @@
 use Rattle.columnar_base.specs.ChangeLaws.{passed_on}
-use Rattle.columnar_lists.specs.ListLaws.{lists_parts}
+use Rattle.columnar_lists.specs.ListLaws.{lists_parts, lists_last}
 use Rattle.columnar_lists.specs.ListPushes.{items_not_taken, on_drained, on_not_drained}
 use Rattle.columnar_lists.proofs.vector.Vecs.push_iter.Goals as goal
 
@@ -22,3 +22,6 @@ returns-clause-ok g c = let p = c.in_ok-take_items.ensures.ok in on_drained c.en
 
 pub returns-clause-err : goal.returns-clause-err
 returns-clause-err g c = let p = c.in_ok-take_items.ensures.ok in on_not_drained c.end_list.result g.BC.Column.format g.TC.Column.format (g.BC.Column.content c.end_list.new.bounds) (g.TC.Column.content c.end_list.new.values) c.len-before.result g.I.Iterator.next_gives c.args.items g.I.Item.Item.meaning p.0 c.len-before.ensures g.met.TC.Truncate.lawful c.requires.sound p.1.0 p.1.1 c.end_list.ensures.err
+
+pub end_list-requires-clause-last : goal.end_list-requires-clause-last
+end_list-requires-clause-last g c = lists_last g.BC.Column.format g.TC.Column.format c.len-before.result c.requires.sound c.len-before.ensures

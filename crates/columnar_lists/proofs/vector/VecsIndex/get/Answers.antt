@@ -1,7 +1,8 @@
 use Rattle.std.proofs.Common.{List}
 use Rattle.columnar_base.specs.Row.{Row}
 use Rattle.columnar_core.specs.Bounds.{numbers}
-use Rattle.columnar_lists.specs.CutLaws.{cut_get, number_get}
+use Rattle.columnar_core.specs.BoundLaws.{number_get}
+use Rattle.columnar_lists.specs.CutLaws.{cut_get}
 use Rattle.columnar_lists.specs.ListLaws.{lists_parts, lists_within, piece_sound}
 use Rattle.columnar_lists.proofs.vector.VecsIndex.get.Goals as goal
 

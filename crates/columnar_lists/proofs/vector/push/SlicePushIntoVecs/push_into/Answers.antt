@@ -1,5 +1,5 @@
 use Rattle.columnar_base.specs.ChangeLaws.{passed_on}
-use Rattle.columnar_lists.specs.ListLaws.{lists_parts}
+use Rattle.columnar_lists.specs.ListLaws.{lists_parts, lists_last}
 use Rattle.columnar_lists.specs.ListPushes.{items_not_taken, on_list_ended, on_list_refused}
 use Rattle.columnar_lists.proofs.vector.push.SlicePushIntoVecs.push_into.Goals as goal
 
@@ -20,3 +20,6 @@ returns-clause-ok g c = on_list_ended c.end_list.result g.BC.Column.format g.TC.
 
 pub returns-clause-err : goal.returns-clause-err
 returns-clause-err g c = on_list_refused c.end_list.result g.BC.Column.format g.TC.Column.format (g.BC.Column.content c.end_list.new.bounds) (g.TC.Column.content c.end_list.new.values) c.len-before.result c.len-before.ensures g.met.TC.Truncate.lawful c.requires.sound c.in_ok-extend_from_self.ensures.ok.took c.end_list.ensures.err
+
+pub end_list-requires-clause-last : goal.end_list-requires-clause-last
+end_list-requires-clause-last g c = lists_last g.BC.Column.format g.TC.Column.format c.len-before.result c.requires.sound c.len-before.ensures

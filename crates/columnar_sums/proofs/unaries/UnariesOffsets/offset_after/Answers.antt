@@ -1,0 +1,26 @@
+use Rattle.std.proofs.Common.{◌+◌, ◌<◌, ◌≤◌, ◌^◌, arith}
+use Rattle.columnar_sums.specs.UnaryChanges.{place_after, place_fits, row_after, none_after}
+use Rattle.columnar_sums.proofs.unaries.UnariesOffsets.offset_after.Goals as goal
+
+pub overflow_add-before : goal.overflow_add-before
+overflow_add-before g c =
+    let x = g.CC.Words.bytes c.args.self.now.bits.counts in
+    let a = g.VC.Words.bytes c.args.self.now.bits.values.values in
+    let b = g.WC.Words.bytes c.args.self.now.bits.values.tail in
+    omega (arith, place_after x a b c.args.index c.args.before (omega (arith, c.requires.in_range)) c.requires.before, (place_fits c.args.index c.requires.sound).1)
+
+pub next_true-requires-clause-in_range : goal.next_true-requires-clause-in_range
+next_true-requires-clause-in_range g c =
+    let x = g.CC.Words.bytes c.args.self.now.bits.counts in
+    let a = g.VC.Words.bytes c.args.self.now.bits.values.values in
+    let b = g.WC.Words.bytes c.args.self.now.bits.values.tail in
+    omega (arith, place_after x a b c.args.index c.args.before (omega (arith, c.requires.in_range)) c.requires.before, (place_fits c.args.index c.requires.sound).0)
+
+pub unreachable-requires : goal.unreachable-requires
+unreachable-requires g c = none_after (g.CC.Words.bytes c.args.self.now.bits.counts) (g.VC.Words.bytes c.args.self.now.bits.values.values) (g.WC.Words.bytes c.args.self.now.bits.values.tail) c.args.index c.args.before c.requires.in_range c.requires.before c.in-None.ensures.none
+
+pub overflow_sub-result : goal.overflow_sub-result
+overflow_sub-result g c = (row_after (g.CC.Words.bytes c.args.self.now.bits.counts) (g.VC.Words.bytes c.args.self.now.bits.values.values) (g.WC.Words.bytes c.args.self.now.bits.values.tail) c.args.index c.args.before c.in-Some.place c.requires.in_range c.requires.before c.in-Some.ensures.found.0 c.in-Some.ensures.found.1).1
+
+pub returns : goal.returns
+returns g c = (row_after (g.CC.Words.bytes c.args.self.now.bits.counts) (g.VC.Words.bytes c.args.self.now.bits.values.values) (g.WC.Words.bytes c.args.self.now.bits.values.tail) c.args.index c.args.before c.in-Some.place c.requires.in_range c.requires.before c.in-Some.ensures.found.0 c.in-Some.ensures.found.1).0

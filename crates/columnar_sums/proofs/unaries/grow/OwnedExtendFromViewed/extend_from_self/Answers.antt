@@ -1,0 +1,29 @@
+use Rattle.std.proofs.Common.{◌≡◌, ◌-◌, arith}
+use Rattle.columnar_core.specs.AlikeLaws.{row_eq_exact}
+use Rattle.columnar_core.specs.ChangeLaws.{took_none, took_more, refused_more, undone, grew_stayed}
+use Rattle.columnar_core.specs.Elements.{word_row}
+use Rattle.columnar_core.specs.WordViews.{view_bytes}
+use Rattle.columnar_sums.specs.RankColumns.{ranks_format}
+use Rattle.columnar_sums.specs.RankLaws.{ranks_lawful}
+use Rattle.columnar_sums.specs.UnaryLaws.{unary_lawful}
+use Rattle.columnar_sums.specs.UnaryChanges.{copied_exactly}
+use Rattle.columnar_sums.specs.UnaryColumns.{unaries_format, unaries_content, owned_unaries}
+use Rattle.columnar_sums.proofs.unaries.grow.OwnedExtendFromViewed.extend_from_self.Goals as goal
+
+pub loop-i-init : goal.loop-i-init
+loop-i-init c =
+    let e : c.args.range.start - c.args.range.start ≡ 0 = omega arith in
+    rw e (took_none c.requires.sound)
+
+pub loop-i-preserved : goal.loop-i-preserved
+loop-i-preserved c = took_more (unaries_format.rows (unaries_content view_bytes view_bytes view_bytes c.args.view)) c.args.range.start c.loop-i.i (word_row c.get.result) c.loop-i.auto.i c.get.ensures.row c.loop-i.invariant c.in-Ok.ensures.ok
+
+pub returns-in-Err-clause-err : goal.returns-in-Err-clause-err
+returns-in-Err-clause-err c =
+    refused_more (unaries_format.rows (unaries_content view_bytes view_bytes view_bytes c.args.view)) c.args.range.start c.loop-i.i c.args.range.«end» (word_row c.get.result) (unary_lawful ranks_format ranks_lawful) c.loop-i.auto.i c.loop-i-test.true c.get.ensures.row c.loop-i.invariant c.in-Err.ensures.err.cause
+    (undone {mid = owned_unaries c.push.new.self} (unary_lawful ranks_format ranks_lawful) c.requires.sound (grew_stayed {z = owned_unaries c.push.new.self} c.loop-i.invariant.grew c.in-Err.ensures.err.stayed) (rw c.len-before.ensures at c.truncate.ensures))
+
+pub returns-clause-ok : goal.returns-clause-ok
+returns-clause-ok c =
+    let e : c.loop-i.i ≡ c.args.range.«end» = omega (arith, c.requires.ordered, c.loop-i.auto.i-end c.requires.ordered) in
+    copied_exactly unaries_format c.args.range.start row_eq_exact (rw e at c.loop-i.invariant)

@@ -1,0 +1,16 @@
+use Rattle.std.proofs.Common.{◌-◌, ◌≡◌, ◌≤◌, ◌++◌}
+use Rattle.columnar_core.specs.Format.{IsSound}
+use Rattle.columnar_bits.specs.BoolColumns.{bools_format, owned_content, owned_bits}
+use Rattle.columnar_sums.specs.Unary.{zeros}
+use Rattle.columnar_sums.proofs.unaries.grow.push_falses.Given as goal
+
+abbrev pub invariant-loop-done : goal.invariant-loop-done
+invariant-loop-done l =
+    record {
+      bits : owned_bits l.values ≡ owned_bits l.fn.values ++ zeros l.done;
+      sound : IsSound bools_format (owned_content l.values);
+      within : l.done ≤ l.count;
+    }
+
+abbrev pub decreases-loop-done : goal.decreases-loop-done
+decreases-loop-done l = l.count - l.done

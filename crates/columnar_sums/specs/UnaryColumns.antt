@@ -1,0 +1,28 @@
+-- Columns of offsets in unary over bits with counts.
+use Rattle.std.specs.Prelude.{ℕ, zero, suc, ◌-◌, Bool, List, [], ◌∷◌, length, Vec}
+use Rattle.columnar_sums.specs.Counting.{ones}
+use Rattle.std.specs.Global.{Global}
+use Rattle.columnar_core.specs.Format.{Format, Content}
+use Rattle.columnar_core.specs.WordViews.{le_bytes}
+use Rattle.columnar_sums.specs.RankColumns.{ranks_format, ranks_bits, ranks_content, owned_ranks}
+use Rattle.columnar_sums.specs.Unary.{unary}
+use Rattle.columnar_sums.specs.declared.unaries.Unaries.{Unaries}
+
+abbrev pub unaries_format : Format
+unaries_format = unary ranks_format
+
+-- what a column of offsets in unary holds
+abbrev pub unaries_content : {C V W : Type 0} → (C → List ℕ) → (V → List ℕ) → (W → List ℕ) → Unaries C V W → Content
+unaries_content counts values tail u = ranks_content counts values tail u.bits
+
+abbrev pub owned_unaries : Unaries (Vec ℕ Global) (Vec ℕ Global) (List ℕ) → Content
+owned_unaries u = owned_ranks u.bits
+
+-- n times x
+abbrev pub repeated : ℕ → ℕ → List ℕ
+repeated zero x = []
+repeated (suc n) x = x ∷ repeated n x
+
+-- how many falses a column of bits has
+abbrev pub all_falses : Content → ℕ
+all_falses x = length (ranks_bits x) - ones (ranks_bits x) (length (ranks_bits x))

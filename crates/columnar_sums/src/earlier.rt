@@ -1,0 +1,76 @@
+//! Offsets in unary, options and results that are made of an earlier form.
+ghost use Rattle.columnar_core.specs.Bounds.{last_or};
+ghost use Rattle.columnar_sums.specs.EarlierSums.{unary_fewer, earlier_options, earlier_results};
+
+use crate::discriminant::Discriminant;
+use crate::option::Options;
+use crate::rank_select::RankSelect;
+use crate::result::Results;
+use crate::unaries::Unaries;
+use columnar_core::container::Storage;
+use columnar_core::earlier::{Earlier, Kept};
+use columnar_core::fault::GrowError;
+use columnar_core::offsets::PushAfter;
+use columnar_core::traits::{Index, Len};
+use std::alloc::Global;
+
+impl Kept for RankSelect<Vec<u64>, Vec<u64>, [u64; 2]> {}
+
+impl Kept for Discriminant<Vec<u8>, Vec<u64>> {}
+
+/// The earlier form is a column of numbers. Length is answered where the last offset and the number of all would together
+/// pass 2^64 - 1, Offset where they fall.
+impl Earlier for Unaries<Vec<u64>, Vec<u64>, [u64; 2]> {
+    type Old = Vec<u64>;
+
+    ghost earlier = { unary_fewer };
+
+    fn from_old(alloc: Global, old: Vec<u64>) -> Result<Self, GrowError> {
+        let mut column = <Self as Storage>::empty(alloc);
+        let mut last = 0u64;
+        for i in 0..Len::len(&old) {
+            let end = Index::get(&old, i);
+            column.push_after(last, end)?;
+            last = end;
+        }
+        Ok(column)
+    }
+}
+
+/// The earlier form has the same bits.
+impl<TC: Earlier> Earlier for Options<TC, Vec<u64>, Vec<u64>, [u64; 2]> {
+    type Old = Options<TC::Old, Vec<u64>, Vec<u64>, [u64; 2]>;
+
+    ghost earlier = { earlier_options TC.Old.format TC.format TC.earlier };
+
+    fn from_old(
+        alloc: Global,
+        old: Options<TC::Old, Vec<u64>, Vec<u64>, [u64; 2]>,
+    ) -> Result<Self, GrowError> {
+        let somes = TC::from_old(alloc, old.somes)?;
+        Ok(Options {
+            indexes: old.indexes,
+            somes,
+        })
+    }
+}
+
+/// The earlier form has the same bits.
+impl<SC: Earlier + Drop, TC: Earlier> Earlier for Results<SC, TC, Vec<u64>, Vec<u64>, [u64; 2]> {
+    type Old = Results<SC::Old, TC::Old, Vec<u64>, Vec<u64>, [u64; 2]>;
+
+    ghost earlier = { earlier_results SC.Old.format SC.format TC.Old.format TC.format SC.earlier TC.earlier };
+
+    fn from_old(
+        alloc: Global,
+        old: Results<SC::Old, TC::Old, Vec<u64>, Vec<u64>, [u64; 2]>,
+    ) -> Result<Self, GrowError> {
+        let oks = SC::from_old(alloc, old.oks)?;
+        let errs = TC::from_old(alloc, old.errs)?;
+        Ok(Results {
+            indexes: old.indexes,
+            oks,
+            errs,
+        })
+    }
+}

@@ -1,0 +1,64 @@
+//! All offsets of a column in unary, in order.
+ghost use Rattle.std.specs.Prelude.{◌≡◌, ◌+◌, ◌-◌, ◌≤◌, ◌++◌, [], ◌∷◌, length, IfSome, IfNone};
+ghost use Rattle.std.specs.List.{range_with_len};
+ghost use Rattle.columnar_sums.specs.RankColumns.{bits_ranked, IsRanked};
+ghost use Rattle.columnar_sums.specs.Unary.{ends_of};
+
+use crate::rank_select::{Cursor, RankSelect};
+use columnar_core::tally::Tally;
+use columnar_core::words::Words;
+use std::marker::Model;
+
+/// The offsets of a column in unary, one after another.
+#[derive(Drop)]
+pub struct UnaryEnds<'a, CC: Words, VC: Words, WC: Words> {
+    cursor: Cursor<'a, CC, VC, WC>,
+}
+
+impl<'a, CC: Words, VC: Words, WC: Words> Model for UnaryEnds<'a, CC, VC, WC> {
+    ghost use Rattle.columnar_sums.specs.Unary.{EndsLeft, ends_after, ends_left};
+
+    ghost Value = { EndsLeft };
+
+    ghost view = { λ e. ends_left (ends_after e.cursor) e.cursor.word };
+}
+
+impl<'a, CC: Words, VC: Words, WC: Words> UnaryEnds<'a, CC, VC, WC> {
+    // All offsets that the bits are.
+    pub(crate) fn new<L>(
+        bits: &'a RankSelect<CC, VC, WC>,
+        tally: &mut Tally<L>,
+    ) -> UnaryEnds<'a, CC, VC, WC>
+        requires { IsRanked CC.bytes VC.bytes WC.bytes bits.now }
+        ensures stands { result ≡ record { left = ends_of 0 (bits_ranked VC.bytes WC.bytes bits.now); word = 0 } }
+        ensures loads { tally.new.words ≡ tally.old.words ++ 0 ∷ [] }
+        ensures counts { tally.new.counts ≡ tally.old.counts }
+    {
+        UnaryEnds {
+            cursor: bits.cursor_tallied(tally),
+        }
+    }
+
+    /// As `next`; the words that it loads are added to the tally: they come one after another, from the one after that
+    /// in which it stood up to the one in which it then stands. So each word is loaded once, however many are asked for.
+    pub fn next_tallied<L>(&mut self, tally: &mut Tally<L>) -> Option<u64>
+        ensures some { IfSome result (λ end. self.old.left ≡ end ∷ self.new.left) }
+        ensures none { IfNone result ((self.old.left ≡ []) × (self.new.left ≡ [])) }
+        ensures loads { tally.new.words ≡ tally.old.words ++ range_with_len (self.old.word + 1) (self.new.word - self.old.word) }
+        ensures forward { self.old.word ≤ self.new.word }
+        ensures counts { tally.new.counts ≡ tally.old.counts }
+    {
+        match self.cursor.next_one_tallied(tally) {
+            Some(place) => Some(place as u64 - (self.cursor.trues_before() - 1)),
+            None => None,
+        }
+    }
+
+    /// The next offset; None once all were given, and from then on.
+    pub fn next(&mut self) -> Option<u64>
+        ensures some { IfSome result (λ end. self.old.left ≡ end ∷ self.new.left) }
+        ensures none { IfNone result ((self.old.left ≡ []) × (self.new.left ≡ [])) }
+    {
+        self.next_tallied(&mut Tally::new())
+    }
+}

@@ -1,0 +1,354 @@
+//! Offsets in unary that grow and are cut.
+ghost use Rattle.std.specs.Prelude.{◌≡◌, ℕ, ◌+◌, ◌-◌, ◌*◌, ◌/◌, ◌%◌, ◌^◌, ◌<◌, ◌≤◌, [], ◌∷◌, ◌++◌, length, slice_range, true, OnOk, OnErr, IfErr, refl};
+ghost use Rattle.columnar_core.specs.Format.{IsSound};
+ghost use Rattle.columnar_core.specs.Change.{Stayed};
+ghost use Rattle.columnar_core.specs.Bounds.{numbers, last_or};
+ghost use Rattle.columnar_core.specs.WordViews.{words_in, le_bytes, view_bytes};
+ghost use Rattle.columnar_bits.specs.BoolColumns.{bools_format, owned_content, owned_bits, IsOfGrowth};
+ghost use Rattle.columnar_sums.specs.Counting.{ones};
+ghost use Rattle.columnar_sums.specs.RankColumns.{ranks_format, ranks_content, bits_ranked, owned_ranks, ranked_bits};
+ghost use Rattle.columnar_sums.specs.RankLaws.{ranks_lawful};
+ghost use Rattle.columnar_sums.specs.Unary.{zeros};
+ghost use Rattle.columnar_sums.specs.UnaryLaws.{unary_lawful};
+ghost use Rattle.columnar_sums.specs.UnaryColumns.{unaries_format, owned_unaries, repeated};
+
+use super::Unaries;
+use crate::rank_select::RankSelect;
+use columnar_bits::bools::Bools;
+use columnar_core::container::{
+    Borrow, Container, ExtendFrom, Reborrow, Reserve, Storage, Truncate,
+};
+use columnar_core::fault::GrowError;
+use columnar_core::offsets::{ExtendShifted, PushAfter};
+use columnar_core::tally::Tally;
+use columnar_core::traits::{Clear, Index, Len, Push, PushRef};
+use columnar_core::view::View;
+use std::alloc::Global;
+use std::ops::Range;
+
+type Held = RankSelect<Vec<u64>, Vec<u64>, [u64; 2]>;
+
+type Owned = Unaries<Vec<u64>, Vec<u64>, [u64; 2]>;
+
+type Viewed<'a> = Unaries<View<'a, u64>, View<'a, u64>, View<'a, u64>>;
+
+// Appends `count` falses and a true, which fill no word.
+fn push_short(values: &mut Bools<Vec<u64>, [u64; 2]>, count: usize)
+    requires sound { IsSound bools_format (owned_content values.old) }
+    requires few { length (owned_bits values.old) % 64 + count < 63 }
+    ensures bits { owned_bits values.new ≡ owned_bits values.old ++ (zeros count ++ true ∷ []) }
+    ensures sound { IsSound bools_format (owned_content values.new) }
+{
+    match values.push_bits(1 << count, count + 1) {
+        Ok(()) => {}
+        Err(_) => unreachable!(),
+    }
+}
+
+// Appends `count` falses, up to 64 at a time; all or none.
+fn push_falses(values: &mut Bools<Vec<u64>, [u64; 2]>, count: usize) -> Result<(), GrowError>
+    requires sound { IsSound bools_format (owned_content values.old) }
+    requires short { length (owned_bits values.old) + count < 2 ^ 64 }
+    ensures ok { OnOk result (owned_bits values.new ≡ owned_bits values.old ++ zeros count) }
+    ensures err { OnErr result (Stayed bools_format (owned_content values.old) (owned_content values.new)) }
+    ensures sound { IsSound bools_format (owned_content values.new) }
+    ensures memory { IfErr result (λ e. e ≡ GrowError.Memory) }
+{
+    let start = values.len();
+    let mut done = 0;
+    while done < count {
+        let some = (count - done).min(64);
+        match values.push_bits(0, some) {
+            Ok(()) => {}
+            Err(_) => {
+                values.truncate(start);
+                return Err(GrowError::Memory);
+            }
+        }
+        done += some;
+    }
+    Ok(())
+}
+
+// Appends the count once for each chunk from the first without one up to chunk `end`; all or none.
+fn count_run(counts: &mut Vec<u64>, total: u64, end: usize) -> Result<(), GrowError>
+    requires { length counts.old.items ≤ end }
+    ensures ok { OnOk result ((words_in (le_bytes counts.new.items) ≡ words_in (le_bytes counts.old.items) ++ repeated (end - length counts.old.items) total) × (length counts.new.items ≡ end)) }
+    ensures err { OnErr result (counts.new.items ≡ counts.old.items) }
+    ensures memory { IfErr result (λ e. e ≡ GrowError.Memory) }
+{
+    let before = Vec::len(counts);
+    for at in before..end {
+        match counts.push(total) {
+            Ok(()) => {}
+            Err(_) => {
+                counts.truncate(before);
+                return Err(GrowError::Memory);
+            }
+        }
+    }
+    Ok(())
+}
+
+// Makes room for what so many bits after the first `len` fill; none where they fill nothing.
+fn make_room(bits: &mut Held, len: usize, more: usize) -> Result<(), GrowError>
+    requires { len + more < 2 ^ 64 }
+    ensures same { owned_ranks bits.new ≡ owned_ranks bits.old }
+    ensures memory { IfErr result (λ e. e ≡ GrowError.Memory) }
+{
+    bits.values.values.reserve((len + more) / 64 - len / 64)?;
+    bits.counts.reserve((len + more) / 1024 - len / 1024)?;
+    Ok(())
+}
+
+// How many of the bits are set, where `count` more complete a chunk.
+fn total_of(bits: &Held, start: usize, count: usize) -> u64
+    requires sound { IsSound ranks_format (owned_ranks bits.now) }
+    requires start { start ≡ length (ranked_bits bits.now) }
+    requires short { start + count < 2 ^ 64 }
+    ensures { start / 1024 < (start + count) / 1024 → result ≡ ones (ranked_bits bits.now) (length (ranked_bits bits.now)) }
+{
+    if (start + count) / 1024 == start / 1024 {
+        return 0;
+    }
+    bits.rank(start) as u64
+}
+
+// Appends `count` falses; all or none.
+fn extend_falses(bits: &mut Held, count: usize) -> Result<(), GrowError>
+    requires sound { IsSound ranks_format (owned_ranks bits.old) }
+    requires short { length (ranked_bits bits.old) + count < 2 ^ 64 }
+    ensures ok { OnOk result (ranked_bits bits.new ≡ ranked_bits bits.old ++ zeros count) }
+    ensures err { OnErr result (Stayed ranks_format (owned_ranks bits.old) (owned_ranks bits.new)) }
+    ensures sound { IsSound ranks_format (owned_ranks bits.new) }
+    ensures memory { IfErr result (λ e. e ≡ GrowError.Memory) }
+{
+    let start = bits.values.len();
+    let total = total_of(bits, start, count);
+    push_falses(&mut bits.values, count)?;
+    match count_run(&mut bits.counts, total, (start + count) / 1024) {
+        Ok(()) => Ok(()),
+        Err(error) => {
+            bits.values.truncate(start);
+            Err(error)
+        }
+    }
+}
+
+// Appends `count` falses and a true; all or none. Memory for the words is taken before a bit is written, and none where
+// they fill no word.
+#[inline]
+fn push_run(bits: &mut Held, count: usize) -> Result<(), GrowError>
+    requires sound { IsSound ranks_format (owned_ranks bits.old) }
+    requires short { length (ranked_bits bits.old) + count + 1 < 2 ^ 64 }
+    ensures ok { OnOk result (ranked_bits bits.new ≡ ranked_bits bits.old ++ (zeros count ++ true ∷ [])) }
+    ensures err { OnErr result (Stayed ranks_format (owned_ranks bits.old) (owned_ranks bits.new)) }
+    ensures sound { IsSound ranks_format (owned_ranks bits.new) }
+    ensures memory { IfErr result (λ e. e ≡ GrowError.Memory) }
+{
+    if bits.values.len() % 64 + count < 63 {
+        push_short(&mut bits.values, count);
+        return Ok(());
+    }
+    push_long(bits, count)
+}
+
+// As `push_run`, of bits that may fill a word; apart, so that the push of others is a few instructions.
+#[cold]
+#[inline(never)]
+fn push_long(bits: &mut Held, count: usize) -> Result<(), GrowError>
+    requires sound { IsSound ranks_format (owned_ranks bits.old) }
+    requires short { length (ranked_bits bits.old) + count + 1 < 2 ^ 64 }
+    ensures ok { OnOk result (ranked_bits bits.new ≡ ranked_bits bits.old ++ (zeros count ++ true ∷ [])) }
+    ensures err { OnErr result (Stayed ranks_format (owned_ranks bits.old) (owned_ranks bits.new)) }
+    ensures sound { IsSound ranks_format (owned_ranks bits.new) }
+    ensures memory { IfErr result (λ e. e ≡ GrowError.Memory) }
+{
+    let before = bits.len();
+    make_room(bits, before, count + 1)?;
+    extend_falses(bits, count)?;
+    match bits.push_bit(true) {
+        Ok(()) => Ok(()),
+        Err(_) => {
+            bits.truncate(before);
+            Err(GrowError::Memory)
+        }
+    }
+}
+
+// Appends the bits of the range of others; all or none.
+fn copy_bits(
+    bits: &mut Held,
+    other: &RankSelect<View<'_, u64>, View<'_, u64>, View<'_, u64>>,
+    range: Range<usize>,
+) -> Result<(), GrowError>
+    requires sound { IsSound ranks_format (owned_ranks bits.old) }
+    requires other { IsSound ranks_format (ranks_content view_bytes view_bytes view_bytes other.now) }
+    requires ordered { range.start ≤ range.«end» }
+    requires in_range { range.«end» ≤ length (bits_ranked view_bytes view_bytes other.now) }
+    ensures ok { OnOk result (ranked_bits bits.new ≡ ranked_bits bits.old ++ slice_range (bits_ranked view_bytes view_bytes other.now) range.start range.«end») }
+    ensures err { OnErr result (Stayed ranks_format (owned_ranks bits.old) (owned_ranks bits.new)) }
+    ensures length { result ≡ Err GrowError.Length → 2 ^ 64 ≤ length (ranked_bits bits.old) + (range.«end» - range.start) }
+    ensures kinds { IfErr result IsOfGrowth }
+    ensures sound { IsSound ranks_format (owned_ranks bits.new) }
+{
+    bits.extend_ranked_tallied(other, range, &mut Tally::new())
+}
+
+impl Owned {
+    // The last offset, 0 where there is none.
+    fn last_end(&self) -> u64
+        requires { IsSound unaries_format (owned_unaries self.now) }
+        ensures { result ≡ last_or 0 (numbers (unaries_format.rows (owned_unaries self.now))) }
+    {
+        let len = self.bits.len();
+        (len - self.bits.rank(len)) as u64
+    }
+}
+
+/// Offset is answered where the offset is below the last one, and else Length where there would be more than 2^64 - 1
+/// bits, both before anything grows. No rank is asked for where the bits complete no 1024.
+impl PushAfter for Owned {
+    fn push_after(&mut self, last: u64, offset: u64) -> Result<(), GrowError> {
+        if offset < last {
+            return Err(GrowError::Offset);
+        }
+        let len = self.bits.len();
+        let run = (offset - last) as usize;
+        if run >= usize::MAX - len {
+            return Err(GrowError::Length);
+        }
+        push_run(&mut self.bits, run)
+    }
+}
+
+/// As `push_after`; the last offset is found by one rank.
+impl Push<u64> for Owned {
+    fn push(&mut self, item: u64) -> Result<(), GrowError> {
+        let last = self.last_end();
+        self.push_after(last, item)
+    }
+}
+
+impl<'x> Push<&'x u64> for Owned {
+    fn push(&mut self, item: &'x u64) -> Result<(), GrowError> {
+        self.push_ref(item)
+    }
+}
+
+impl PushRef<u64> for Owned {
+    fn push_ref(&mut self, item: &u64) -> Result<(), GrowError> {
+        Push::<u64>::push(self, *item)
+    }
+}
+
+impl Clear for Owned {
+    fn clear(&mut self) {
+        self.bits.clear();
+    }
+}
+
+impl Truncate for Owned {
+    ghost lawful = { unary_lawful ranks_format ranks_lawful };
+
+    fn truncate(&mut self, n: usize) {
+        let end = self.cut_end(n);
+        self.bits.truncate(end);
+    }
+}
+
+impl Storage for Owned {
+    fn empty(alloc: Global) -> Self {
+        Unaries {
+            bits: <Held as Storage>::empty(alloc),
+        }
+    }
+
+    fn duplicate(&self, alloc: Global) -> Result<Self, GrowError> {
+        let bits = self.bits.duplicate(alloc)?;
+        Ok(Unaries { bits })
+    }
+}
+
+impl Reserve for Owned {
+    type Room = (usize, usize);
+
+    fn no_room() -> (usize, usize) {
+        (0, 0)
+    }
+
+    fn reserve_room(&mut self, room: (usize, usize)) -> Result<(), GrowError> {
+        self.bits.reserve_room(room)
+    }
+}
+
+impl<'x> ExtendFrom<Viewed<'x>> for Owned {
+    fn add_room(room: (usize, usize), view: Viewed<'x>) -> (usize, usize) {
+        Held::add_room(room, view.bits)
+    }
+
+    /// Pushes the offsets of the range in turn, or none of them: Offset where the first is below the last of its own.
+    fn extend_from_self(&mut self, view: Viewed<'x>, range: Range<usize>) -> Result<(), GrowError> {
+        let before = self.len();
+        for i in range.start..range.end {
+            match Push::<u64>::push(self, view.get(i)) {
+                Ok(()) => {}
+                Err(error) => {
+                    self.truncate(before);
+                    return Err(error);
+                }
+            }
+        }
+        Ok(())
+    }
+}
+
+/// The bits of the range are copied at once, since between two trues they are the same whatever stands before; so no
+/// offset is read but the last. The turns of that copy are not added to the tally.
+impl<'x> ExtendShifted<Viewed<'x>> for Owned {
+    fn extend_shifted_tallied<L>(
+        &mut self,
+        view: &Viewed<'x>,
+        range: Range<usize>,
+        lower: u64,
+        _start: usize,
+        _tally: &mut Tally<L>,
+    ) -> Result<(), GrowError> {
+        let from = lower as usize + range.start;
+        let to = view.cut_end(range.end);
+        copy_bits(&mut self.bits, &view.bits, from..to)
+    }
+}
+
+impl<'a> Borrow<'a> for Owned {
+    type Ref = u64;
+
+    type Borrowed = Viewed<'a>;
+
+    type Parts = u64;
+
+    ghost same_format = { refl };
+
+    fn borrow(&'a self) -> Viewed<'a> {
+        Unaries {
+            bits: self.bits.borrow(),
+        }
+    }
+}
+
+impl<'a> Container<'a> for Owned {}
+
+impl<'a, 'b> Reborrow<'b> for Viewed<'a>
+where
+    'a: 'b,
+{
+    type Short = Viewed<'b>;
+
+    ghost same_short = { refl };
+
+    fn reborrow(self) -> Viewed<'b> {
+        Unaries {
+            bits: self.bits.reborrow(),
+        }
+    }
+}

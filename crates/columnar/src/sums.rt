@@ -1,7 +1,9 @@
-//! Columns of sums.
+//! Columns of sums, and offsets in unary.
 
 pub mod discriminant;
 pub mod option;
 pub mod rank_select;
 pub mod result;
 pub mod variants;
+
+pub use columnar_sums::unaries::{Unaries, UnaryEnds};

@@ -7,11 +7,13 @@ pub use Rattle.columnar_core.specs.ChangeLaws
 pub use Rattle.columnar_core.specs.AlikeLaws
 pub use Rattle.columnar_bytes.specs.Accepted
 pub use Rattle.columnar_bytes.specs.Stashes
+pub use Rattle.columnar_bytes.specs.Either
 pub use Rattle.columnar_core.specs.Faults
 pub use Rattle.columnar_core.specs.RowsLeft
 pub use Rattle.columnar_core.specs.RowsLeftLaws
 pub use Rattle.columnar_core.specs.Words
 pub use Rattle.columnar_core.specs.Bounds
+pub use Rattle.columnar_core.specs.Earlier
 pub use Rattle.columnar_core.specs.TwoParts
 pub use Rattle.columnar_core.specs.Tuples
 pub use Rattle.columnar_core.specs.TupleLaws
@@ -19,6 +21,8 @@ pub use Rattle.columnar_core.specs.LongTuples
 pub use Rattle.columnar_core.specs.Sent
 pub use Rattle.columnar_sums.specs.Counting
 pub use Rattle.columnar_sums.specs.RankColumns
+pub use Rattle.columnar_sums.specs.Unary
+pub use Rattle.columnar_sums.specs.UnaryColumns
 pub use Rattle.columnar_sums.specs.Options
 pub use Rattle.columnar_sums.specs.Results
 pub use Rattle.columnar_sums.specs.Discriminants

@@ -4,6 +4,7 @@ pub mod index;
 
 pub use columnar_core::bytes::{AsBytes, FromBytes};
 pub use columnar_core::container::{BorrowIndexAs, Named, PushIndexAs};
+pub use columnar_core::earlier::{Earlier, Kept};
 pub use columnar_core::element::{Element, Primitive, Wide};
 pub use columnar_core::iter::IterOwn;
 pub use columnar_core::metered::{MeteredCounts, MeteredWords};

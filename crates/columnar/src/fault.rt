@@ -1,5 +1,5 @@
 //! Why a call is refused.
 
 pub use columnar_core::fault::{
-    EncodeError, GrowError, OwnError, StoreFault, SumError, WriteFault,
+    EitherFault, EncodeError, GrowError, OwnError, StoreFault, SumError, WriteFault,
 };

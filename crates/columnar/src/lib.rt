@@ -21,7 +21,7 @@ pub use columnar_core::container::{
     Borrow, Container, ContainerBytes, ExtendFrom, Reborrow, ReborrowRef, Reserve, Storage,
     Truncate,
 };
-pub use columnar_core::offsets::{Offsets, StoredOffsets};
+pub use columnar_core::offsets::{ExtendShifted, Offsets, PushAfter, StoredOffsets};
 pub use columnar_core::slice::Slice;
 pub use columnar_core::traits::{
     Clear, Column, CopyAs, Index, IndexAs, Item, Len, Push, PushInto, PushRef,

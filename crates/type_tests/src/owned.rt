@@ -1,7 +1,7 @@
 // Values that come back from columns, and rows that have no value.
 use crate::calls::{come_back, refusal_of};
 use columnar::Columnar;
-use columnar::common::Slice;
+use columnar::common::{Slice, View};
 use columnar::fault::OwnError;
 use std::test::Fail;
 use test_support::holds;
@@ -37,7 +37,7 @@ fn bytes_that_are_no_text_have_no_value(rt: HostRuntime) -> Result<(), Fail> {
 #[test]
 fn a_list_of_two_is_no_array_of_three(rt: HostRuntime) -> Result<(), Fail> {
     let alloc = rt.alloc();
-    let row = Slice::new(0, 2, &TWO);
+    let row = Slice::new(0, 2, View::from_slice(TWO.as_slice()));
     let mut target = [7u64, 8, 9];
     holds!(rt; target.copy_from(alloc, row) == Err(OwnError::WrongLength));
     holds!(rt; target == [7, 8, 9]);

@@ -186,7 +186,25 @@ static TABLE: [u64; 12] = [
 
 // Alice alone
 static ALONE: [u64; 19] = [
-    96, 104, 109, 120, 120, 120, 136, 136, 136, 136, 136, 152, 5, 435459550273, 20, 0, 0, 1, 1,
+    96,
+    104,
+    109,
+    120,
+    120,
+    120,
+    136,
+    136,
+    136,
+    136,
+    136,
+    152,
+    5,
+    435459550273,
+    20,
+    0,
+    0,
+    1,
+    1,
 ];
 
 // The bytes of these words, and then others
@@ -214,11 +232,28 @@ fn the_written_roster_is_accepted_and_no_part_of_it(rt: HostRuntime) -> Result<(
     assert_eq!(rt; front(bytes, 96), table.as_slice());
     assert!(rt; prints(&rt, bytes, 0, "rows: 1026\n")?);
     assert!(rt; prints(&rt, front(bytes, 58800), 1, "refused: 6 in slice 10\n")?);
+    let other = with_byte(&rt, bytes, 0, 104)?;
+    assert!(rt; prints(&rt, other.as_slice(), 1, "refused: 5 in slice 0\n")?);
+    let other = with_byte(&rt, bytes, 96, 6)?;
+    assert!(rt; prints(&rt, other.as_slice(), 1, "refused: 11 in slice 0\n")?);
     for words in 0..7351 {
-        let done = judged(&rt, front(bytes, 8 * words))?;
-        assert_eq!(rt; done.status, 1);
+        assert!(rt; is_refused(rt.alloc(), front(bytes, 8 * words)));
     }
     Ok(())
+}
+
+// The bytes with another one in this place
+fn with_byte(rt: &HostRuntime, bytes: &[u8], at: usize, value: u8) -> Result<Vec<u8>, Fail> {
+    let mut copy = bytes.to_vec(rt.alloc())?;
+    if let Some(byte) = copy.get_mut(at) {
+        *byte = value;
+    }
+    Ok(copy)
+}
+
+// Are the bytes accepted in neither form?
+fn is_refused(alloc: Global, bytes: &[u8]) -> bool {
+    Stash::<Columns, &[u8]>::try_from_either(alloc, bytes).is_err()
 }
 
 // The bytes of the groups in the earlier form

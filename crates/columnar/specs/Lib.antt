@@ -31,6 +31,7 @@ pub use Rattle.columnar_variants.specs.Variants
 pub use Rattle.columnar_variants.specs.VariantLaws
 pub use Rattle.columnar_variants.specs.Duals
 pub use Rattle.columnar_variants.specs.DualLaws
+pub use Rattle.columnar_variants.specs.DualEarlier
 pub use Rattle.columnar_types.specs.Owned
 pub use Rattle.columnar_types.specs.OwnedLaws
 pub use Rattle.columnar_types.specs.Made

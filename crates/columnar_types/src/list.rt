@@ -6,14 +6,16 @@ use columnar_base::fault::OwnError;
 use columnar_base::traits::{Index, Len};
 use columnar_core::slice::Slice;
 use columnar_lists::vector::Vecs;
+use columnar_sums::unaries::Unaries;
 use smallvec::SmallVec;
 use std::alloc::Global;
 use std::default::MadeWith;
 
+/// A list takes a bit, and each item of it another, beside the items.
 impl<T: Columnar> Columnar for Vec<T> {
     ghost unfit = { list_unfit T.unfit };
 
-    type Container = Vecs<T::Container, Vec<u64>>;
+    type Container = Vecs<T::Container, Unaries<Vec<u64>, Vec<u64>, [u64; 2]>>;
 }
 
 impl<V: Index + Copy, T: FromRow<V::Ref>> FromRow<Slice<V>> for Vec<T> {

@@ -14,3 +14,4 @@ pub mod CaseLaws
 pub mod Duals
 pub mod DualLaws
 pub mod DualCopies
+pub mod DualEarlier

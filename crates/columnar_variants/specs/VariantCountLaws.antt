@@ -99,3 +99,7 @@ front_other k v n vs l h o =
     absent_front v k zero m o = refl
     absent_front v k (suc n) zero o = refl
     absent_front v k (suc n) (suc m) o = times_other v k (take n (replicate m k)) o ∙ absent_front v k n m o
+
+pub told_same : (ls : List ℕ) (n m : ℕ → ℕ) → ((i : ℕ) → i < length ls → n i ≡ m i) → are_told ls n ≡ are_told ls m
+told_same [] n m h = refl
+told_same (l ∷ ls) n m h = let e : n 0 ≡ m 0 = h 0 (omega arith) in let k = told_same ls (λ v. n (suc v)) (λ v. m (suc v)) (λ i q. h (suc i) (omega arith)) in rw (e, k) refl

@@ -81,9 +81,23 @@ pub fn count_variants<CVar: Variants, COff: Words, L>(
     Some(counts)
 }
 
+// Has each column as many rows as were counted of its variant?
+fn are_level(lengths: &[usize], counts: &[u64; 256]) -> bool
+    requires { length lengths.now ≤ 256 }
+    ensures { result ≡ are_told lengths.now (slice_index counts.now) }
+{
+    for column in 0..lengths.len() {
+        if lengths[column] as u64 != count_of(counts, column) {
+            return false;
+        }
+    }
+    true
+}
+
 /// Is each variant below the number of columns, and has each column as many rows as there are of its variant? `Variant`
 /// and `Parts`, at slice `from`; `lengths` has the number of rows of each column, in the order of their variants. Where all
-/// rows are of one variant none is looked at; else a turn for each variant.
+/// rows are of one variant none is looked at; else a turn for each variant. The columns are as many as the type has: a look at
+/// each is not counted.
 pub fn judge_counts<CVar: Variants, COff: Words, L>(
     indexes: &Discriminant<CVar, COff>,
     lengths: &[usize],
@@ -99,10 +113,9 @@ pub fn judge_counts<CVar: Variants, COff: Words, L>(
         None => return Err(StoreFault::Variant(from)),
         Some(counts) => counts,
     };
-    for column in 0..lengths.len() {
-        if lengths[column] as u64 != count_of(&counts, column) {
-            return Err(StoreFault::Parts(from));
-        }
+    if are_level(lengths, &counts) {
+        Ok(())
+    } else {
+        Err(StoreFault::Parts(from))
     }
-    Ok(())
 }

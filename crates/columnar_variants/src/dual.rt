@@ -9,6 +9,7 @@ ghost use Rattle.columnar_variants.specs.Duals.{dual_content, dual_format};
 
 pub mod bytes;
 pub mod copy;
+pub mod earlier;
 
 use crate::case::{push_case, push_ref_case, rows_before};
 use columnar_core::container::{Reserve, Truncate};

@@ -1,12 +1,14 @@
 //! What the program's words ask for.
-ghost use Rattle.std.specs.Prelude.{◌≡◌, ◌∷◌, [], ◌↔◌, IfOk, IsTrue};
+ghost use Rattle.std.specs.Prelude.{◌≡◌, ◌∷◌, [], ◌≤◌, ◌↔◌, IfOk};
 ghost use Rattle.columnar.specs.Accepted.{Accepts};
+ghost use Rattle.columnar.specs.Either.{Either};
 ghost use Rattle.columnar.specs.Frame.{framed_slices};
 
 use crate::group::Group;
-use crate::roster::{Columns, Person, Unbuilt, ages, bytes_of, everyone, print_slices};
+use crate::roster::{Columns, OldColumns, Person, Unbuilt, ages, bytes_of, everyone, print_slices};
 use columnar::bytes::indexed::encode;
 use columnar::bytes::stash::Stash;
+use columnar::fault::{EitherFault, GrowError};
 use columnar::{Column, Item, Len, Push};
 use std::alloc::{AllocError, Global};
 use std::fs;
@@ -150,24 +152,30 @@ fn check<R: Files, O: Write>(
     judge(alloc, bytes, out)
 }
 
-// Status 0 and the number of rows exactly where the bytes are accepted.
+// Prints the number of rows, status 0, where the bytes are accepted for the roster's columns or for their earlier form; else
+// the first broken rule, status 1.
 fn judge<O: Write>(alloc: Global, bytes: Vec<u8>, out: &mut O) -> Result<u8, Failure>
-    ensures { IfOk result (λ status. (status ≡ 0) ↔ Accepts ⟦<Columns as Column>⟧.format bytes.items) }
+    ensures refused { IfOk result (λ status. (status ≡ 1) ↔ (Either ⟦<Columns as Column>⟧.format ⟦<OldColumns as Column>⟧.format bytes.items → ⊥)) }
+    ensures two { IfOk result (λ status. status ≤ 1) }
 {
-    match Stash::<Columns, Vec<u8>>::try_from_bytes(alloc, bytes) {
+    match Stash::<Columns, Vec<u8>>::try_from_either(alloc, bytes) {
         Ok(opened) => match writeln!(out, "rows: {}", opened.len()) {
             Ok(()) => Ok(0),
             Err(_) => Err(Failure::Output),
         },
-        Err(fault) => match writeln!(
-            out,
-            "refused: {} in slice {}",
-            fault.number(),
-            fault.slice()
-        ) {
-            Ok(()) => Ok(1),
-            Err(_) => Err(Failure::Output),
-        },
+        Err(EitherFault::Store(fault)) => {
+            match writeln!(
+                out,
+                "refused: {} in slice {}",
+                fault.number(),
+                fault.slice()
+            ) {
+                Ok(()) => Ok(1),
+                Err(_) => Err(Failure::Output),
+            }
+        }
+        Err(EitherFault::Grow(GrowError::Memory)) => Err(Failure::Memory),
+        Err(EitherFault::Grow(_)) => Err(Failure::TooLong),
     }
 }
 

@@ -5,6 +5,7 @@ ghost use Rattle.columnar.specs.Format.{IsSound, representable};
 
 use crate::group::{Group, GroupReference};
 use columnar::bytes::stash::Stash;
+use columnar::common::Earlier;
 use columnar::fault::{GrowError, WriteFault};
 use columnar::{
     AsBytes, Columnar, ContainerBytes, ContainerOf, Index, Item, Len, PushRef, Slice, Storage,
@@ -17,6 +18,9 @@ pub type Person = (String, u64);
 
 /// The column of those who are present.
 pub type Columns = ContainerOf<Group<Person>>;
+
+/// The earlier form of these columns, with bounds of lists that are numbers.
+pub type OldColumns = <Columns as Earlier>::Old;
 
 /// Why something was not built.
 #[derive(Clone, Copy)]

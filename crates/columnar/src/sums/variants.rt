@@ -9,6 +9,7 @@ pub use columnar_variants::dual::bytes::{
     slice_of_dual, view_of_dual,
 };
 pub use columnar_variants::dual::copy::extend_dual;
+pub use columnar_variants::dual::earlier::from_old_dual;
 pub use columnar_variants::dual::{
     get_dual, len_of_dual, push_first, push_first_ref, push_second, push_second_ref, reserve_dual,
     truncate_dual,

@@ -1,5 +1,6 @@
 // What each use prints, and with which status it ends, also where an output fails.
 use super::*;
+use columnar::{PushRef, Storage};
 use std::io::{Error, ErrorKind};
 use std::test::Fail;
 
@@ -15,7 +16,9 @@ static CANNOT_READ: &str = "failed: cannot read\n";
 static SHOWN: &str = "align: 8, bytes.len(): 8
 align: 1, bytes.len(): 5
 align: 8, bytes.len(): 8
-align: 8, bytes.len(): 8200
+align: 8, bytes.len(): 24
+align: 8, bytes.len(): 384
+align: 8, bytes.len(): 16
 align: 8, bytes.len(): 16400
 align: 1, bytes.len(): 16220
 align: 8, bytes.len(): 16400
@@ -176,20 +179,126 @@ fn judged(rt: &HostRuntime, bytes: &[u8]) -> Result<Outcome, Fail> {
     })
 }
 
+// The words that start the roster's bytes: where its slices end
+static TABLE: [u64; 12] = [
+    96, 104, 109, 120, 144, 528, 544, 16944, 33164, 49568, 50594, 58808,
+];
+
+// Alice alone
+static ALONE: [u64; 19] = [
+    96,
+    104,
+    109,
+    120,
+    120,
+    120,
+    136,
+    136,
+    136,
+    136,
+    136,
+    152,
+    5,
+    435459550273,
+    20,
+    0,
+    0,
+    1,
+    1,
+];
+
+// The bytes of these words, and then others
+fn bytes_after(rt: &HostRuntime, words: &[u64], rest: &[u8]) -> Result<Vec<u8>, Fail> {
+    let mut bytes = Vec::new(rt.alloc());
+    for word in words {
+        bytes.extend_from_slice(&word.to_le_bytes())?;
+    }
+    bytes.extend_from_slice(rest)?;
+    Ok(bytes)
+}
+
+// Is this what a check of these bytes prints, with this status?
+fn prints(rt: &HostRuntime, bytes: &[u8], status: u8, text: &str) -> Result<bool, Fail> {
+    let done = judged(rt, bytes)?;
+    Ok(done.status == status && done.out.as_slice() == text.as_bytes())
+}
+
 #[test]
 fn the_written_roster_is_accepted_and_no_part_of_it(rt: HostRuntime) -> Result<(), Fail> {
-    let bytes = roster_bytes(rt.alloc()).ok().ok_or("no roster")?;
-    assert_eq!(rt; bytes.len(), 66568);
-    let done = judged(&rt, bytes.as_slice())?;
-    assert_eq!(rt; done.status, 0);
-    assert_eq!(rt; done.out.as_slice(), b"rows: 1026\n".as_slice());
-    let done = judged(&rt, front(bytes.as_slice(), 66560))?;
-    assert_eq!(rt; done.status, 1);
-    assert_eq!(rt; done.out.as_slice(), b"refused: 6 in slice 8\n".as_slice());
-    for words in 0..100 {
-        let done = judged(&rt, front(bytes.as_slice(), 8 * words))?;
-        assert_eq!(rt; done.status, 1);
+    let owned = roster_bytes(rt.alloc()).ok().ok_or("no roster")?;
+    let bytes = owned.as_slice();
+    assert_eq!(rt; bytes.len(), 58808);
+    let table = bytes_after(&rt, TABLE.as_slice(), [].as_slice())?;
+    assert_eq!(rt; front(bytes, 96), table.as_slice());
+    assert!(rt; prints(&rt, bytes, 0, "rows: 1026\n")?);
+    assert!(rt; prints(&rt, front(bytes, 58800), 1, "refused: 6 in slice 10\n")?);
+    let other = with_byte(&rt, bytes, 0, 104)?;
+    assert!(rt; prints(&rt, other.as_slice(), 1, "refused: 5 in slice 0\n")?);
+    let other = with_byte(&rt, bytes, 96, 6)?;
+    assert!(rt; prints(&rt, other.as_slice(), 1, "refused: 11 in slice 0\n")?);
+    for words in 0..7351 {
+        assert!(rt; is_refused(rt.alloc(), front(bytes, 8 * words)));
     }
+    Ok(())
+}
+
+// The bytes with another one in this place
+fn with_byte(rt: &HostRuntime, bytes: &[u8], at: usize, value: u8) -> Result<Vec<u8>, Fail> {
+    let mut copy = bytes.to_vec(rt.alloc())?;
+    if let Some(byte) = copy.get_mut(at) {
+        *byte = value;
+    }
+    Ok(copy)
+}
+
+// Are the bytes accepted in neither form?
+fn is_refused(alloc: Global, bytes: &[u8]) -> bool {
+    Stash::<Columns, &[u8]>::try_from_either(alloc, bytes).is_err()
+}
+
+// The bytes of the groups in the earlier form
+fn old_bytes(alloc: Global, groups: &[Group<Person>]) -> Option<Vec<u8>> {
+    let mut column = <OldColumns as Storage>::empty(alloc);
+    column.push_slice(groups).ok()?;
+    let mut bytes = Vec::new(alloc);
+    Stash::<OldColumns, Vec<u8>>::Typed(column)
+        .write_bytes(&mut bytes)
+        .ok()?;
+    Some(bytes)
+}
+
+#[test]
+fn an_earlier_roster_is_accepted(rt: HostRuntime) -> Result<(), Fail> {
+    let groups = everyone(rt.alloc())?;
+    let owned = old_bytes(rt.alloc(), groups.as_slice()).ok_or("no roster")?;
+    let bytes = owned.as_slice();
+    assert_eq!(rt; bytes.len(), 66568);
+    assert!(rt; prints(&rt, bytes, 0, "rows: 1026\n")?);
+    assert!(rt; prints(&rt, front(bytes, 66560), 1, "refused: 6 in slice 8\n")?);
+    Ok(())
+}
+
+static OF_VARIANT_TWO: [u64; 2] = [3, 1];
+
+static OF_A_TEAM: [u64; 2] = [2, 1];
+
+#[test]
+fn one_alone_is_nineteen_words(rt: HostRuntime) -> Result<(), Fail> {
+    let alloc = rt.alloc();
+    let mut groups = Vec::new(alloc);
+    groups.push(Group::Solo((String::from_str(alloc, "Alice")?, 20)))?;
+    let bytes = bytes_of::<Group<Person>>(alloc, groups.as_slice())
+        .ok()
+        .ok_or("no bytes")?;
+    let wanted = bytes_after(&rt, ALONE.as_slice(), [].as_slice())?;
+    assert_eq!(rt; bytes.as_slice(), wanted.as_slice());
+    assert!(rt; prints(&rt, wanted.as_slice(), 0, "rows: 1\n")?);
+    let last = bytes_after(&rt, OF_VARIANT_TWO.as_slice(), [].as_slice())?;
+    let other = bytes_after(&rt, &ALONE[..17], last.as_slice())?;
+    assert!(rt; prints(&rt, other.as_slice(), 1, "refused: 17 in slice 0\n")?);
+    let last = bytes_after(&rt, OF_A_TEAM.as_slice(), [].as_slice())?;
+    let other = bytes_after(&rt, &ALONE[..17], last.as_slice())?;
+    assert!(rt; prints(&rt, other.as_slice(), 1, "refused: 10 in slice 0\n")?);
     Ok(())
 }
 

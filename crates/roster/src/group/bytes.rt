@@ -1,18 +1,19 @@
 //! Groups in slices of bytes: those of the solos, of the teams, and of the variants.
 ghost use Rattle.std.specs.Prelude.{◌++◌, refl};
 ghost use Rattle.columnar.specs.Discriminants.{forms_content};
+ghost use Rattle.columnar.specs.DualEarlier.{earlier_dual};
 ghost use Rattle.columnar.specs.DualLaws.{dual_storable, dual_counted};
 
 use super::GroupContainer;
 use columnar::bytes::ByteSlice;
 use columnar::bytes::indexed::DecodedStore;
-use columnar::common::{Tally, View};
+use columnar::common::{Earlier, Tally, View};
 use columnar::fault::{GrowError, StoreFault};
 use columnar::primitive::offsets::Words;
 use columnar::sums::discriminant::Variants;
 use columnar::sums::variants::{
-    byte_slice_of_dual, check_dual, count_dual, judge_dual, load_dual, rows_in_dual, sizes_of_dual,
-    slice_of_dual, view_of_dual,
+    byte_slice_of_dual, check_dual, count_dual, from_old_dual, judge_dual, load_dual, rows_in_dual,
+    sizes_of_dual, slice_of_dual, view_of_dual,
 };
 use columnar::{AsBytes, Check, ContainerBytes, FromBytes, Len, Stored};
 use std::alloc::Global;
@@ -81,6 +82,30 @@ impl<SC: ContainerBytes + Drop, TC: ContainerBytes + Drop> ContainerBytes
 
     fn load(alloc: Global, store: &DecodedStore<'_>, offset: usize) -> Result<Self, GrowError> {
         let (solos, teams, indexes) = load_dual::<SC, TC>(alloc, store, offset)?;
+        Ok(GroupContainer {
+            Solo: solos,
+            Team: teams,
+            indexes,
+        })
+    }
+}
+
+/// The earlier form is that of both columns.
+impl<SC: Earlier + Drop, TC: Earlier> Earlier for GroupContainer<SC, TC, Vec<u8>, Vec<u64>> {
+    type Old = GroupContainer<SC::Old, TC::Old, Vec<u8>, Vec<u64>>;
+
+    ghost earlier = { earlier_dual SC.Old.format SC.format TC.Old.format TC.format SC.earlier TC.earlier };
+
+    fn from_old(
+        alloc: Global,
+        old: GroupContainer<SC::Old, TC::Old, Vec<u8>, Vec<u64>>,
+    ) -> Result<Self, GrowError> {
+        let GroupContainer {
+            Solo: solos,
+            Team: teams,
+            indexes,
+        } = old;
+        let (solos, teams) = from_old_dual::<SC, TC>(alloc, solos, teams, &indexes)?;
         Ok(GroupContainer {
             Solo: solos,
             Team: teams,

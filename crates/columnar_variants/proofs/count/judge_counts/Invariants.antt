@@ -1,6 +1,0 @@
-use Rattle.std.proofs.Common.{◌≡◌, ◌<◌, ℕ}
-use Rattle.std.specs.Prelude.{slice_index}
-use Rattle.columnar_variants.proofs.count.judge_counts.Given as goal
-
-abbrev pub invariant-loop-column : goal.invariant-loop-column
-invariant-loop-column g l = (i : ℕ) → i < l.column → slice_index l.lengths i ≡ slice_index l.counts i

@@ -1,0 +1,85 @@
+//! What the tests do with a type, each by one call.
+ghost use Rattle.std.specs.Prelude.{All, IsTrue};
+ghost use Rattle.columnar.specs.Format.{representable};
+
+use columnar::bytes::stash::Stash;
+use columnar::fault::OwnError;
+use columnar::{
+    Borrow, Columnar, ContainerBytes, ContainerOf, FromRow, Index, Item, Len, PushRef, Ref, Storage,
+};
+use std::alloc::Global;
+
+/// Are the items, as a column, these words?
+pub fn are_words<T: Columnar>(alloc: Global, items: &[T], words: &[u64]) -> bool
+where
+    T::Container: ContainerBytes + Storage + PushRef<T>,
+    requires representable { IsTrue (representable T.Container.format) }
+    requires valid { All T.valid items.now }
+{
+    let Ok(column) = T::column_of(alloc, items) else {
+        return false;
+    };
+    let mut bytes = Vec::new(alloc);
+    if Stash::<T::Container, Vec<u8>>::Typed(column)
+        .write_bytes(&mut bytes)
+        .is_err()
+    {
+        return false;
+    }
+    let mut wanted = Vec::new(alloc);
+    for word in words {
+        if wanted.extend_from_slice(&word.to_le_bytes()).is_err() {
+            return false;
+        }
+    }
+    bytes.as_slice() == wanted.as_slice()
+}
+
+/// Do the items come back from a column of them? The slot keeps the column.
+pub fn come_back<'a, T: FromRow<Ref<'a, T>> + PartialEq>(
+    alloc: Global,
+    slot: &'a mut Option<ContainerOf<T>>,
+    items: &[T],
+) -> bool
+where
+    T::Container: Storage + PushRef<T> + Borrow<'a>,
+    requires { All T.valid items.now }
+{
+    let Ok(column) = T::column_of(alloc, items) else {
+        return false;
+    };
+    let column: &'a ContainerOf<T> = slot.insert(column);
+    let view = column.borrow();
+    if view.len() != items.len() {
+        return false;
+    }
+    for index in 0..items.len() {
+        match T::into_owned(alloc, view.get(index)) {
+            Ok(value) => {
+                if value != items[index] {
+                    return false;
+                }
+            }
+            Err(_) => return false,
+        }
+    }
+    true
+}
+
+/// Why a row has no value of the type, if it has none
+pub fn refusal_of<R: Item, T: FromRow<R>>(alloc: Global, row: R) -> Option<OwnError>
+    requires { R.valid row }
+{
+    match T::into_owned(alloc, row) {
+        Ok(_value) => None,
+        Err(error) => Some(error),
+    }
+}
+
+/// Has the column of a type bytes, and does it take values of the type by reference?
+pub fn is_columnar<T: Columnar>() -> bool
+where
+    T::Container: ContainerBytes + PushRef<T>,
+{
+    true
+}

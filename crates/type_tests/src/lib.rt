@@ -1,0 +1,12 @@
+//! Tests of types as columns, by `columnar`'s public calls.
+#![tactic(auto)]
+
+pub mod calls;
+#[cfg(test)]
+mod claims;
+#[cfg(test)]
+mod owned;
+#[cfg(test)]
+mod stores;
+#[cfg(test)]
+mod types;

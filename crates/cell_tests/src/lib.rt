@@ -5,6 +5,8 @@ pub mod callers;
 #[cfg(test)]
 mod claims;
 #[cfg(test)]
+mod refused;
+#[cfg(test)]
 mod rows;
 #[cfg(test)]
 mod tests;

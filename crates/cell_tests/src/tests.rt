@@ -217,6 +217,16 @@ fn last_option_written(column: &mut Options<Vec<u64>>, item: Option<u64>) -> boo
     }
 }
 
+// Writes the last row of one of two kinds
+fn last_result_written(column: &mut Results<Vec<u64>, Vec<u64>>, item: Result<u64, u64>) -> bool
+    requires { IsSound ⟦<Results<Vec<u64>, Vec<u64>> as Column>⟧.format (⟦<Results<Vec<u64>, Vec<u64>> as Column>⟧.content column.old) }
+{
+    match column.last_mut() {
+        Some(mut last) => last.set_checked(item),
+        None => false,
+    }
+}
+
 // Writes an item of the last list
 fn last_list_written(lists: &mut Vecs<Vec<u64>>, at: usize, item: u64) -> bool
     requires { IsSound ⟦<Vecs<Vec<u64>> as Column>⟧.format (⟦<Vecs<Vec<u64>> as Column>⟧.content lists.old) }
@@ -228,11 +238,18 @@ fn last_list_written(lists: &mut Vecs<Vec<u64>>, at: usize, item: u64) -> bool
 }
 
 #[test]
-fn the_last_option_and_the_last_list(rt: HostRuntime) -> Result<(), Fail> {
+fn the_last_option_the_last_result_and_the_last_list(rt: HostRuntime) -> Result<(), Fail> {
     let mut column: Options<Vec<u64>> = column_of(rt.alloc(), [None, Some(7)].as_slice())?;
     holds!(rt; last_option_written(&mut column, Some(8)));
     equal!(rt; column.somes.as_slice(), [8].as_slice());
     holds!(rt; !last_option_written(&mut Options::<Vec<u64>>::empty(rt.alloc()), Some(8)));
+    let mut results: Results<Vec<u64>, Vec<u64>> = column_of(
+        rt.alloc(),
+        [Ok(5), Err(6)].as_slice(),
+    )?;
+    holds!(rt; last_result_written(&mut results, Err(8)));
+    equal!(rt; results.errs.as_slice(), [8].as_slice());
+    equal!(rt; results.oks.as_slice(), [5].as_slice());
     let mut lists = Vecs::<Vec<u64>>::empty(rt.alloc());
     holds!(rt; takes(&mut lists, [1, 2].as_slice()) && takes(&mut lists, [3, 4].as_slice()));
     holds!(rt; last_list_written(&mut lists, 1, 9));

@@ -10,7 +10,8 @@ use Rattle.columnar_base.specs.Format.{Format, Content, both, IsSound, lengths}
 use Rattle.columnar_base.specs.PartLaws.{piece_parts}
 use Rattle.columnar_core.specs.Bounds.{rises, numbers}
 use Rattle.columnar_lists.specs.Lists.{cut, lists_format}
-use Rattle.columnar_lists.specs.CutLaws.{cut_get, number_get, rises_get}
+use Rattle.columnar_core.specs.BoundLaws.{number_get}
+use Rattle.columnar_lists.specs.CutLaws.{cut_get, rises_get}
 use Rattle.columnar_lists.specs.ListLaws.{lists_parts, lists_sound, piece_sound}
 use Rattle.columnar_cells.specs.Wrote.{Wrote, row_at, item_fits, with_item}
 use Rattle.columnar_cells.specs.RowAtLaws.{row_at_get, row_at-take, row_at-drop, never}

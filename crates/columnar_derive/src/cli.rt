@@ -21,7 +21,14 @@ pub fn run_words<R: Files + AllocGlobal, O: Write, E: Write>(
 ) -> u8 {
     match words {
         [path, name] => match fs::read(rt, path.as_str()) {
-            Ok(bytes) => written(alloc, bytes.as_slice(), name.as_str(), out, err),
+            Ok(bytes) => written(
+                alloc,
+                path.as_str(),
+                bytes.as_slice(),
+                name.as_str(),
+                out,
+                err,
+            ),
             Err(_) => say(err, "failed: cannot read", 1),
         },
         _ => say(err, USAGE, 2),
@@ -40,14 +47,15 @@ fn say<E: Write>(err: &mut E, text: &str, status: u8) -> u8 {
 }
 
 // The text of the rows
-fn text_of(alloc: Global, text: &str, name: &str) -> Result<Option<String>, Unread> {
+fn text_of(alloc: Global, path: &str, text: &str, name: &str) -> Result<Option<String>, Unread> {
     let tokens = tokens_of(alloc, text)?;
     let description = described(alloc, tokens.as_slice(), name)?;
-    Ok(printed(alloc, &description)?)
+    Ok(printed(alloc, &description, path)?)
 }
 
 fn written<O: Write, E: Write>(
     alloc: Global,
+    path: &str,
     bytes: &[u8],
     name: &str,
     out: &mut O,
@@ -56,12 +64,16 @@ fn written<O: Write, E: Write>(
     let Ok(text) = str::from_utf8(bytes) else {
         return say(err, "failed: the file is no text", 1);
     };
-    match text_of(alloc, text, name) {
+    match text_of(alloc, path, text, name) {
         Ok(Some(text)) => match write!(out, "{text}") {
             Ok(()) => 0,
             Err(_) => say(err, "failed: cannot write", 1),
         },
-        Ok(None) => say(err, "refused: enums are not written yet", 1),
+        Ok(None) => say(
+            err,
+            "refused: the path of an enum must name its crate, as NAME/src/FILE",
+            1,
+        ),
         Err(Unread::Memory) => no_memory(err),
         Err(Unread::Refused(line, why)) => {
             let _written = writeln!(err, "refused: line {line}: {why}");

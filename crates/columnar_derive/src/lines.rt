@@ -1,5 +1,6 @@
 //! Text that is laid out as `rt fmt` lays it out.
 use std::alloc::{AllocError, Global};
+use std::fmt::Write;
 
 /// How long a line may be.
 pub const WIDTH: usize = 100;
@@ -28,6 +29,18 @@ pub struct Header<'x> {
     pub after: &'x str,
 }
 
+/// An arm of a match, whose value is that of a function.
+#[derive(Clone, Copy)]
+pub struct Arm<'x> {
+    pub indent: &'x str,
+    /// The pattern, without the fields in braces.
+    pub pattern: &'x str,
+    /// The fields in braces, if there are any.
+    pub fields: &'x [String],
+    pub function: &'x str,
+    pub argument: &'x str,
+}
+
 /// Lines of text.
 #[derive(Drop)]
 pub struct Lines {
@@ -47,10 +60,23 @@ pub fn joined(alloc: Global, texts: &[String], between: &str) -> Result<String, 
     Ok(all)
 }
 
-/// The letter that stands for item `index`, below ten.
+/// The parameter that stands for item `index`: a capital letter, with a number from the second alphabet on.
+pub fn parameter(alloc: Global, index: usize) -> Result<String, AllocError> {
+    let mut text = String::new(alloc);
+    if let Some(letter) = ('A'..='Z').nth(index % 26) {
+        text.push(letter)?;
+    }
+    if index >= 26 {
+        let turn = index / 26;
+        write!(text, "{turn}")?;
+    }
+    Ok(text)
+}
+
+/// The name that stands for field `index`, below ten: a letter.
 pub fn letter(alloc: Global, index: usize) -> Result<String, AllocError> {
     let mut text = String::new(alloc);
-    if let Some(letter) = "ABCDEFGHIJ".chars().nth(index) {
+    if let Some(letter) = ('a'..='j').nth(index) {
         text.push(letter)?;
     }
     Ok(text)
@@ -96,6 +122,19 @@ pub fn in_tuple(alloc: Global, texts: &[String]) -> Result<String, AllocError> {
     } else {
         format!(in alloc; "({list})")
     }
+}
+
+// The nest of the items from `from` on, on one line
+fn nested(alloc: Global, items: &[String], from: usize, last: &str) -> Result<String, AllocError> {
+    let mut text = String::new(alloc);
+    for item in items.iter().skip(from) {
+        write!(text, "Nth<{item}, ")?;
+    }
+    text.push_str(last)?;
+    for _ in items.iter().skip(from) {
+        text.push('>')?;
+    }
+    Ok(text)
 }
 
 // How many characters a text has
@@ -225,6 +264,83 @@ impl Lines {
         let before = format!(in self.alloc; "{before}{{")?;
         let after = format!(in self.alloc; "}}{after}")?;
         self.add_list(indent, before.as_str(), fields, after.as_str(), 0)
+    }
+
+    /// Adds the nest of items, `Nth` of each and of those after it, and after all items `last`; before it stands `before`, and a
+    /// semicolon after it.
+    pub fn add_nest(
+        &mut self,
+        before: &str,
+        items: &[String],
+        last: &str,
+    ) -> Result<(), AllocError> {
+        let mut begun = String::from_str(self.alloc, before)?;
+        let mut indent = String::new(self.alloc);
+        for (i, item) in items.iter().enumerate() {
+            let nest = nested(self.alloc, items, i, last)?;
+            let after = if i == 0 { ";" } else { "," };
+            let line = format!(in self.alloc; "{indent}{begun}{nest}{after}")?;
+            if fits(line.as_str()) {
+                self.add(line.as_str())?;
+                return self.end_nest(i);
+            }
+            let line = format!(in self.alloc;
+                "{indent}{begun}Nth<
+    {indent}{item},"
+            )?;
+            self.add(line.as_str())?;
+            begun = String::new(self.alloc);
+            indent.push_str("    ")?;
+        }
+        let after = if items.is_empty() { ";" } else { "," };
+        let line = format!(in self.alloc; "{indent}{begun}{last}{after}")?;
+        self.add(line.as_str())?;
+        self.end_nest(items.len())
+    }
+
+    // The ends of so many nests, the innermost first
+    fn end_nest(&mut self, depth: usize) -> Result<(), AllocError> {
+        for left in (0..depth).rev() {
+            for _ in 0..left {
+                self.text.push_str("    ")?;
+            }
+            self.add(if left == 0 { ">;" } else { ">," })?;
+        }
+        Ok(())
+    }
+
+    /// Adds an arm of a match: a pattern, and the one value that stands for it. Where both don't stand on one line the value gets
+    /// the argument by a name.
+    pub fn add_arm(&mut self, arm: &Arm<'_>) -> Result<(), AllocError> {
+        let Arm {
+            indent,
+            pattern,
+            function,
+            argument,
+            ..
+        } = arm;
+        let list = joined(self.alloc, arm.fields, ", ")?;
+        let line = if arm.fields.is_empty() {
+            format!(in self.alloc; "{indent}{pattern} => {function}({argument}),")?
+        } else {
+            format!(in self.alloc; "{indent}{pattern} {{ {list} }} => {function}({argument}),")?
+        };
+        if width(list.as_str()) <= FIELDS && fits(line.as_str()) {
+            return self.add(line.as_str());
+        }
+        if arm.fields.is_empty() {
+            let line = format!(in self.alloc; "{indent}{pattern} => {{")?;
+            self.add(line.as_str())?;
+        } else {
+            let before = format!(in self.alloc; "{pattern} ")?;
+            self.add_braces(indent, before.as_str(), arm.fields, " => {")?;
+        }
+        let lines = format!(in self.alloc;
+            "{indent}    let value = {argument};
+{indent}    {function}(value)
+{indent}}}"
+        )?;
+        self.add(lines.as_str())
     }
 
     /// Adds how an impl begins.

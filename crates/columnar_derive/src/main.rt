@@ -2,9 +2,11 @@
 #![tactic(auto)]
 
 mod cli;
+mod enums;
 mod item;
 mod lines;
 mod parser;
+mod place;
 mod printer;
 mod structs;
 mod tokens;

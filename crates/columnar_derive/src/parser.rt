@@ -314,7 +314,8 @@ impl<'t> Reader<'t> {
                 }
                 Some(Kind::Mark(mark)) => text.mark(*mark)?,
                 Some(Kind::Lifetime) => return Err(self.refused(Why::Lifetime)),
-                _ => false,
+                Some(Kind::Literal) => false,
+                None => break,
             };
             if !taken {
                 let why = if self.is_at('&') {
@@ -326,7 +327,7 @@ impl<'t> Reader<'t> {
             }
             self.next();
         }
-        if text.is_empty() {
+        if text.is_empty() || !text.is_whole() {
             return Err(self.refused(Why::Type));
         }
         Ok(text.text)
@@ -438,3 +439,6 @@ impl TypeText {
         Ok(true)
     }
 }
+
+#[cfg(test)]
+mod tests;

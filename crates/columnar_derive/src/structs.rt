@@ -1,6 +1,6 @@
 //! The text for a struct.
 use crate::item::Field;
-use crate::lines::{Header, Lines, WIDTH, each, in_clause, in_tuple, joined, keep, letter};
+use crate::lines::{Header, Lines, WIDTH, each, in_clause, in_tuple, joined, keep, parameter};
 use std::alloc::{AllocError, Global};
 
 /// The text for a struct, and the words that it is made of.
@@ -27,7 +27,7 @@ impl Page {
         for (i, field) in fields.iter().enumerate() {
             keep(&mut names, String::from_str(alloc, field.name.as_str())?)?;
             keep(&mut kinds, String::from_str(alloc, field.kind.as_str())?)?;
-            keep(&mut params, letter(alloc, i)?)?;
+            keep(&mut params, parameter(alloc, i)?)?;
         }
         let list = joined(alloc, params.as_slice(), ", ")?;
         let tuple = in_tuple(alloc, params.as_slice())?;

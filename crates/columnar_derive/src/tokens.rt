@@ -284,3 +284,6 @@ impl Tokenizer {
         Ok(tokens)
     }
 }
+
+#[cfg(test)]
+mod tests;

@@ -2,13 +2,7 @@
 #![tactic(auto)]
 
 pub mod bytes;
+pub mod fields;
 pub mod grow;
 pub mod push;
 pub mod rows;
-
-#[cfg(test)]
-mod tests {
-    #[test]
-    fn nothing() {
-    }
-}

@@ -4,7 +4,7 @@ use crate::rows::{MakeRow, OwnRows};
 use columnar_base::fault::GrowError;
 use columnar_base::traits::{Clear, Column};
 use columnar_core::container::{
-    Borrow, Container, ExtendFrom, Reborrow, Reserve, Storage, Truncate,
+    Borrow, Container, ExtendFrom, Named, Reborrow, Reserve, Storage, Truncate,
 };
 use std::alloc::Global;
 use std::ops::Range;
@@ -64,7 +64,7 @@ impl<'a, P: Borrow<'a>, K: MakeRow<<P as Borrow<'a>>::Ref>> Borrow<'a> for OwnRo
 
     type Borrowed = OwnRows<P::Borrowed, K>;
 
-    type Parts = P::Parts;
+    type Parts = Named<<P as Borrow<'a>>::Ref, P::Parts>;
 
     ghost same_format = { P.same_format };
 

@@ -27,7 +27,8 @@ struct Case {
     name: String,
     // The parameter that stands for what its value is read as: `()` where it has none
     param: String,
-    // The type of its value, of one field or of the tuple of all, and that of the value lent
+    // The types of its fields; that of its value, of one field or of the tuple of all; and that of the value lent
+    kinds: Vec<String>,
     kind: String,
     lent: String,
     // A letter for each field, and what stands for all of them
@@ -67,12 +68,24 @@ impl Case {
                 }
             }
         }
-        let lent = each(alloc, kinds.as_slice(), "&'x ", "")?;
+        let name = variant.name.as_str();
+        let (kind, lent) = match kinds.as_slice() {
+            [] => (in_tuple(alloc, &[])?, String::new(alloc)),
+            [kind] => (
+                String::from_str(alloc, kind.as_str())?,
+                format!(in alloc; "&'x {kind}")?,
+            ),
+            _ => (
+                format!(in alloc; "ValueOf{name}")?,
+                format!(in alloc; "LentOf{name}<'x>")?,
+            ),
+        };
         Ok(Case {
-            name: String::from_str(alloc, variant.name.as_str())?,
+            name: String::from_str(alloc, name)?,
             param,
-            kind: one_or_tuple(alloc, kinds.as_slice())?,
-            lent: one_or_tuple(alloc, lent.as_slice())?,
+            kind,
+            lent,
+            kinds,
             value: one_or_tuple(alloc, letters.as_slice())?,
             letters,
             fields,
@@ -208,19 +221,49 @@ pub type {own}Container = ContainerOf<{own}>;
         self.lines.add(head.as_str())?;
         let mut after: Option<String> = None;
         for case in self.cases.iter().rev() {
-            let kind = case.kind.as_str();
-            let columns = match after {
-                Some(name) => format!(in self.alloc; "(ContainerOf<{kind}>, From{name})")?,
-                None => format!(in self.alloc; "(ContainerOf<{kind}>,)")?,
-            };
             let name = case.name.as_str();
-            let line = format!(in self.alloc; "type From{name} = {columns};\n")?;
-            self.lines.add(line.as_str())?;
-            after = Some(String::from_str(self.alloc, name)?);
+            let mut columns = Vec::new(self.alloc);
+            keep(
+                &mut columns,
+                format!(in self.alloc; "ContainerOf<{}>", case.kind)?,
+            )?;
+            if let Some(others) = after {
+                keep(&mut columns, others)?;
+            }
+            let before = format!(in self.alloc; "type ColumnsFrom{name} = ")?;
+            self.lines
+                .add_tuple("", before.as_str(), columns.as_slice(), ";")?;
+            self.lines.add("")?;
+            after = Some(format!(in self.alloc; "ColumnsFrom{name}")?);
         }
         if let Some(name) = after {
-            let line = format!(in self.alloc; "type Parts = Variants<From{name}>;\n")?;
+            let line = format!(in self.alloc; "type Parts = Variants<{name}>;\n")?;
             self.lines.add(line.as_str())?;
+        }
+        self.add_kinds(
+            "// What values of several fields are made of",
+            "ValueOf",
+            "",
+        )
+    }
+
+    // The tuples of several fields by names of their own, of each variant that has as many
+    fn add_kinds(&mut self, head: &str, name: &str, before: &str) -> Result<(), AllocError> {
+        let angles = if before.is_empty() { "" } else { "<'x>" };
+        let mut begun = false;
+        for case in &self.cases {
+            if case.kinds.len() < 2 {
+                continue;
+            }
+            if !begun {
+                self.lines.add(head)?;
+                begun = true;
+            }
+            let kinds = each(self.alloc, case.kinds.as_slice(), before, "")?;
+            let line = format!(in self.alloc; "type {name}{}{angles} = ", case.name)?;
+            self.lines
+                .add_tuple("", line.as_str(), kinds.as_slice(), ";")?;
+            self.lines.add("")?;
         }
         Ok(())
     }
@@ -393,20 +436,21 @@ pub enum {row} {{"
         for (i, case) in self.cases.iter().enumerate() {
             let made = case.of(self.alloc, self.row_name.as_str(), "a")?;
             let letter = if case.has_value() { "a" } else { "()" };
-            let text = if i.saturating_add(1) < count {
-                format!(in self.alloc;
-                    "        let row = match row {{
-            Nth::This({letter}) => return {made},
-            Nth::Next(row) => row,
-        }};"
-                )?
-            } else {
-                format!(in self.alloc;
+            if i.saturating_add(1) == count {
+                let text = format!(in self.alloc;
                     "        let Last({letter}) = row;
         {made}"
-                )?
-            };
-            self.lines.add(text.as_str())?;
+                )?;
+                self.lines.add(text.as_str())?;
+                continue;
+            }
+            let pattern = format!(in self.alloc; "Nth::This({letter})")?;
+            let value = format!(in self.alloc; "return {made}")?;
+            self.lines.add("        let row = match row {")?;
+            self.lines
+                .add_path_arm("            ", pattern.as_str(), value.as_str())?;
+            self.lines
+                .add("            Nth::Next(row) => row,\n        };")?;
         }
         self.lines.add("    }\n}\n")
     }
@@ -419,16 +463,19 @@ pub enum {row} {{"
                 keep(&mut lent, String::from_str(self.alloc, case.lent.as_str())?)?;
             }
         }
-        let own = self.own.as_str();
-        let row_name = self.row_name.as_str();
+        let own = String::from_str(self.alloc, self.own.as_str())?;
+        let row_name = String::from_str(self.alloc, self.row_name.as_str())?;
+        let row_name = row_name.as_str();
         let mut lent_type = "Lent<'_>";
         if lent.is_empty() {
             lent_type = row_name;
         } else {
             let before = format!(in self.alloc; "type Lent<'x> = {row_name}<")?;
+            self.add_kinds("// What they are made of, lent", "LentOf", "&'x ")?;
             self.lines.add("// A value, lent")?;
             self.lines
-                .add_list("", before.as_str(), lent.as_slice(), ">;\n", WIDTH)?;
+                .add_list("", before.as_str(), lent.as_slice(), ">;", WIDTH)?;
+            self.lines.add("")?;
         }
         let begun = format!(in self.alloc;
             "impl PushParts<Parts> for {own} {{
@@ -439,10 +486,10 @@ pub enum {row} {{"
         for case in &self.cases {
             let name = case.name.as_str();
             if !case.has_value() {
-                let line = format!(in self.alloc;
-                    "            {own}::{name} => {row_name}::{name},"
-                )?;
-                self.lines.add(line.as_str())?;
+                let pattern = format!(in self.alloc; "{own}::{name}")?;
+                let value = format!(in self.alloc; "{row_name}::{name}")?;
+                self.lines
+                    .add_path_arm("            ", pattern.as_str(), value.as_str())?;
                 continue;
             }
             let function = format!(in self.alloc; "{row_name}::{name}")?;
@@ -598,17 +645,27 @@ pub enum {row} {{"
             let pattern = case.of(self.alloc, self.row_name.as_str(), "a")?;
             let name = case.name.as_str();
             if !case.has_value() {
-                let line = format!(in self.alloc; "            {pattern} => Ok({own}::{name}),")?;
-                self.lines.add(line.as_str())?;
+                let value = format!(in self.alloc; "{own}::{name}")?;
+                self.lines.add_arm(&Arm {
+                    indent: "            ",
+                    pattern: pattern.as_str(),
+                    fields: &[],
+                    function: "Ok",
+                    argument: value.as_str(),
+                })?;
                 continue;
             }
-            let value = case.value.as_str();
             let kind = case.kind.as_str();
             let begun = format!(in self.alloc;
                 "            {pattern} => {{
-                let {value} = <{kind}>::from_row(alloc, a)?;"
+                let a = <{kind}>::from_row(alloc, a)?;"
             )?;
             self.lines.add(begun.as_str())?;
+            if case.kinds.len() > 1 {
+                let value = case.value.as_str();
+                let line = format!(in self.alloc; "                let {value} = a;")?;
+                self.lines.add(line.as_str())?;
+            }
             if case.fields.is_empty() {
                 let list = joined(self.alloc, case.letters.as_slice(), ", ")?;
                 let line = format!(in self.alloc; "                Ok({own}::{name}({list}))")?;
@@ -661,8 +718,8 @@ pub enum {row} {{"
                     argument: "a.reborrow_ref()",
                 })?;
             } else {
-                let line = format!(in self.alloc; "            {pattern} => {pattern},")?;
-                self.lines.add(line.as_str())?;
+                let pattern = pattern.as_str();
+                self.lines.add_path_arm("            ", pattern, pattern)?;
             }
         }
         self.lines.add("        }\n    }\n}")

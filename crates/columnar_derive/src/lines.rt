@@ -241,7 +241,9 @@ impl Lines {
         if items.len() == 1 {
             let tuple = in_tuple(self.alloc, items)?;
             let line = format!(in self.alloc; "{indent}{before}{tuple}{after}")?;
-            return self.add(line.as_str());
+            if fits(line.as_str()) {
+                return self.add(line.as_str());
+            }
         }
         let before = format!(in self.alloc; "{before}(")?;
         let after = format!(in self.alloc; "){after}")?;
@@ -339,6 +341,24 @@ impl Lines {
             "{indent}    let value = {argument};
 {indent}    {function}(value)
 {indent}}}"
+        )?;
+        self.add(lines.as_str())
+    }
+
+    /// Adds an arm of a match whose value is a path.
+    pub fn add_path_arm(
+        &mut self,
+        indent: &str,
+        pattern: &str,
+        value: &str,
+    ) -> Result<(), AllocError> {
+        let line = format!(in self.alloc; "{indent}{pattern} => {value},")?;
+        if fits(line.as_str()) {
+            return self.add(line.as_str());
+        }
+        let lines = format!(in self.alloc;
+            "{indent}{pattern} =>
+{indent}    {value},"
         )?;
         self.add(lines.as_str())
     }

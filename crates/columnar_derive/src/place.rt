@@ -25,3 +25,16 @@ pub fn declared_in(alloc: Global, path: &str) -> Result<Option<String>, AllocErr
     }
     Ok(place)
 }
+
+/// The same for a module that is named, as `examples::shape`.
+pub fn declared_by(alloc: Global, module: &str) -> Result<String, AllocError> {
+    let mut place = String::from_str(alloc, "Rattle")?;
+    for (i, part) in module.split("::").enumerate() {
+        place.push('.')?;
+        place.push_str(part)?;
+        if i == 0 {
+            place.push_str(".specs.declared")?;
+        }
+    }
+    Ok(place)
+}

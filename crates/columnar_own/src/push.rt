@@ -26,7 +26,7 @@ impl<'x, T: PushParts<P>, P: Column> PushParts<P> for &'x T {
 /// Takes values, references to values, and rows that were read.
 impl<T: PushParts<P> + Drop, P: Column, K> Push<T> for OwnRows<P, K> {
     fn push(&mut self, item: T) -> Result<(), GrowError> {
-        item.push_parts(&mut self.parts)
+        self.push_ref(&item)
     }
 }
 

@@ -88,7 +88,10 @@ fn text_of(alloc: Global, source: &Source<'_>, name: &str) -> Result<String, Fai
         Some(module) => Some(declared_by(alloc, module)?),
         None => declared_in(alloc, source.path)?,
     };
-    let place = place.as_ref().map(|place| place.as_str());
+    let place = match &place {
+        Some(place) => Some(place.as_str()),
+        None => None,
+    };
     match printed(alloc, &description, place)? {
         Some(text) => Ok(text),
         None => Err(Failure::NoPlace),

@@ -350,11 +350,10 @@ pub enum {row} {{"
         let names = joined(self.alloc, names.as_slice(), ", ")?;
         let rows = if has_all { "Row" } else { "Row, unit" };
         let place = self.place.as_str();
-        let own = if is_row {
-            self.row_name.as_str()
-        } else {
-            self.own.as_str()
-        };
+        let mut own = String::from_str(self.alloc, self.own.as_str())?;
+        if is_row {
+            own.push_str("Reference")?;
+        }
         let module = if is_row { ".rows" } else { "" };
         let meaning = self.clauses(is_row, false)?;
         let valid = self.clauses(is_row, true)?;

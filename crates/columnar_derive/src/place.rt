@@ -4,7 +4,7 @@ use std::alloc::{AllocError, Global};
 /// How clauses name what the file declares: the crate that stands before `src` in the path, and the modules after it. None where no
 /// crate stands there.
 pub fn declared_in(alloc: Global, path: &str) -> Result<Option<String>, AllocError> {
-    let mut before = "";
+    let mut before = String::new(alloc);
     let mut place: Option<String> = None;
     for part in path.split('/') {
         match &mut place {
@@ -16,12 +16,13 @@ pub fn declared_in(alloc: Global, path: &str) -> Result<Option<String>, AllocErr
                 }
             }
             None => {
-                if part == "src" && !before.is_empty() && before != "." && before != ".." {
+                let name = before.as_str();
+                if part == "src" && !name.is_empty() && name != "." && name != ".." {
                     place = Some(format!(in alloc; "Rattle.{before}.specs.declared")?);
                 }
             }
         }
-        before = part;
+        before = String::from_str(alloc, part)?;
     }
     Ok(place)
 }

@@ -349,7 +349,6 @@ pub enum {row} {{"
         }
         let names = joined(self.alloc, names.as_slice(), ", ")?;
         let rows = if has_all { "Row" } else { "Row, unit" };
-        let place = self.place.as_str();
         let mut own = String::from_str(self.alloc, self.own.as_str())?;
         if is_row {
             own.push_str("Reference")?;
@@ -357,6 +356,7 @@ pub enum {row} {{"
         let module = if is_row { ".rows" } else { "" };
         let meaning = self.clauses(is_row, false)?;
         let valid = self.clauses(is_row, true)?;
+        let place = self.place.as_str();
         let text = format!(in self.alloc;
             "    ghost use Rattle.columnar.specs.Row.{{{rows}}};
     ghost use Rattle.columnar.specs.Variants.{{case}};

@@ -206,7 +206,7 @@ impl EnumPage {
             "//! Rows of `{own}`, as `columnar_derive` writes them.
 use super::*;
 use columnar::fault::{{GrowError, OwnError}};
-use columnar::own::{{Last, Nth, Variants}};
+use columnar::sums::variants::{{Last, Nth, Variants}};
 use columnar::{{Columnar, ContainerOf, FromRow, Item, MakeRow, OwnRow, OwnRows, Push, PushParts}};
 use std::alloc::Global;
 

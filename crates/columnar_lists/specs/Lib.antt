@@ -5,3 +5,4 @@ pub mod ListPushes
 pub mod Cut
 pub mod CutIs
 pub mod EarlierLists
+pub mod Walks

@@ -1,2 +1,3 @@
 pub mod Strings
 pub mod StringLaws
+pub mod StringWalks

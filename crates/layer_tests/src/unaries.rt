@@ -12,6 +12,8 @@ use columnar_core::offsets::Offsets;
 use columnar_core::slice::Slice;
 use columnar_core::traits::{Clear, Column, Index, Len, Push};
 use columnar_lists::vector::Vecs;
+use columnar_lists::walk::ListIter;
+use columnar_core::view::View;
 use columnar_primitive::empties::Empties;
 use columnar_sums::unaries::Unaries;
 use std::alloc::{AllocError, Global};
@@ -271,4 +273,30 @@ fn offsets_in_unary_are_read_in_order(rt: HostRuntime) {
     holds!(rt; !bounds.rises_to(2200));
     bounds.clear();
     holds!(rt; are_ends(&bounds, &[]));
+}
+
+// The numbers of a walk over lists of numbers, each list's first and length, in order.
+fn walked<'v, W: Offsets + Drop>(mut walk: ListIter<View<'v, u64>, W>, wanted: &[(u64, usize)]) -> bool {
+    for &(first, length) in wanted {
+        match walk.next() {
+            Some(list) => {
+                if list.len() != length || (length > 0 && list.get(0) != first) {
+                    return false;
+                }
+            }
+            None => return false,
+        }
+    }
+    walk.next().is_none()
+}
+
+#[test]
+fn a_walk_over_lists_gives_each_in_order(rt: HostRuntime) -> Result<(), Fail> {
+    let mut lists = Lists::empty(rt.alloc());
+    for list in [[1u64, 2].as_slice(), [].as_slice(), [7].as_slice()] {
+        lists.push(list)?;
+    }
+    let wanted = [(1, 2), (0, 0), (7, 1)];
+    holds!(rt; walked(lists.borrow().into_index_iter(), wanted.as_slice()));
+    Ok(())
 }

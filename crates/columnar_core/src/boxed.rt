@@ -1,4 +1,6 @@
 //! Rows in boxes: a column of them is a column of what the boxes hold, with the same slices and the same rows.
+ghost use Rattle.std.specs.Prelude.{◌≡◌};
+
 use crate::byte_slice::ByteSlice;
 use crate::bytes::{AsBytes, Check, FromBytes, Stored};
 use crate::container::{
@@ -45,12 +47,16 @@ impl<R: OrderedRow> OrderedRow for Boxed<R> {
 impl<T> Deref for Boxed<T> {
     type Target = T;
 
+    ghost deref_gives = { λ b x. x ≡ b.0 };
+
     fn deref(&self) -> &T {
         &self.0
     }
 }
 
 impl<T> DerefMut for Boxed<T> {
+    ghost deref_mut_gives = { λ b x. x ≡ b.0 };
+
     fn deref_mut(&mut self) -> &mut T {
         &mut self.0
     }

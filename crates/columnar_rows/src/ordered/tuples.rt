@@ -8,8 +8,8 @@ use std::cmp::Ordering;
 use std::hash::Hasher;
 
 /// By the first field in which two differ; a hasher is fed the fields in turn.
-impl<A: OrderedRow, B: OrderedRow, C: OrderedRow> OrderedRow for (A, B, C) {
-    ghost row_input = { λ r. A.row_input (first_of r) ++ (B.row_input (first_of (second_of r)) ++ (C.row_input (second_of (second_of r)))) };
+impl<P: OrderedRow, Q: OrderedRow, R: OrderedRow> OrderedRow for (P, Q, R) {
+    ghost row_input = { λ r. P.row_input (first_of r) ++ (Q.row_input (first_of (second_of r)) ++ (R.row_input (second_of (second_of r)))) };
 
     fn same_row(&self, other: &Self) -> bool {
         self.0.same_row(&other.0) && self.1.same_row(&other.1) && self.2.same_row(&other.2)
@@ -29,8 +29,8 @@ impl<A: OrderedRow, B: OrderedRow, C: OrderedRow> OrderedRow for (A, B, C) {
 }
 
 /// By the first field in which two differ; a hasher is fed the fields in turn.
-impl<A: OrderedRow, B: OrderedRow, C: OrderedRow, D: OrderedRow> OrderedRow for (A, B, C, D) {
-    ghost row_input = { λ r. A.row_input (first_of r) ++ (B.row_input (first_of (second_of r)) ++ (C.row_input (first_of (second_of (second_of r))) ++ (D.row_input (second_of (second_of (second_of r)))))) };
+impl<P: OrderedRow, Q: OrderedRow, R: OrderedRow, S: OrderedRow> OrderedRow for (P, Q, R, S) {
+    ghost row_input = { λ r. P.row_input (first_of r) ++ (Q.row_input (first_of (second_of r)) ++ (R.row_input (first_of (second_of (second_of r))) ++ (S.row_input (second_of (second_of (second_of r)))))) };
 
     fn same_row(&self, other: &Self) -> bool {
         self.0.same_row(&other.0)
@@ -55,9 +55,9 @@ impl<A: OrderedRow, B: OrderedRow, C: OrderedRow, D: OrderedRow> OrderedRow for 
 }
 
 /// By the first field in which two differ; a hasher is fed the fields in turn.
-impl<A: OrderedRow, B: OrderedRow, C: OrderedRow, D: OrderedRow, E: OrderedRow> OrderedRow
-    for (A, B, C, D, E) {
-    ghost row_input = { λ r. A.row_input (first_of r) ++ (B.row_input (first_of (second_of r)) ++ (C.row_input (first_of (second_of (second_of r))) ++ (D.row_input (first_of (second_of (second_of (second_of r)))) ++ (E.row_input (second_of (second_of (second_of (second_of r)))))))) };
+impl<P: OrderedRow, Q: OrderedRow, R: OrderedRow, S: OrderedRow, T: OrderedRow> OrderedRow
+    for (P, Q, R, S, T) {
+    ghost row_input = { λ r. P.row_input (first_of r) ++ (Q.row_input (first_of (second_of r)) ++ (R.row_input (first_of (second_of (second_of r))) ++ (S.row_input (first_of (second_of (second_of (second_of r)))) ++ (T.row_input (second_of (second_of (second_of (second_of r)))))))) };
 
     fn same_row(&self, other: &Self) -> bool {
         self.0.same_row(&other.0)
@@ -86,14 +86,14 @@ impl<A: OrderedRow, B: OrderedRow, C: OrderedRow, D: OrderedRow, E: OrderedRow> 
 
 /// By the first field in which two differ; a hasher is fed the fields in turn.
 impl<
-    A: OrderedRow,
-    B: OrderedRow,
-    C: OrderedRow,
-    D: OrderedRow,
-    E: OrderedRow,
-    F: OrderedRow,
-> OrderedRow for (A, B, C, D, E, F) {
-    ghost row_input = { λ r. A.row_input (first_of r) ++ (B.row_input (first_of (second_of r)) ++ (C.row_input (first_of (second_of (second_of r))) ++ (D.row_input (first_of (second_of (second_of (second_of r)))) ++ (E.row_input (first_of (second_of (second_of (second_of (second_of r))))) ++ (F.row_input (second_of (second_of (second_of (second_of (second_of r)))))))))) };
+    P: OrderedRow,
+    Q: OrderedRow,
+    R: OrderedRow,
+    S: OrderedRow,
+    T: OrderedRow,
+    U: OrderedRow,
+> OrderedRow for (P, Q, R, S, T, U) {
+    ghost row_input = { λ r. P.row_input (first_of r) ++ (Q.row_input (first_of (second_of r)) ++ (R.row_input (first_of (second_of (second_of r))) ++ (S.row_input (first_of (second_of (second_of (second_of r)))) ++ (T.row_input (first_of (second_of (second_of (second_of (second_of r))))) ++ (U.row_input (second_of (second_of (second_of (second_of (second_of r)))))))))) };
 
     fn same_row(&self, other: &Self) -> bool {
         self.0.same_row(&other.0)
@@ -125,15 +125,15 @@ impl<
 
 /// By the first field in which two differ; a hasher is fed the fields in turn.
 impl<
-    A: OrderedRow,
-    B: OrderedRow,
-    C: OrderedRow,
-    D: OrderedRow,
-    E: OrderedRow,
-    F: OrderedRow,
-    G: OrderedRow,
-> OrderedRow for (A, B, C, D, E, F, G) {
-    ghost row_input = { λ r. A.row_input (first_of r) ++ (B.row_input (first_of (second_of r)) ++ (C.row_input (first_of (second_of (second_of r))) ++ (D.row_input (first_of (second_of (second_of (second_of r)))) ++ (E.row_input (first_of (second_of (second_of (second_of (second_of r))))) ++ (F.row_input (first_of (second_of (second_of (second_of (second_of (second_of r)))))) ++ (G.row_input (second_of (second_of (second_of (second_of (second_of (second_of r)))))))))))) };
+    P: OrderedRow,
+    Q: OrderedRow,
+    R: OrderedRow,
+    S: OrderedRow,
+    T: OrderedRow,
+    U: OrderedRow,
+    V: OrderedRow,
+> OrderedRow for (P, Q, R, S, T, U, V) {
+    ghost row_input = { λ r. P.row_input (first_of r) ++ (Q.row_input (first_of (second_of r)) ++ (R.row_input (first_of (second_of (second_of r))) ++ (S.row_input (first_of (second_of (second_of (second_of r)))) ++ (T.row_input (first_of (second_of (second_of (second_of (second_of r))))) ++ (U.row_input (first_of (second_of (second_of (second_of (second_of (second_of r)))))) ++ (V.row_input (second_of (second_of (second_of (second_of (second_of (second_of r)))))))))))) };
 
     fn same_row(&self, other: &Self) -> bool {
         self.0.same_row(&other.0)
@@ -170,16 +170,16 @@ impl<
 
 /// By the first field in which two differ; a hasher is fed the fields in turn.
 impl<
-    A: OrderedRow,
-    B: OrderedRow,
-    C: OrderedRow,
-    D: OrderedRow,
-    E: OrderedRow,
-    F: OrderedRow,
-    G: OrderedRow,
-    H: OrderedRow,
-> OrderedRow for (A, B, C, D, E, F, G, H) {
-    ghost row_input = { λ r. A.row_input (first_of r) ++ (B.row_input (first_of (second_of r)) ++ (C.row_input (first_of (second_of (second_of r))) ++ (D.row_input (first_of (second_of (second_of (second_of r)))) ++ (E.row_input (first_of (second_of (second_of (second_of (second_of r))))) ++ (F.row_input (first_of (second_of (second_of (second_of (second_of (second_of r)))))) ++ (G.row_input (first_of (second_of (second_of (second_of (second_of (second_of (second_of r))))))) ++ (H.row_input (second_of (second_of (second_of (second_of (second_of (second_of (second_of r)))))))))))))) };
+    P: OrderedRow,
+    Q: OrderedRow,
+    R: OrderedRow,
+    S: OrderedRow,
+    T: OrderedRow,
+    U: OrderedRow,
+    V: OrderedRow,
+    W: OrderedRow,
+> OrderedRow for (P, Q, R, S, T, U, V, W) {
+    ghost row_input = { λ r. P.row_input (first_of r) ++ (Q.row_input (first_of (second_of r)) ++ (R.row_input (first_of (second_of (second_of r))) ++ (S.row_input (first_of (second_of (second_of (second_of r)))) ++ (T.row_input (first_of (second_of (second_of (second_of (second_of r))))) ++ (U.row_input (first_of (second_of (second_of (second_of (second_of (second_of r)))))) ++ (V.row_input (first_of (second_of (second_of (second_of (second_of (second_of (second_of r))))))) ++ (W.row_input (second_of (second_of (second_of (second_of (second_of (second_of (second_of r)))))))))))))) };
 
     fn same_row(&self, other: &Self) -> bool {
         self.0.same_row(&other.0)
@@ -219,17 +219,17 @@ impl<
 
 /// By the first field in which two differ; a hasher is fed the fields in turn.
 impl<
-    A: OrderedRow,
-    B: OrderedRow,
-    C: OrderedRow,
-    D: OrderedRow,
-    E: OrderedRow,
-    F: OrderedRow,
-    G: OrderedRow,
-    H: OrderedRow,
-    I: OrderedRow,
-> OrderedRow for (A, B, C, D, E, F, G, H, I) {
-    ghost row_input = { λ r. A.row_input (first_of r) ++ (B.row_input (first_of (second_of r)) ++ (C.row_input (first_of (second_of (second_of r))) ++ (D.row_input (first_of (second_of (second_of (second_of r)))) ++ (E.row_input (first_of (second_of (second_of (second_of (second_of r))))) ++ (F.row_input (first_of (second_of (second_of (second_of (second_of (second_of r)))))) ++ (G.row_input (first_of (second_of (second_of (second_of (second_of (second_of (second_of r))))))) ++ (H.row_input (first_of (second_of (second_of (second_of (second_of (second_of (second_of (second_of r)))))))) ++ (I.row_input (second_of (second_of (second_of (second_of (second_of (second_of (second_of (second_of r)))))))))))))))) };
+    P: OrderedRow,
+    Q: OrderedRow,
+    R: OrderedRow,
+    S: OrderedRow,
+    T: OrderedRow,
+    U: OrderedRow,
+    V: OrderedRow,
+    W: OrderedRow,
+    X: OrderedRow,
+> OrderedRow for (P, Q, R, S, T, U, V, W, X) {
+    ghost row_input = { λ r. P.row_input (first_of r) ++ (Q.row_input (first_of (second_of r)) ++ (R.row_input (first_of (second_of (second_of r))) ++ (S.row_input (first_of (second_of (second_of (second_of r)))) ++ (T.row_input (first_of (second_of (second_of (second_of (second_of r))))) ++ (U.row_input (first_of (second_of (second_of (second_of (second_of (second_of r)))))) ++ (V.row_input (first_of (second_of (second_of (second_of (second_of (second_of (second_of r))))))) ++ (W.row_input (first_of (second_of (second_of (second_of (second_of (second_of (second_of (second_of r)))))))) ++ (X.row_input (second_of (second_of (second_of (second_of (second_of (second_of (second_of (second_of r)))))))))))))))) };
 
     fn same_row(&self, other: &Self) -> bool {
         self.0.same_row(&other.0)
@@ -272,18 +272,18 @@ impl<
 
 /// By the first field in which two differ; a hasher is fed the fields in turn.
 impl<
-    A: OrderedRow,
-    B: OrderedRow,
-    C: OrderedRow,
-    D: OrderedRow,
-    E: OrderedRow,
-    F: OrderedRow,
-    G: OrderedRow,
-    H: OrderedRow,
-    I: OrderedRow,
-    J: OrderedRow,
-> OrderedRow for (A, B, C, D, E, F, G, H, I, J) {
-    ghost row_input = { λ r. A.row_input (first_of r) ++ (B.row_input (first_of (second_of r)) ++ (C.row_input (first_of (second_of (second_of r))) ++ (D.row_input (first_of (second_of (second_of (second_of r)))) ++ (E.row_input (first_of (second_of (second_of (second_of (second_of r))))) ++ (F.row_input (first_of (second_of (second_of (second_of (second_of (second_of r)))))) ++ (G.row_input (first_of (second_of (second_of (second_of (second_of (second_of (second_of r))))))) ++ (H.row_input (first_of (second_of (second_of (second_of (second_of (second_of (second_of (second_of r)))))))) ++ (I.row_input (first_of (second_of (second_of (second_of (second_of (second_of (second_of (second_of (second_of r))))))))) ++ (J.row_input (second_of (second_of (second_of (second_of (second_of (second_of (second_of (second_of (second_of r)))))))))))))))))) };
+    P: OrderedRow,
+    Q: OrderedRow,
+    R: OrderedRow,
+    S: OrderedRow,
+    T: OrderedRow,
+    U: OrderedRow,
+    V: OrderedRow,
+    W: OrderedRow,
+    X: OrderedRow,
+    Y: OrderedRow,
+> OrderedRow for (P, Q, R, S, T, U, V, W, X, Y) {
+    ghost row_input = { λ r. P.row_input (first_of r) ++ (Q.row_input (first_of (second_of r)) ++ (R.row_input (first_of (second_of (second_of r))) ++ (S.row_input (first_of (second_of (second_of (second_of r)))) ++ (T.row_input (first_of (second_of (second_of (second_of (second_of r))))) ++ (U.row_input (first_of (second_of (second_of (second_of (second_of (second_of r)))))) ++ (V.row_input (first_of (second_of (second_of (second_of (second_of (second_of (second_of r))))))) ++ (W.row_input (first_of (second_of (second_of (second_of (second_of (second_of (second_of (second_of r)))))))) ++ (X.row_input (first_of (second_of (second_of (second_of (second_of (second_of (second_of (second_of (second_of r))))))))) ++ (Y.row_input (second_of (second_of (second_of (second_of (second_of (second_of (second_of (second_of (second_of r)))))))))))))))))) };
 
     fn same_row(&self, other: &Self) -> bool {
         self.0.same_row(&other.0)

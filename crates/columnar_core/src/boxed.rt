@@ -59,8 +59,10 @@ impl<T> Deref for Boxed<T> {
 impl<T> DerefMut for Boxed<T> {
     ghost deref_mut_gives = { λ b x. x ≡ b.0 };
 
+    /// What it holds; what is written there is what the box then holds.
     fn deref_mut(&mut self) -> &mut T
         ensures* writes_back { sem 𝓛 (Lends (the_row T.row) T.row self.entry result (λ x. record { 0 = x })) }
+        ensures value { result.now ≡ self.old.0 }
     {
         &mut self.0
     }

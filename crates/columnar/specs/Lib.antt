@@ -44,7 +44,10 @@ pub use Rattle.columnar_nested.specs.NodeRefs
 pub use Rattle.columnar_nested.specs.Refs
 pub use Rattle.columnar_lists.specs.Lists
 pub use Rattle.columnar_lists.specs.Cut
+pub use Rattle.columnar_lists.specs.Walks
+pub use Rattle.columnar_lists.specs.WalksLeft
 pub use Rattle.columnar_strings.specs.Strings
+pub use Rattle.columnar_strings.specs.StringWalks
 pub use Rattle.columnar_bytes.specs.Machine
 pub use Rattle.columnar_bytes.specs.States
 pub use Rattle.columnar_bytes.specs.Written

@@ -1,7 +1,7 @@
 // What each use prints, and with which status it ends, also where an output fails.
 use super::*;
 use columnar::{PushRef, Storage};
-use std::io::{Error, ErrorKind};
+use std::io::{self, Error};
 use std::test::Fail;
 
 static FIRST: &str = "16 24 7\nrows: 1\n";
@@ -52,7 +52,7 @@ impl Write for Brief {
 
 // What the words make of outputs that take so many bytes: the status, and what was taken
 #[derive(Drop)]
-struct Outcome {
+struct Printed {
     status: u8,
     out: Vec<u8>,
     err: Vec<u8>,
@@ -63,7 +63,7 @@ fn outcome_of(
     words: &[&str],
     out_limit: usize,
     err_limit: usize,
-) -> Result<Outcome, Fail> {
+) -> Result<Printed, Fail> {
     let alloc = rt.alloc();
     let mut owned = Vec::new(alloc);
     for word in words {
@@ -77,9 +77,9 @@ fn outcome_of(
         taken: Vec::new(alloc),
         limit: err_limit,
     };
-    let status = run_words(rt, alloc, owned.as_slice(), &mut out, &mut err);
-    Ok(Outcome {
-        status,
+    let ended = run_words(rt, alloc, owned.as_slice(), &mut out, &mut err);
+    Ok(Printed {
+        status: ended.outcome.status(),
         out: out.taken,
         err: err.taken,
     })
@@ -164,21 +164,6 @@ fn no_word_shows_the_roster(rt: HostRuntime) -> Result<(), Fail> {
     Ok(())
 }
 
-// What a check of these bytes prints, and its status
-fn judged(rt: &HostRuntime, bytes: &[u8]) -> Result<Outcome, Fail> {
-    let alloc = rt.alloc();
-    let mut out = Brief {
-        taken: Vec::new(alloc),
-        limit: 100,
-    };
-    let status = judge(alloc, bytes.to_vec(alloc)?, &mut out).unwrap_or(9);
-    Ok(Outcome {
-        status,
-        out: out.taken,
-        err: Vec::new(alloc),
-    })
-}
-
 // The words that start the roster's bytes: where its slices end
 static TABLE: [u64; 12] = [
     96, 104, 109, 120, 144, 528, 544, 16944, 33164, 49568, 50594, 58808,
@@ -217,10 +202,13 @@ fn bytes_after(rt: &HostRuntime, words: &[u64], rest: &[u8]) -> Result<Vec<u8>, 
     Ok(bytes)
 }
 
-// Is this what a check of these bytes prints, with this status?
+// Is this what a check of these bytes answers, with this status?
 fn prints(rt: &HostRuntime, bytes: &[u8], status: u8, text: &str) -> Result<bool, Fail> {
-    let done = judged(rt, bytes)?;
-    Ok(done.status == status && done.out.as_slice() == text.as_bytes())
+    let alloc = rt.alloc();
+    let answer = judge::<Columns>(alloc, bytes.to_vec(alloc)?)
+        .ok()
+        .ok_or("no answer")?;
+    Ok(answer.status == status && answer.text.as_str() == text)
 }
 
 #[test]

@@ -219,7 +219,7 @@ pub fn copied<V: Len + Copy, C: ExtendFrom<V>>(
     }
 }
 
-/// As `copied`, behind the first `front` rows of the view.
+/// As `copied`, after the first `front` rows of the view.
 pub fn copied_behind<V: Len + Copy, C: ExtendFrom<V>>(
     alloc: Global,
     view: V,

@@ -13,7 +13,6 @@ use columnar_core::slice::Slice;
 use columnar_core::traits::{Clear, Column, Index, Len, Push};
 use columnar_lists::vector::Vecs;
 use columnar_lists::walk::ListIter;
-use columnar_core::view::View;
 use columnar_primitive::empties::Empties;
 use columnar_sums::unaries::Unaries;
 use std::alloc::{AllocError, Global};
@@ -25,7 +24,7 @@ use test_support::{equal, holds};
 
 type Bounds = Unaries<Vec<u64>, Vec<u64>, [u64; 2]>;
 
-type Lists = Vecs<Vec<u64>, Bounds>;
+pub type Lists = Vecs<Vec<u64>, Bounds>;
 
 type Nested = Vecs<Lists, Bounds>;
 
@@ -33,7 +32,7 @@ type Units = Vecs<Empties, Bounds>;
 
 // What became of a store: 0 where it was of the earlier form, 1 where of the type, else the number of the fault and 10, or of
 // the refusal and 40; then the number of rows, or the slice of the fault; then whether what is written is `written`
-fn opened<C: Earlier + ContainerBytes + Len + Drop>(
+pub fn opened<C: Earlier + ContainerBytes + Len + Drop>(
     alloc: Global,
     words: &[u64],
     written: &[u64],
@@ -148,13 +147,13 @@ fn takes_lengths<'x, C: Push<&'x [u64]>>(
 
 // Lists with bounds in unary, behind the calls that more than one test makes
 #[derive(Drop)]
-struct Held {
+pub struct Held {
     lists: Lists,
     ghost sound: { IsSound ⟦<Lists as Column>⟧.format (⟦<Lists as Column>⟧.content lists) },
 }
 
 impl Held {
-    fn new(alloc: Global) -> Held {
+    pub fn new(alloc: Global) -> Held {
         Held {
             lists: Lists::empty(alloc),
         }
@@ -164,7 +163,17 @@ impl Held {
         takes_lengths(&mut self.lists, items, lengths)
     }
 
-    fn copies(&mut self, other: &Held, start: usize, end: usize) -> bool {
+    /// Pushes lists of these lengths up to the first that is refused; how many are taken.
+    pub fn takes_some(&mut self, items: &[u64], lengths: &[usize]) -> usize {
+        for at in 0..lengths.len() {
+            if !takes(&mut self.lists, front(items, lengths[at])) {
+                return at;
+            }
+        }
+        lengths.len()
+    }
+
+    pub fn copies(&mut self, other: &Held, start: usize, end: usize) -> bool {
         copied(&mut self.lists, other.lists.borrow(), start, end)
     }
 
@@ -173,7 +182,7 @@ impl Held {
     }
 
     // Has it these lengths, and does its own test accept it?
-    fn is(&self, lengths: &[usize]) -> bool {
+    pub fn is(&self, lengths: &[usize]) -> bool {
         has_lengths(&self.lists.borrow(), lengths) && self.lists.borrow().check().is_ok()
     }
 
@@ -275,28 +284,28 @@ fn offsets_in_unary_are_read_in_order(rt: HostRuntime) {
     holds!(rt; are_ends(&bounds, &[]));
 }
 
-// The numbers of a walk over lists of numbers, each list's first and length, in order.
-fn walked<'v, W: Offsets + Drop>(mut walk: ListIter<View<'v, u64>, W>, wanted: &[(u64, usize)]) -> bool {
-    for &(first, length) in wanted {
-        match walk.next() {
-            Some(list) => {
-                if list.len() != length || (length > 0 && list.get(0) != first) {
-                    return false;
-                }
-            }
-            None => return false,
+// Does a walk give lists of these numbers, each as its first and its length, in their order?
+fn walked<V: Index<Ref = u64> + Copy, W: Offsets + Drop>(
+    lists: ListIter<V, W>,
+    wanted: &[(Option<u64>, usize)],
+) -> bool {
+    let mut at = 0usize;
+    for list in lists {
+        if at >= wanted.len() || (row_at(&list, 0), list.len()) != wanted[at] {
+            return false;
         }
+        at += 1;
     }
-    walk.next().is_none()
+    at == wanted.len()
 }
 
 #[test]
 fn a_walk_over_lists_gives_each_in_order(rt: HostRuntime) -> Result<(), Fail> {
-    let mut lists = Lists::empty(rt.alloc());
-    for list in [[1u64, 2].as_slice(), [].as_slice(), [7].as_slice()] {
-        lists.push(list)?;
-    }
-    let wanted = [(1, 2), (0, 0), (7, 1)];
-    holds!(rt; walked(lists.borrow().into_index_iter(), wanted.as_slice()));
+    let mut held = Held::new(rt.alloc());
+    holds!(rt; held.takes([7, 8, 9].as_slice(), [2, 0, 1].as_slice()));
+    let wanted = [(Some(7), 2), (None, 0), (Some(7), 1)];
+    let view = held.lists.borrow();
+    holds!(rt; walked(view.index_iter(), wanted.as_slice()));
+    holds!(rt; walked(view.into_index_iter(), wanted.as_slice()));
     Ok(())
 }

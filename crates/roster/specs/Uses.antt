@@ -1,5 +1,5 @@
 -- What the words ask for, and what answers it.
-use Rattle.std.specs.Prelude.{ℕ, Bool, true, false, List, [], ◌∷◌, ◌++◌, ◌≡◌, ◌≢◌, ◌⊎◌, length, codes, string_bytes, bytes_eq, if◌then◌else◌, Option, Result, Ok, Err}
+use Rattle.std.specs.Prelude.{ℕ, Bool, true, false, List, [], ◌∷◌, ◌++◌, ◌≡◌, ◌≢◌, ◌⊎◌, length, codes, string_bytes, bytes_eq, if◌then◌else◌, Option, None, Some, Result, Ok, Err}
 use Rattle.std.proofs.Common.{Global, String}
 use Rattle.std.specs.Io.KnownBytes.{Keeps, Appends}
 use Rattle.columnar.specs.Accepted.{Accepts, IsFirstFault}
@@ -8,10 +8,10 @@ use Rattle.columnar.specs.Either.{Either}
 use Rattle.columnar.specs.Faults.{fault_number, fault_slice}
 use Rattle.columnar.specs.Format.{Format, Content, slices_of}
 use Rattle.columnar.specs.Frame.{framed_slices}
-use Rattle.columnar.specs.Row.{number}
+use Rattle.columnar.specs.Row.{Row, number}
 use Rattle.columnar.specs.Sent.{AppendsBeginning}
 use Rattle.columnar_base.specs.declared.fault.StoreFault.{StoreFault}
-use Rattle.roster.specs.Ages.{ages_sum}
+use Rattle.roster.specs.Ages.{ages_sum, roster_ages}
 use Rattle.roster.specs.Told.{rows_line, refused_line, slice_lines, sum_line, words_line}
 use Rattle.roster.specs.declared.told.Answer.{Answer}
 use Rattle.roster.specs.declared.told.Failure.{Failure}
@@ -37,13 +37,13 @@ use_of (word ∷ []) = if reads word (codes "first") then begins else misuses
 use_of (word ∷ path ∷ []) = if reads word (codes "write") then writes else (if reads word (codes "check") then checks else misuses)
 use_of _ = misuses
 
--- the lines that show a column: its slices, and then the sum of the ages in its rows
-abbrev pub shown : Format → Content → List ℕ
-shown f c = slice_lines f.aligns (slices_of c) ++ sum_line (ages_sum (f.rows c))
+-- The lines that show a column: its slices, and then the sum of the ages in its rows, where `ages` are those in a row.
+abbrev pub shown : (Row → ℕ) → Format → Content → List ℕ
+shown ages f c = slice_lines f.aligns (slices_of c) ++ sum_line (ages_sum ages (f.rows c))
 
 -- the text shows some bytes that are accepted
 abbrev pub Shows : Format → List ℕ → Type 0
-Shows f text = (bytes : List ℕ) × (Accepts f bytes × (text ≡ shown f (f.build (framed_slices bytes))))
+Shows f text = (bytes : List ℕ) × (Accepts f bytes × (text ≡ shown roster_ages f (f.build (framed_slices bytes))))
 
 -- the text tells the words of some bytes that are accepted, whose one row is 7, and that there is one row
 abbrev pub TellsSeven : Format → List ℕ → Type 0
@@ -70,16 +70,22 @@ Answers f old one writes status text = (status ≡ 0) × (text ≡ [])
 Answers f old one checks status text = (bytes : List ℕ) × Judges f old bytes status text
 Answers f old one misuses status text = ⊥
 
+-- an answer to a use that the program has, or none where the words ask for nothing that it does
+abbrev pub Answered : Format → Format → Format → Use → Option (Result Answer Failure) → Type 0
+Answered f old one asked (Some (Ok answer)) = Answers f old one asked answer.status (string_bytes answer.text)
+Answered f old one asked (Some (Err failure)) = asked ≢ misuses
+Answered f old one asked None = asked ≡ misuses
+
 -- What went to the output of a use that was not done: nothing, or a beginning of what answers it.
 abbrev pub Began : Format → Format → Format → Use → Option (List ℕ) → Option (List ℕ) → Type 0
-Began f old one use before after = Keeps before after ⊎ ((status : ℕ) × ((text : List ℕ) × (Answers f old one use status text × AppendsBeginning before after text)))
+Began f old one asked before after = Keeps before after ⊎ ((status : ℕ) × ((text : List ℕ) × (Answers f old one asked status text × AppendsBeginning before after text)))
 
 -- What an outcome tells of a use, and of what went to the output: it was done, and what answers it went out; it failed;
 -- or the words ask for nothing that the program does, and nothing went out.
 abbrev pub Ends : Format → Format → Format → Use → Outcome → Option (List ℕ) → Option (List ℕ) → Type 0
-Ends f old one use (Done status) before after = (text : List ℕ) × (Answers f old one use status text × Appends before after text)
-Ends f old one use (Failed failure) before after = (use ≢ misuses) × Began f old one use before after
-Ends f old one use Misused before after = (use ≡ misuses) × Keeps before after
+Ends f old one asked (Done status) before after = (text : List ℕ) × (Answers f old one asked status text × Appends before after text)
+Ends f old one asked (Failed failure) before after = (asked ≢ misuses) × Began f old one asked before after
+Ends f old one asked Misused before after = (asked ≡ misuses) × Keeps before after
 
 -- What went to an output that is told a text: all of it, or, where not all was taken, a beginning of it.
 abbrev pub Hears : List ℕ → Bool → Option (List ℕ) → Option (List ℕ) → Type 0

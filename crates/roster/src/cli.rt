@@ -1,16 +1,17 @@
 //! What the program's words ask for.
-ghost use Rattle.std.specs.Prelude.{◌≡◌, ◌∷◌, ℕ, List, [], IfOk, OnOk, IsTrue, string_bytes};
+ghost use Rattle.std.specs.Prelude.{◌≡◌, ◌∷◌, ℕ, List, [], IfOk, OnOk, OnErr, IsTrue, string_bytes};
 ghost use Rattle.std.specs.Io.KnownBytes.{Appends};
 ghost use Rattle.columnar.specs.Accepted.{Accepts};
 ghost use Rattle.columnar.specs.Bytes.{le_bytes};
 ghost use Rattle.columnar.specs.Format.{representable};
 ghost use Rattle.columnar.specs.Frame.{framed_slices};
 ghost use Rattle.columnar.specs.Row.{number};
+ghost use Rattle.columnar.specs.Sent.{AppendsBeginning};
 ghost use Rattle.roster.specs.Told.{outcome_line};
-ghost use Rattle.roster.specs.Uses.{use_of, Answers, Ends, Given, Hears, Judges, Shows, TellsSeven};
+ghost use Rattle.roster.specs.Uses.{use_of, Answered, Ends, Given, Hears, Judges, Shows, TellsSeven};
 
 use crate::group::Group;
-use crate::roster::{Columns, OldColumns, Person, Unbuilt, bytes_of, everyone, tell_groups};
+use crate::roster::{Columns, OldColumns, Person, Unbuilt, bytes_of, everyone, tell_view};
 use crate::told::{Answer, Failure, Outcome, put, tell_fault, tell_rows, tell_words};
 use columnar::bytes::WriteBytes;
 use columnar::bytes::indexed::encode;
@@ -52,16 +53,29 @@ pub fn run_words<R: Files, O: Write, E: Write>(
 fn do_words<R: Files, O: Write>(rt: &R, alloc: Global, words: &[String], out: &mut O) -> Outcome
     ensures { Ends ⟦<Columns as Column>⟧.format ⟦<OldColumns as Column>⟧.format ⟦<Vec<u64> as Column>⟧.format (use_of words.now) result (O.contents out.old) (O.contents out.new) }
 {
-    let answer = match words {
-        [] => show(alloc),
-        [word] if word.as_str() == "first" => first(alloc),
-        [word, path] if word.as_str() == "write" => write_roster(rt, alloc, path.as_str()),
-        [word, path] if word.as_str() == "check" => check(rt, alloc, path.as_str()),
-        _ => return Outcome::Misused,
+    let Some(answer) = answer_words(rt, alloc, words) else {
+        return Outcome::Misused;
     };
     match give(answer, out) {
         Ok(status) => Outcome::Done(status),
         Err(failure) => Outcome::Failed(failure),
+    }
+}
+
+// What answers the words, or None where they ask for nothing that the program does.
+fn answer_words<R: Files>(
+    rt: &R,
+    alloc: Global,
+    words: &[String],
+) -> Option<Result<Answer, Failure>>
+    ensures { Answered ⟦<Columns as Column>⟧.format ⟦<OldColumns as Column>⟧.format ⟦<Vec<u64> as Column>⟧.format (use_of words.now) result }
+{
+    match words {
+        [] => Some(show(alloc)),
+        [word] if word.as_str() == "first" => Some(first(alloc)),
+        [word, path] if word.as_str() == "write" => Some(write_roster(rt, alloc, path.as_str())),
+        [word, path] if word.as_str() == "check" => Some(check(rt, alloc, path.as_str())),
+        _ => None,
     }
 }
 
@@ -104,19 +118,20 @@ fn show(alloc: Global) -> Result<Answer, Failure>
     let bytes = roster_bytes(alloc)?;
     match Stash::<Columns, Vec<u8>>::try_from_bytes(alloc, bytes) {
         Ok(opened) => {
-            let text = tell_groups(alloc, &opened.borrow())?;
+            let text = tell_view(alloc, &opened.borrow())?;
             Ok(Answer { status: 0, text })
         }
         Err(_) => unreachable!(),
     }
 }
 
-// The roster's bytes as a file.
+// The roster's bytes as a file. Where they are not built, no file is made.
 fn write_roster<R: Files>(rt: &R, alloc: Global, path: &str) -> Result<Answer, Failure>
     ensures { IfOk result (λ answer. (answer.status ≡ 0) × (string_bytes answer.text ≡ [])) }
 {
+    let bytes = roster_bytes(alloc)?;
     match fs::create(rt, path) {
-        Ok(mut file) => send_roster(alloc, &mut file)?,
+        Ok(mut file) => send_store(&mut file, bytes.as_slice())?,
         Err(_) => return Err(Failure::Output),
     }
     Ok(Answer {
@@ -125,12 +140,13 @@ fn write_roster<R: Files>(rt: &R, alloc: Global, path: &str) -> Result<Answer, F
     })
 }
 
-// Sends the roster's bytes to a file, which are accepted as its columns.
-fn send_roster<F: WriteBytes>(alloc: Global, file: &mut F) -> Result<(), Failure>
-    ensures { OnOk result ((bytes : List ℕ) × (Accepts ⟦<Columns as Column>⟧.format bytes × Appends (F.contents file.old) (F.contents file.new) bytes)) }
+// Sends bytes to a file; they are accepted as the roster's columns.
+fn send_store<F: WriteBytes>(file: &mut F, bytes: &[u8]) -> Result<(), Failure>
+    requires { Accepts ⟦<Columns as Column>⟧.format bytes.now }
+    ensures ok { OnOk result (Appends (F.contents file.old) (F.contents file.new) bytes.now) }
+    ensures err { OnErr result (AppendsBeginning (F.contents file.old) (F.contents file.new) bytes.now) }
 {
-    let bytes = roster_bytes(alloc)?;
-    match file.write_all(bytes.as_slice()) {
+    match file.write_all(bytes) {
         Ok(()) => Ok(()),
         Err(_) => Err(Failure::Output),
     }

@@ -1,19 +1,16 @@
 //! The roster: who is present, alone or in teams, as a column of groups and as bytes.
-ghost use Rattle.std.specs.Prelude.{◌≡◌, ◌+◌, ◌%◌, ◌^◌, All, IfOk, IsTrue, map, sum, string_bytes};
+ghost use Rattle.std.specs.Prelude.{◌≡◌, All, IfOk, IsTrue, string_bytes};
 ghost use Rattle.columnar.specs.Accepted.{Accepts};
 ghost use Rattle.columnar.specs.Format.{IsSound, representable, slices_of};
-ghost use Rattle.columnar.specs.Row.{items_of};
-ghost use Rattle.roster.specs.Ages.{age, ages_sum};
 ghost use Rattle.roster.specs.Told.{slice_lines};
 ghost use Rattle.roster.specs.Uses.{shown};
 
-use crate::group::{Group, GroupReference};
+use crate::group::Group;
+use crate::group::ages::{Aged, sum_ages};
 use columnar::bytes::stash::Stash;
 use columnar::common::Earlier;
 use columnar::fault::{GrowError, WriteFault};
-use columnar::{
-    AsBytes, Columnar, ContainerBytes, ContainerOf, Index, Item, Len, PushRef, Slice, Storage,
-};
+use columnar::{AsBytes, Columnar, ContainerBytes, ContainerOf, Index, Len, PushRef, Storage};
 use std::alloc::{AllocError, Global};
 
 /// A name and an age.
@@ -113,51 +110,16 @@ pub fn tell_slices<'a, V: AsBytes<'a>>(alloc: Global, view: &V) -> Result<String
     Ok(text)
 }
 
-// The sum of the ages of a team, where they are rows of a view, and of what was summed before; it wraps at 2^64.
-fn team_ages<N: Copy + Item, W: Index<Ref = (N, u64)> + Copy>(team: Slice<W>, before: u64) -> u64
-    requires { ⟦<Slice<W> as Item>⟧.valid team }
-    ensures { result ≡ (before + sum (map age (items_of (⟦<Slice<W> as Item>⟧.meaning team)))) % 2 ^ 64 }
-{
-    let mut sum = before;
-    for index in 0..team.len() {
-        sum = sum.wrapping_add(team.get(index).1);
-    }
-    sum
-}
-
-/// The sum of all ages of groups of persons; it wraps at 2^64.
-pub fn ages<
-    M: Copy + Item,
-    N: Copy + Item,
-    W: Index<Ref = (N, u64)> + Copy,
-    V: Index<Ref = GroupReference<(M, u64), Slice<W>>> + Len,
->(groups: &V) -> u64
-    requires { IsSound V.format (V.content groups.now) }
-    ensures { result ≡ ages_sum (V.format.rows (V.content groups.now)) }
-{
-    let mut sum = 0u64;
-    for index in 0..groups.len() {
-        match groups.get(index) {
-            GroupReference::Solo(person) => sum = sum.wrapping_add(person.1),
-            GroupReference::Team(team) => sum = team_ages(team, sum),
-        }
-    }
-    sum
-}
-
-/// The slices of a view of groups of persons, a line for each, and then the sum of all ages.
-pub fn tell_groups<
-    'a,
-    M: Copy + Item,
-    N: Copy + Item,
-    W: Index<Ref = (N, u64)> + Copy,
-    V: AsBytes<'a> + Index<Ref = GroupReference<(M, u64), Slice<W>>> + Len,
->(alloc: Global, groups: &V) -> Result<String, AllocError>
+/// The slices of a view of rows with ages, a line for each, and then the sum of all ages.
+pub fn tell_view<'a, V: AsBytes<'a> + Index<Ref: Aged> + Len>(
+    alloc: Global,
+    view: &V,
+) -> Result<String, AllocError>
     requires representable { IsTrue (representable V.format) }
-    requires sound { IsSound V.format (V.content groups.now) }
-    ensures { IfOk result (λ text. string_bytes text ≡ shown V.format (V.content groups.now)) }
+    requires sound { IsSound V.format (V.content view.now) }
+    ensures { IfOk result (λ text. string_bytes text ≡ shown V.Ref.ages V.format (V.content view.now)) }
 {
-    let mut text = tell_slices(alloc, groups)?;
-    writeln!(text, "Present values summed: {}", ages(groups))?;
+    let mut text = tell_slices(alloc, view)?;
+    writeln!(text, "Present values summed: {}", sum_ages(view))?;
     Ok(text)
 }

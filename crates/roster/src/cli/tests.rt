@@ -50,10 +50,11 @@ impl Write for Brief {
     }
 }
 
-// What the words make of outputs that take so many bytes: the status, and what was taken
+// What the words make of outputs that take so many bytes: the status, whether all was heard, and what was taken
 #[derive(Drop)]
 struct Printed {
     status: u8,
+    heard: bool,
     out: Vec<u8>,
     err: Vec<u8>,
 }
@@ -80,6 +81,7 @@ fn outcome_of(
     let ended = run_words(rt, alloc, owned.as_slice(), &mut out, &mut err);
     Ok(Printed {
         status: ended.outcome.status(),
+        heard: ended.heard,
         out: out.taken,
         err: err.taken,
     })
@@ -135,6 +137,7 @@ fn a_standard_output_that_fails_is_told(rt: HostRuntime) -> Result<(), Fail> {
     }
     let done = outcome_of(&rt, ["first"].as_slice(), text.len(), 0)?;
     assert_eq!(rt; done.status, 0);
+    assert!(rt; done.heard);
     Ok(())
 }
 
@@ -144,6 +147,7 @@ fn a_standard_error_that_fails_changes_no_status(rt: HostRuntime) -> Result<(), 
     for limit in 0..text.len() {
         let done = outcome_of(&rt, ["second"].as_slice(), 100, limit)?;
         assert_eq!(rt; done.status, 2);
+        assert!(rt; !done.heard);
         assert_eq!(rt; done.out.len(), 0);
         assert_eq!(rt; done.err.as_slice(), front(text, limit));
         let done = outcome_of(&rt, ["first"].as_slice(), 0, limit)?;

@@ -94,6 +94,12 @@ pub use Rattle.columnar_sums.specs.Marked
 pub use Rattle.columnar_variants.specs.Cases
 pub use Rattle.columnar_variants.specs.VariantBytes
 pub use Rattle.columnar_variants.specs.VariantCounts
+pub use Rattle.columnar_variants.specs.Nths
+pub use Rattle.columnar_variants.specs.BankCases
+pub use Rattle.columnar_variants.specs.BankCopies
+pub use Rattle.columnar_variants.specs.BankEarlier
+pub use Rattle.columnar_variants.specs.VariantCopies
+pub use Rattle.columnar_variants.specs.VariantRows
 pub use Rattle.columnar_cells.specs.BitLaws
 pub use Rattle.columnar_lookback.specs.Lookbacks
 pub use Rattle.columnar_lookback.specs.Recall

@@ -19,12 +19,12 @@ sys.path.insert(0, os.path.join(ROOT, ".ci", "widths"))
 
 import cells
 import earlier
-import fields
+import ordered
 import same
 import tuples
 import types_of_tuples
 
-KINDS = (tuples, same, earlier, cells, types_of_tuples, fields)
+KINDS = (tuples, ordered, same, earlier, cells, types_of_tuples)
 
 
 def make(folder):

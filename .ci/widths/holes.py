@@ -41,6 +41,14 @@ def times(xs):
     return " × ".join(xs) if len(xs) < 3 else f"{xs[0]} × ({times(xs[1:])})"
 
 
+def appended(xs):
+    return xs[0] if len(xs) == 1 else f"{xs[0]} ++ {closed(appended(xs[1:]))}"
+
+
+def then(xs):
+    return xs[0] if len(xs) == 1 else f"{xs[0]}.then({then(xs[1:])})"
+
+
 def fold(function, xs):
     return xs[0] if len(xs) == 1 else f"{function} {closed(xs[0])} {closed(fold(function, xs[1:]))}"
 
@@ -56,6 +64,9 @@ SHAPES = {
     "nest": nest,  # (a, (b, c))
     "left": left,  # ((a, b), c)
     "times": times,  # a × (b × c)
+    "appended": appended,  # a ++ (b ++ c)
+    "and": " && ".join,
+    "then": then,  # a.then(b.then(c))
     "1+list": functools.partial(arguments, 1),  # a (b ∷ c ∷ [])
     "2+list": functools.partial(arguments, 2),  # a b (c ∷ [])
 }

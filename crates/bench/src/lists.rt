@@ -16,10 +16,11 @@ type Viewed<'a> = Vecs<Words<'a>, Words<'a>>;
 
 type Held = Stash<Lists, Vec<u8>>;
 
-const N: usize = 1_000_000;
+/// How many lists there are.
+pub const N: usize = 1_000_000;
 
-// How many items the lists have.
-const ITEMS: usize = 3_500_000;
+/// How many items the lists have.
+pub const ITEMS: usize = 3_500_000;
 
 pub fn measure<R: Clock, O: Write>(times: &mut Times<'_, R, O>) -> Option<()> {
     let mut random = Random::new(13);
@@ -44,6 +45,9 @@ fn typed<R: Clock, O: Write>(
     let start = times.start();
     let sum = work::sum_lists(&view);
     times.summed("get_lists_typed", start, ITEMS, sum)?;
+    let start = times.start();
+    let sum = work::walk_lists(view.index_iter());
+    times.summed("walk_lists", start, ITEMS, sum)?;
     times.copy::<Viewed<'_>, Lists>("copy_lists_half", view, 250_000, 750_000)?;
     work::written(times.alloc, &view, 40 * N)
 }

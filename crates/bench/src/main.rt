@@ -15,6 +15,7 @@ mod repeated;
 mod rows;
 mod strings;
 mod times;
+mod unary;
 mod work;
 
 use crate::times::Times;
@@ -29,6 +30,7 @@ fn all<R: Clock, O: Write>(times: &mut Times<'_, R, O>) -> Option<()> {
         bits::measure(times)?;
         numbers::measure(times)?;
         lists::measure(times)?;
+        unary::measure(times)?;
         strings::measure(times)?;
         kinds::measure(times)?;
         repeated::measure(times)?;

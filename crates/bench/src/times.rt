@@ -104,7 +104,7 @@ impl<'a, R: Clock, O: Write> Times<'a, R, O> {
         self.end(name, began, end.saturating_sub(start))
     }
 
-    /// The same behind the first `front` rows of the view.
+    /// The same after the first `front` rows of the view.
     pub fn copy_behind<V: Len + Copy, C: ExtendFrom<V> + Drop>(
         &mut self,
         name: &str,

@@ -17,9 +17,11 @@ use columnar_cells::items::{Field, SetItem};
 use columnar_cells::lent::ValueMut;
 use columnar_core::bytes::{AsBytes, Stored};
 use columnar_core::container::ExtendFrom;
+use columnar_core::offsets::Offsets;
 use columnar_core::slice::Slice;
 use columnar_core::words::Words;
 use columnar_lists::vector::Vecs;
+use columnar_lists::walk::ListIter;
 use columnar_sums::discriminant::Discriminant;
 use columnar_sums::rank_select::RankSelect;
 use std::alloc::Global;
@@ -217,7 +219,7 @@ pub fn copied<V: Len + Copy, C: ExtendFrom<V>>(
     }
 }
 
-/// As `copied`, behind the first `front` rows of the view.
+/// As `copied`, after the first `front` rows of the view.
 pub fn copied_behind<V: Len + Copy, C: ExtendFrom<V>>(
     alloc: Global,
     view: V,
@@ -263,6 +265,16 @@ pub fn sum_lists<'a>(lists: &Vecs<View<'a, u64>, View<'a, u64>>) -> u64
     let mut sum = 0u64;
     for i in 0..lists.len() {
         sum = sum.wrapping_add(total(&lists.get(i)));
+    }
+    sum
+}
+
+/// The sum of all items of lists, one list after another.
+#[inline(never)]
+pub fn walk_lists<V: Index<Ref: Amount> + Copy, W: Offsets + Drop>(lists: ListIter<V, W>) -> u64 {
+    let mut sum = 0u64;
+    for list in lists {
+        sum = sum.wrapping_add(total(&list));
     }
     sum
 }

@@ -27,7 +27,7 @@ array_element {T} {size} {bytes} n e = record {
   read_back = λ xs. refl;
 }
 
--- the bytes of an array, one element's behind the other's
+-- the bytes of an array, one element's after the other's
 pub array_bytes_are : {T : Type 0} {size : ℕ} {bytes : T → List ℕ} {row_of : List ℕ → Row} {meaning : T → Row} (n : ℕ) → IsElement size bytes row_of meaning → (xs : List T) → 0 < n → length xs ≡ n → array_bytes n size bytes xs ≡ flat_map bytes xs
 array_bytes_are {T} {size} {bytes} zero e xs p l = absurd (omega arith)
 array_bytes_are {T} {size} {bytes} (suc n) e xs p l = filled_whole (size * suc n) (flat_map bytes xs) (length-flat size bytes e.sized xs ∙ ap (λ k. size * k) l)

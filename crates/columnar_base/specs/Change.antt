@@ -56,9 +56,9 @@ pub record Refused (f : Format) (old new : Content) (added : List Row) (error : 
   pub stayed : Stayed f old new
   pub cause : IsTrueOf error f old added
 
--- The items before item `count` were taken, one by one, and that one was refused.
+-- The items before item `count` were taken, one by one; that one, the last, was refused.
 pub record StoppedAt (f : Format) (old new : Content) (items : List Row) (error : GrowError) : Type 0 where
   pub count : ℕ
-  pub within : count < length items
+  pub last : count + 1 ≡ length items
   pub took : Took f old new (take count items)
   pub cause : IsTrueOf error f old (take (count + 1) items)

@@ -148,7 +148,7 @@ elements_storable size align row_of = record {
 elements_keeps : {align : ℕ} (size : ℕ) (row_of : List ℕ → Row) (old new : Content) (n : ℕ) → Keeps (elements_format size align row_of) old new n
 elements_keeps size row_of old new n = record { extents = λ k l. refl; limits = λ k l e rs. refl }
 
--- the elements ys came behind the elements xs
+-- the elements ys came after the elements xs
 pub elements_grew : {align : ℕ} {T : Type 0} {size : ℕ} {bytes : T → List ℕ} {row_of : List ℕ → Row} {meaning : T → Row} → IsElement size bytes row_of meaning → (xs ys : List T) → Grew (elements_format size align row_of) (elements bytes xs) (elements bytes (xs ++ ys)) (map meaning ys)
 elements_grew {T} {size} {bytes} {row_of} {meaning} e xs ys = record {
   sound = elements_sound row_of e (xs ++ ys);
@@ -171,7 +171,7 @@ elements_took {T} {size} {bytes} {row_of} {meaning} e xs ys = record {
 pub elements_pushed : {align : ℕ} {T : Type 0} {size : ℕ} {bytes : T → List ℕ} {row_of : List ℕ → Row} {meaning : T → Row} → IsElement size bytes row_of meaning → (xs : List T) (x : T) → Took (elements_format size align row_of) (elements bytes xs) (elements bytes (xs ++ x ∷ [])) (meaning x ∷ [])
 elements_pushed e xs x = elements_took e xs (x ∷ [])
 
--- the rows of a range were copied behind the elements xs
+-- the rows of a range were copied after the elements xs
 pub elements_copied : {align : ℕ} {T : Type 0} {size : ℕ} {bytes : T → List ℕ} {row_of : List ℕ → Row} {meaning : T → Row} → IsElement size bytes row_of meaning → (xs ys : List T) (start : ℕ) (rs : List Row) → map meaning ys ≡ rs → Copied (elements_format size align row_of) (elements bytes xs) (elements bytes (xs ++ ys)) start rs
 elements_copied {align} {T} {size} {bytes} {row_of} {meaning} e xs ys start rs h = record {
   took = rw h at (elements_took {align = align} e xs ys);

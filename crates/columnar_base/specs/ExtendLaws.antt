@@ -35,7 +35,7 @@ extend_stopped {T} {f} {old} {mid} {new} {error} meaning xs x p q =
     let b : take (length xs + 1) (map meaning (xs ++ x ∷ [])) ≡ map meaning (xs ++ x ∷ []) = rw (← l) (take-length (map meaning (xs ++ x ∷ []))) in
     record {
       count = length xs;
-      within = omega (arith, l);
+      last = sym l;
       took = rw a (took_stayed p q.stayed);
       cause = rw (b, m) (true_from f f mid old (meaning x ∷ []) (map meaning xs ++ meaning x ∷ []) error (λ e h. p.adds e (meaning x ∷ []) h) q.cause);
     }

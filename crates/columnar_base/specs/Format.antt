@@ -118,7 +118,7 @@ pub record IsLawful (f : Format) : Type 0 where
   -- the test for equal rows is one too, and it holds of rows that are alike
   pub kindred : IsSame f.kin
   pub related : (r s : Row) → f.alike r s ≡ true → f.kin r s ≡ true
-  -- what may not be held may not be held with more behind it
+  -- what may not be held may not be held with more after it
   pub more : (e : Excess) (c : Content) (n : ℕ) (rs ss : List Row) → f.refuses e c n rs ≡ true → f.refuses e c n (rs ++ ss) ≡ true
 
 -- What each format of a type with bytes keeps to.

@@ -16,7 +16,7 @@ pub items_counted : {T : Type 0} (bytes : T → List ℕ) (i : Items T) → leng
 items_counted bytes (Typed xs) = refl
 items_counted bytes (Bytes bs) = refl
 
--- the pieces behind the first l
+-- the pieces after the first l
 pieces_drop : (size k l : ℕ) (bs : List ℕ) → drop l (pieces size (l + k) bs) ≡ pieces size k (drop (size * l) bs)
 pieces_drop size k zero bs = let z : size * 0 ≡ 0 = omega arith in let y : 0 + k ≡ k = omega arith in rw (z, y) refl
 pieces_drop size k (suc l) bs =

@@ -34,6 +34,6 @@ view_bytes v = bytes_of (items_content (to_le_bytes w64) v.items)
 abbrev pub view_words : View ℕ → List ℕ
 view_words v = words_in (view_bytes v)
 
--- the words of bits: those of the first view, and behind them the tail's first
+-- the words of bits: those of the first view, and after them the tail's first
 abbrev pub bit_words : List ℕ → List ℕ → List ℕ
 bit_words values tail = words_in values ++ slice_index (words_in tail) 0 ∷ []

@@ -92,7 +92,7 @@ pub enum StoreFault {
     #[error("the store has no bytes, slice {0}")]
     Empty(usize),
     /// The first offset points into its own word, or not to the start of a word.
-    #[error("the first offset points to no word behind it, slice {0}")]
+    #[error("the first offset points to no word after it, slice {0}")]
     FirstOffset(usize),
     /// The table of offsets does not fit in the store.
     #[error("the table of offsets does not fit in the store, slice {0}")]
@@ -121,8 +121,8 @@ pub enum StoreFault {
     /// Counts that are not the numbers of set bits.
     #[error("counts that are not the numbers of set bits, slice {0}")]
     Counts(usize),
-    /// A tail with too many bits, or with bits set behind them.
-    #[error("a tail with too many bits or with bits set behind them, slice {0}")]
+    /// A tail with too many bits, or with bits set after them.
+    #[error("a tail with too many bits or with bits set after them, slice {0}")]
     TailBits(usize),
     /// A value that its type does not have.
     #[error("a value that its type does not have, slice {0}")]

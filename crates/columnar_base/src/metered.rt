@@ -58,7 +58,7 @@ impl<'a, L> MeteredCounts<'a, L> {
     }
 }
 
-/// The words of bits: whole words, and behind them the tail's first word. A read of one is noted as a word, with its
+/// The words of bits: whole words, and after them the tail's first word. A read of one is noted as a word, with its
 /// number.
 #[derive(Drop)]
 pub struct MeteredWords<'a, L> {
@@ -79,7 +79,7 @@ impl<'a, L> Model for MeteredWords<'a, L> {
 }
 
 impl<'a, L> MeteredWords<'a, L> {
-    /// The words of `values`, and behind them the first of `tail`. Asks that the tail has one.
+    /// The words of `values`, and after them the first of `tail`. Asks that the tail has one.
     pub fn new(values: View<'a, u64>, tail: View<'a, u64>) -> MeteredWords<'a, L>
         requires { 0 < length (view_words tail) }
         ensures { result ≡ bit_words (view_bytes values.entry) (view_bytes tail.entry) }
@@ -113,7 +113,7 @@ impl<'a, L> MeteredWords<'a, L> {
     }
 }
 
-/// Word `index` of whole words with the tail's first word behind them.
+/// Word `index` of whole words with the tail's first word after them.
 pub fn word_or_tail(values: View<'_, u64>, tail: View<'_, u64>, index: usize) -> u64
     requires tail { 0 < length (view_words tail) }
     requires in_range { index < length (bit_words (view_bytes values) (view_bytes tail)) }

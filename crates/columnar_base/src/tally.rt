@@ -98,7 +98,7 @@ impl<L> Tally<L> {
         self.counts = self.counts.with(0);
     }
 
-    /// Notes that the word of number `index` was read, behind the words that were noted, and keeps the counts and the turns. It does nothing when it runs.
+    /// Notes that the word of number `index` was read, after the words that were noted, and keeps the counts and the turns. It does nothing when it runs.
     ///
     /// For metered views alone: a view calls it where it reads a word, and the code that reads through a view never does.
     #[inline(always)]

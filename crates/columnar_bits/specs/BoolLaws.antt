@@ -127,7 +127,7 @@ bools_storable = record {
 
 -- changes
 
--- the bits cs came behind those of a and b
+-- the bits cs came after those of a and b
 pub record Added (a b a' b' : List ℕ) (cs : List Bool) : Type 0 where
   pub sound : SoundBools a' b'
   pub bits : bits_in a' b' ≡ bits_in a b ++ cs
@@ -237,7 +237,7 @@ tail_cut {a} {b} {a'} {b'} {u} {n} s t ea la l clear same =
 pub two_words : {a b : List ℕ} → SoundBools a b → length (words_in b) ≡ 2
 two_words {a} {b} s = omega (arith, s.two, length-words_in b)
 
--- the word of a bit is there, and also that of the place behind the last
+-- the word of a bit is there, and also that of the place after the last
 pub word_there : {a b : List ℕ} (i : ℕ) → SoundBools a b → i ≤ length (bits_in a b) → i / 64 < length (bit_words a b)
 word_there {a} {b} i s l = omega (arith, s.few, bits_length a b, length_push (words_in a) (last_word b))
 

@@ -6,7 +6,7 @@ use Rattle.columnar_core.specs.declared.fault.StoreFault.{StoreFault}
 use Rattle.columnar_core.specs.declared.fault.StoreFault.TheVariants.{NotWords, Empty, FirstOffset, Table, SliceCount, PastEnd, Backwards}
 
 -- The rule of the structure that the fault names is broken, at its slice: the store is not made of whole words; it has no
--- bytes; the first offset points to no word behind it; the table of offsets does not fit in the store; it has entries
+-- bytes; the first offset points to no word after it; the table of offsets does not fit in the store; it has entries
 -- for more or fewer slices than n; slice i reaches beyond the store; the end of slice i is below its start.
 abbrev pub IsBroken : List ℕ → ℕ → StoreFault → Type 0
 IsBroken bytes n (NotWords i) = (i ≡ 0) × (length bytes % 8 ≢ 0)

@@ -110,7 +110,7 @@ pub enum Stash<C: Stored, B: ByteStore> {
     Typed(C),
     /// Bytes that were accepted.
     Bytes(Checked<C, B>),
-    /// The bytes of an encoding: zeros between the slices, and nothing behind them.
+    /// The bytes of an encoding: zeros between the slices, and nothing after them.
     Align(Checked<C, AlignedBytes>),
 }
 

@@ -25,7 +25,7 @@ rises_at from e (suc i) l (n ∷ ns) h p =
     let c = rises_at n e i l ns a.1 p in
     omega (arith, b, c)
 
--- lists behind the written item
+-- lists after the written item
 cut_same : (from e : ℕ) (ns : List ℕ) (vs : List Row) (j : ℕ) (r : Row) → j < from → rises from ns e ≡ true → cut from ns (slice_set vs j r) ≡ cut from ns vs
 cut_same from e [] vs j r l h = refl
 cut_same from e (n ∷ ns) vs j r l h =

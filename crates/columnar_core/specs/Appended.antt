@@ -1,4 +1,4 @@
--- Elements behind those of a `Vec`, read from bytes.
+-- Elements after those of a `Vec`, read from bytes.
 use Rattle.std.proofs.Common.{◌≡◌, ℕ, suc, ◌+◌, ◌*◌, List, [], ◌∷◌, ◌++◌, take, drop, map, zero, refl, sym, ◌∙◌, arith, append-nil, append_assoc}
 use Rattle.std.specs.List.{flat_map}
 use Rattle.std.proofs.lemmas.List.{take-map}

@@ -140,7 +140,7 @@ tail_out bs i n b p h l z m e q =
     ap (take n) (e ∙ w) ∙ take-take n 8 (drop (8 * i) (padded bs)) (omega arith) ∙ ap (take n) d ∙ take_at (drop (8 * i) bs) zeros n k in
     sym r ∙ sym q ∙ sym (append-nil p)
 
--- the bytes behind the last whole word
+-- the bytes after the last whole word
 pub end_out : (bs : List ℕ) (i count : ℕ) (b : List ℕ) → AreBytes bs → i ≡ count / 8 → count ≡ length bs → 0 < count % 8 → b ≡ to_le_bytes w64 (word bs (count / 8)) → drop (8 * i) bs ≡ take (count % 8) b ++ []
 end_out bs i count b h e l z m = tail_out bs i (count % 8) b (take (count % 8) b) h (omega (arith, e, l)) z (omega arith) (rw (← e) at m) refl
 

@@ -9,7 +9,11 @@ use Rattle.columnar_core.specs.declared.bytes.ByteSlices.{ByteSlices}
 abbrev pub byte_slices_left : {V : Type 0} {column : _} → ByteSlices V column → List (List ℕ)
 byte_slices_left {column = column} s = drop s.index (slices_of (column.content s.column.now))
 
--- a call from s gave the bytes of the first slice that was left, with its alignment, and left the others; or `None`
--- where nothing was left, and left nothing
-abbrev pub GivesSlice : {S : Type 0} → (S → List (List ℕ)) → S → Option (ℕ × ByteSlice) → S → Type 0
-GivesSlice left s given t = MatchOption given ((left s ≡ []) × (left t ≡ [])) (λ p. (left s ≡ bytes_in p.1 ∷ left t) × (p.0 ≡ alignment p.1))
+-- the alignments that the column's type has for them
+abbrev pub aligns_left : {V : Type 0} {column : _} → ByteSlices V column → List ℕ
+aligns_left {column = column} s = drop s.index column.format.aligns
+
+-- a call from s gave the bytes of the first slice that was left, with its alignment, which is the type's, and left the
+-- others; or `None` where nothing was left, and left nothing
+abbrev pub GivesSlice : {S : Type 0} → (S → List (List ℕ)) → (S → List ℕ) → S → Option (ℕ × ByteSlice) → S → Type 0
+GivesSlice left aligns s given t = MatchOption given ((left s ≡ []) × (left t ≡ [])) (λ p. (left s ≡ bytes_in p.1 ∷ left t) × (p.0 ≡ alignment p.1) × (aligns s ≡ p.0 ∷ aligns t))

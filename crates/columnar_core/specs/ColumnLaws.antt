@@ -7,5 +7,5 @@ use Rattle.columnar_core.specs.Slices.{bytes_in}
 use Rattle.columnar_core.specs.declared.byte_slice.ByteSlice.{ByteSlice}
 
 -- what a loop over an iterator of slices is given are the bytes of those that are left, in order
-pub slices_given : {S : Type 0} (left : S → List (List ℕ)) (s : S) → YieldsList (GivesSlice left) (λ (p : ℕ × ByteSlice). bytes_in p.1) s (left s)
-slices_given left s = YieldsList-from_shown (GivesSlice left) (λ (p : ℕ × ByteSlice). bytes_in p.1) left (λ a b h. ap length h.0) (λ a x b h. h.0) s
+pub slices_given : {S : Type 0} (left : S → List (List ℕ)) (aligns : S → List ℕ) (s : S) → YieldsList (GivesSlice left aligns) (λ (p : ℕ × ByteSlice). bytes_in p.1) s (left s)
+slices_given left aligns s = YieldsList-from_shown (GivesSlice left aligns) (λ (p : ℕ × ByteSlice). bytes_in p.1) left (λ a b h. ap length h.0) (λ a x b h. h.0) s

@@ -7,7 +7,7 @@ use Rattle.columnar_core.specs.Bytes.{word, rounded}
 abbrev pub end_of : List ℕ → ℕ → ℕ
 end_of bytes i = word bytes (i + 1)
 
--- where slice i starts: the first behind the table, each later one at the end before it, rounded up to a multiple of eight
+-- where slice i starts: the first after the table, each later one at the end before it, rounded up to a multiple of eight
 abbrev pub start_of : List ℕ → ℕ → ℕ
 start_of bytes zero = word bytes 0
 start_of bytes (suc i) = rounded (end_of bytes i)

@@ -13,7 +13,7 @@ use Rattle.columnar_base.specs.LongTupleLaws.{sides_two}
 pub parts_told : {g a b : Format} → TwoParts g a b (λ x y. true) 0 → (x y : Content) (o : ℕ) → first (moved o (g.broken (both x y))) ≡ first (both_broken a b x y o)
 parts_told {g} {a} {b} u x y o = ap first (two_moved u x y o ∙ ap (λ t. moved o (a.broken x) ++ t) (append-nil (moved (o + a.count) (b.broken y))))
 
--- those of the others, behind the first
+-- those of the others, after the first
 pub checked_others : {g a b : Format} → TwoParts g a b (λ x y. true) 0 → (x y : Content) (o n : ℕ) (v : Option Fault) → n ≡ a.count → None ≡ first (moved o (a.broken x)) → v ≡ first (moved (o + n) (b.broken y)) → v ≡ first (moved o (g.broken (both x y)))
 checked_others {g} {a} {b} u x y o n v e h k =
     let l : v ≡ first (moved (o + a.count) (b.broken y)) = rw e at k in

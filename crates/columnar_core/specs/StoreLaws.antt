@@ -25,7 +25,7 @@ length_at size row_of store o bs l h = rw (first_at (slices_in store) o bs (omeg
 pub same_part : {a b : Format} → a ≡ b → part_format a ≡ part_format b
 same_part p = rw p refl
 
--- no slices are left from behind the end on, wherever that is
+-- no slices are left from after the end on, wherever that is
 pub left_from : {A : Type 0} (xs : List A) (i j : ℕ) → j ≡ min i (length xs) → drop j xs ≡ drop i xs
 left_from [] i j e = let z : j ≡ 0 = omega arith in rw z (sym (drop-nil i))
 left_from (x ∷ xs) zero j e = let z : j ≡ 0 = omega arith in rw z refl

@@ -77,7 +77,7 @@ pub record LiesAt (all s : List ℕ) (from to : ℕ) : Type 0 where
   pub is : s ≡ take (to - from) (drop from all)
   pub padding : (j : ℕ) → to ≤ j → j < rounded to → get_or all j 0 ≡ 0
 
--- zeros behind bytes read as what is past their end
+-- zeros after bytes read as what is past their end
 get_or-zeros : (n k : ℕ) → get_or {A = ℕ} (replicate n 0) k 0 ≡ 0
 get_or-zeros zero k = refl
 get_or-zeros (suc n) zero = refl
@@ -104,7 +104,7 @@ at_first pre s n rest start e r =
           ∙ zeros_read s n (j - start) ∙ get_or_past s (j - start) 0 (omega arith);
     }
 
--- slices that are laid out, each behind the one before
+-- slices that are laid out, each after the one before
 pub laid : (pre : List ℕ) (start : ℕ) (slices : List (List ℕ)) (i : ℕ) → length pre ≡ start → start % 8 ≡ 0 → i < length slices → LiesAt (pre ++ flat_map padded slices) (get_or slices i []) (from_of start slices i) (get_or (slice_ends start slices) i 0)
 laid pre start [] i e m l = absurd (omega arith)
 laid pre start (s ∷ ss) zero e m l = at_first pre s (rounded (length s) - length s) (flat_map padded ss) start e (omega arith)

@@ -16,7 +16,7 @@ table_words slices = 8 * (length slices + 1) ∷ slice_ends (8 * (length slices 
 abbrev pub slice_words : List ℕ → List ℕ
 slice_words s = map (word s) (range_with_len 0 ((length s + 7) / 8))
 
--- the words of a store that frames the slices, with zeros between them and nothing behind
+-- the words of a store that frames the slices, with zeros between them and nothing after
 abbrev pub words : List (List ℕ) → List ℕ
 words slices = table_words slices ++ flat_map slice_words slices
 

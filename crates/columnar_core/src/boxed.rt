@@ -1,4 +1,8 @@
 //! Rows in boxes: a column of them is a column of what the boxes hold, with the same slices and the same rows.
+ghost use Rattle.std.specs.Prelude.{◌≡◌};
+ghost use Rattle.std.specs.Borrow.{sem, Lends};
+ghost use Rattle.columnar_core.specs.contracts.boxed.Boxed.{the_row};
+
 use crate::byte_slice::ByteSlice;
 use crate::bytes::{AsBytes, Check, FromBytes, Stored};
 use crate::container::{
@@ -45,13 +49,21 @@ impl<R: OrderedRow> OrderedRow for Boxed<R> {
 impl<T> Deref for Boxed<T> {
     type Target = T;
 
+    ghost deref_gives = { λ b x. x ≡ b.0 };
+
     fn deref(&self) -> &T {
         &self.0
     }
 }
 
 impl<T> DerefMut for Boxed<T> {
-    fn deref_mut(&mut self) -> &mut T {
+    ghost deref_mut_gives = { λ b x. x ≡ b.0 };
+
+    /// What it holds; what is written there is what the box then holds.
+    fn deref_mut(&mut self) -> &mut T
+        ensures* writes_back { sem 𝓛 (Lends (the_row T.row) T.row self.entry result (λ x. record { 0 = x })) }
+        ensures value { result.now ≡ self.old.0 }
+    {
         &mut self.0
     }
 }

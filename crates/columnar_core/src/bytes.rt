@@ -15,7 +15,7 @@ use std::marker::PhantomData;
 /// A column that can stand in a store of bytes; names no lifetime. All of its calls ask that the type is representable:
 /// at most 2^60 slices, of elements of 1 to 2^63 - 1 bytes.
 pub trait Stored: Column {
-    ghost use Rattle.columnar_core.specs.Column.{byte_slices_left};
+    ghost use Rattle.columnar_core.specs.Column.{aligns_left, byte_slices_left};
 
     /// How many slices the type has.
     fn slice_count() -> usize
@@ -87,7 +87,8 @@ pub trait Stored: Column {
     where
         Self: AsBytes<'a> + Sized,
         requires { IsTrue (representable Self.format) }
-        ensures { byte_slices_left result ≡ slices_of (Self.content self.entry.now) }
+        ensures slices { byte_slices_left result ≡ slices_of (Self.content self.entry.now) }
+        ensures aligns { aligns_left result ≡ Self.format.aligns }
     {
         ByteSlices::new(self)
     }
@@ -178,12 +179,13 @@ pub struct ByteSlices<'s, 'a, V: AsBytes<'a>> {
 }
 
 impl<'s, 'a, V: AsBytes<'a>> ByteSlices<'s, 'a, V> {
-    ghost use Rattle.columnar_core.specs.Column.{byte_slices_left};
+    ghost use Rattle.columnar_core.specs.Column.{aligns_left, byte_slices_left};
 
     /// All slices of the column, from the first on. Asks that the type is representable.
     pub fn new(column: &'s V) -> Self
         requires { IsTrue (representable V.format) }
-        ensures { byte_slices_left result ≡ slices_of (V.content column.entry.now) }
+        ensures slices { byte_slices_left result ≡ slices_of (V.content column.entry.now) }
+        ensures aligns { aligns_left result ≡ V.format.aligns }
     {
         ByteSlices {
             column,
@@ -194,14 +196,14 @@ impl<'s, 'a, V: AsBytes<'a>> ByteSlices<'s, 'a, V> {
 }
 
 impl<'s, 'a, V: AsBytes<'a>> Iterator for ByteSlices<'s, 'a, V> {
-    ghost use Rattle.columnar_core.specs.Column.{byte_slices_left, GivesSlice};
+    ghost use Rattle.columnar_core.specs.Column.{aligns_left, byte_slices_left, GivesSlice};
     ghost use Rattle.std.specs.Prelude.{IfSome};
     ghost use Rattle.std.specs.Iterator.{item_count, UpTo};
     ghost use Rattle.std.specs.Iterator.SizeHint.{IsWithinCount};
 
     type Item = (u64, ByteSlice<'a>);
 
-    ghost next_gives = { GivesSlice byte_slices_left };
+    ghost next_gives = { GivesSlice byte_slices_left aligns_left };
 
     ghost remaining = { item_count byte_slices_left };
 

@@ -51,6 +51,23 @@ pub trait Offsets: Len {
     ghost bounds: { IsBounds Self.format };
 }
 
+/// Through a reference, as in place.
+impl<'x, B: Offsets> Offsets for &'x B {
+    ghost bounds = { B.bounds };
+
+    fn offset(&self, index: usize) -> u64 {
+        (**self).offset(index)
+    }
+
+    fn offset_after(&self, index: usize, before: u64) -> u64 {
+        (**self).offset_after(index, before)
+    }
+
+    fn rises_to_tallied<L>(&self, end: u64, tally: &mut Tally<L>) -> bool {
+        (**self).rises_to_tallied(end, tally)
+    }
+}
+
 /// A column of offsets that can stand in a store of bytes.
 pub trait StoredOffsets: Stored {
     /// As `rises_to` of the column in the slices from `offset` on.

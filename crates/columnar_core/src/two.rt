@@ -1,4 +1,4 @@
-//! The bytes of a column of two parts, the second's slices behind the first's.
+//! The bytes of a column of two parts, the second's slices after the first's.
 ghost use Rattle.std.specs.Prelude.{◌≡◌, ℕ, ◌+◌, ◌*◌, ◌^◌, ◌<◌, ◌≤◌, ◌++◌, length, drop, slice_get, Some, IsTrue, OnOk, OnErr, IfOk, IfErr};
 ghost use Rattle.columnar_base.specs.Format.{Fits, IsSound, bytes_held, first, representable, slices_of};
 ghost use Rattle.columnar_base.specs.Faults.{verdict};

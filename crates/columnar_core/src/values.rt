@@ -152,6 +152,17 @@ impl<'b, T: ReborrowRef<'b>> ReborrowRef<'b> for Option<T> {
     }
 }
 
+impl<'b, S: ReborrowRef<'b>, T: ReborrowRef<'b>> ReborrowRef<'b> for Result<S, T> {
+    type ShortRef = Result<S::ShortRef, T::ShortRef>;
+
+    fn reborrow_ref(self) -> Result<S::ShortRef, T::ShortRef> {
+        match self {
+            Ok(row) => Ok(row.reborrow_ref()),
+            Err(row) => Err(row.reborrow_ref()),
+        }
+    }
+}
+
 impl<'b> ReborrowRef<'b> for Duration {
     type ShortRef = Duration;
 

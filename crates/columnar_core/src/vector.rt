@@ -31,7 +31,7 @@ pub(crate) fn append_typed<T: Element>(column: &mut Vec<T>, items: &[T]) -> Resu
     Ok(())
 }
 
-// The column with the elements that the bytes are behind its own; there is room for them. It is taken by value, since
+// The column with the elements that the bytes are after its own; there is room for them. It is taken by value, since
 // the compiler then knows that what is written changes neither its length nor its place.
 #[inline]
 fn with_all<T: Element>(column: Vec<T>, bytes: &[u8]) -> Vec<T>

@@ -41,7 +41,7 @@ rises-take (suc n) from (m ∷ ns) end h =
     let p = and_parts _ _ h in
     and_from _ _ p.0 (rises-take n m ns end p.1)
 
--- the bounds behind the first n rise from the last of those
+-- the bounds after the first n rise from the last of those
 pub rises-drop : (n from : ℕ) (ns : List ℕ) (end : ℕ) → rises from ns end ≡ true → rises (last_or from (take n ns)) (drop n ns) end ≡ true
 rises-drop zero from ns end h = h
 rises-drop (suc n) from [] end h = h
@@ -94,7 +94,7 @@ pub cut_lists : (from : ℕ) (ns : List ℕ) (vs : List Row) → are_lists (cut 
 cut_lists from [] vs = refl
 cut_lists from (n ∷ ns) vs = and_from _ _ (is-row_eq (list_end (list (take (n - from) (drop from vs)))) empty (end_of-list (take (n - from) (drop from vs)))) (cut_lists n ns vs)
 
--- a piece, and the piece behind it
+-- a piece, and the piece after it
 pub pieces_joined : (m k l : ℕ) (vs : List Row) → m ≤ k → k ≤ l → take (k - m) (drop m vs) ++ take (l - k) (drop k vs) ≡ take (l - m) (drop m vs)
 pieces_joined m k l vs p q =
     let d : drop (k - m) (drop m vs) ≡ drop (m + (k - m)) vs = drop-drop (k - m) m vs in

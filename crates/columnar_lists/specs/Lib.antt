@@ -5,3 +5,6 @@ pub mod ListPushes
 pub mod Cut
 pub mod CutIs
 pub mod EarlierLists
+pub mod Walks
+pub mod WalksLeft
+pub mod WalkLaws

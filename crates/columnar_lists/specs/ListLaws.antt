@@ -63,7 +63,7 @@ lists_full b t lb lt (slice bs) s = cc
 lists_full b t lb lt (part l u x) s = cc
 lists_full b t lb lt (plain rs) s = cc
 
--- lists with more behind them are refused where either part refuses
+-- lists with more after them are refused where either part refuses
 either : (a b c d : Bool) → (a ≡ true → c ≡ true) → (b ≡ true → d ≡ true) → (a || b) ≡ true → (c || d) ≡ true
 either true b c d p q h = rw (p refl) refl
 either false true c d p q h = or_right c d (q refl)
@@ -331,7 +331,7 @@ range_of b t {x} {y} start end {lower} {upper} s o p q =
       within = w;
     }
 
--- the bounds of a range may be moved: the values that were copied fit behind the old ones
+-- the bounds of a range may be moved: the values that were copied fit after the old ones
 pub range_held : {b t : Format} {x y : Content} {start end lower upper : ℕ} → RangeOf b t x y start end lower upper → (before all : ℕ) → all ≡ before + (upper - lower) → all < 2 ^ 64 → (i n : ℕ) → start ≤ i → i < end → slice_get (numbers (b.rows x)) i ≡ Some n → (lower ≤ n) × (before + (n - lower) < 2 ^ 64)
 range_held r before all e l i n a d h = let p = r.between i n a d h in (p.0, omega (arith, e, p.0, p.1))
 

@@ -4,3 +4,4 @@
 pub mod laws;
 pub mod parts;
 pub mod vector;
+pub mod walk;

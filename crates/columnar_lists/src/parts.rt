@@ -67,7 +67,7 @@ pub fn reserve_lists<TC: Reserve, BC: Reserve>(
     values.reserve_room(room.1)
 }
 
-// Ends a list whose items stand behind the first `before` values; where the bounds refuse its end, these are taken back.
+// Ends a list whose items stand after the first `before` values; where the bounds refuse its end, these are taken back.
 #[inline(always)]
 pub(crate) fn end_list<TC: Truncate, BC: PushAfter>(
     bounds: &mut BC,

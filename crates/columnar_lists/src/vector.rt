@@ -11,6 +11,7 @@ mod earlier;
 mod push;
 
 use crate::parts::{check_lists, copy_lists, cut_lists, range_of, reserve_lists};
+use crate::walk::ListIter;
 use columnar_base::fault::{GrowError, StoreFault};
 use columnar_base::tally::Tally;
 use columnar_base::traits::{Clear, Column, Index, Item, Len};
@@ -93,6 +94,27 @@ where
             upper,
             slice: &column.values,
         }
+    }
+}
+
+impl<TC: Column, BC: Offsets> Vecs<TC, BC> {
+    ghost use Rattle.columnar_lists.specs.WalksLeft.{lists_left};
+
+    /// The lists in their order, read through a reference; each is found from where the one before it ends.
+    pub fn index_iter<'x>(&'x self) -> ListIter<&'x TC, &'x BC>
+        requires { IsSound (lists_format BC.format TC.format) (both (BC.content self.now.bounds) (TC.content self.now.values)) }
+        ensures { lists_left result ≡ (lists_format BC.format TC.format).rows (both (BC.content self.now.bounds) (TC.content self.now.values)) }
+    {
+        ListIter::new(&self.bounds, &self.values)
+    }
+
+    /// The lists in their order; each is found from where the one before it ends.
+    pub fn into_index_iter(self) -> ListIter<TC, BC>
+        requires { IsSound (lists_format BC.format TC.format) (both (BC.content self.bounds) (TC.content self.values)) }
+        ensures { lists_left result ≡ (lists_format BC.format TC.format).rows (both (BC.content self.bounds) (TC.content self.values)) }
+    {
+        let Vecs { bounds, values } = self;
+        ListIter::new(bounds, values)
     }
 }
 

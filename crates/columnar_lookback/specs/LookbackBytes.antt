@@ -54,7 +54,7 @@ reach_set b vs ws i l h g p =
     let n = latest_count b vs ws i l h in
     rw j (reaches_next lookbacks_code [] (weave_results b vs ws) i (ok v.0) (weave_ok i b vs ws v.0 a v.1) (omega (arith, n, ones_set b i g)) p)
 
--- the distance at a clear bit, `values` values behind
+-- the distance at a clear bit, after `values` values
 abbrev AtClear : List Bool → List Row → ℕ → ℕ → ℕ → Type 0
 AtClear b ws i values m =
     (slice_get (map truth b) i ≡ Some (truth false)) × ((values ≡ ones b i) × ((m < 2 ^ 8) × (slice_get ws (i - values) ≡ Some (unsigned_row w8 m))))

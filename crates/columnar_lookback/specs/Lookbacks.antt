@@ -70,7 +70,7 @@ kept_back u = back_of (err_part u)
 abbrev pub kept_rows : Format → Content → List (Option ℕ)
 kept_rows t c = map kept_back ((results_format t bytes_format).rows c)
 
--- the values behind a row, the last one first: it is one of them where it is kept at no distance
+-- the values up to a row, the last one first: it is one of them where it is kept at no distance
 abbrev pub with_value : Option ℕ → Row → List Row → List Row
 with_value None r vs = r ∷ vs
 with_value (Some m) r vs = vs

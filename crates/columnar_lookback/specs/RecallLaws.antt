@@ -100,7 +100,7 @@ storing_is k p [] (r ∷ rs) s h = absurd s
 storing_is k p (u ∷ us) [] s h = absurd s
 storing_is k p (u ∷ us) (r ∷ rs) s h = any_found (λ w. some_storing k (λ ws. p (w ∷ ws)) rs) u (k.forms r) s.0 (storing_is k (λ ws. p (u ∷ ws)) us rs s.1 h)
 
--- with more rows behind it too
+-- with more rows after it too
 pub storing_before : (k : Code) (p : List Row → Bool) (us rs ss : List Row) → IsStoring k us rs → some_storing k (λ ws. p (us ++ ws)) ss ≡ true → some_storing k p (rs ++ ss) ≡ true
 storing_before k p [] [] ss s h = h
 storing_before k p [] (r ∷ rs) ss s h = absurd s
@@ -298,7 +298,7 @@ each_dropped P zero us a = a
 each_dropped P (suc n) [] a = tt
 each_dropped P (suc n) (u ∷ us) a = each_dropped P n us a.1
 
--- the rows that a range of inner rows stands for, behind the values before it
+-- the rows that a range of inner rows stands for, after the values before it
 pub range_recalled : (k : Code) (n start : ℕ) (us : List Row) → recall k (latest k [] (take start us)) (take n (drop start us)) ≡ take n (drop start (recall k [] us))
 range_recalled k n start us = recall-take k n (latest k [] (take start us)) (drop start us) ∙ ap (take n) (recall-drop k start [] us)
 

@@ -72,7 +72,7 @@ values_stored t {x} {y} {v} {w} us l s g =
 pub values_pushed : (t : Format) {x y v w : Content} (u : Row) → IsLawful t → IsSound (options_format t) (both x y) → Took (options_format t) (both x y) (both v w) (u ∷ []) → length (t.rows w) ≡ length (t.rows y) + length (value_of u)
 values_pushed t {x} {y} {v} {w} u l s g = values_stored t (u ∷ []) l s g ∙ ap (λ (vs : List Row). length (t.rows y) + length vs) (append-nil (value_of u))
 
--- a range has at least the values that stand behind its first row
+-- a range has at least the values that stand after its first row
 values_behind : (us : List Row) (n start : ℕ) → length (somes (take n (drop (suc start) us))) ≤ length (somes (take (suc n) (drop start us)))
 values_behind us zero start = omega arith
 values_behind [] (suc n) start = omega arith
@@ -83,7 +83,7 @@ at_most_one : (b : Bool) → cond b 0 1 ≤ 1
 at_most_one true = omega arith
 at_most_one false = omega arith
 
--- the first row of a range was pushed, and those behind it were copied
+-- the first row of a range was pushed, and those after it were copied
 pub values_copied : (us : List Row) (start end old middle new : ℕ) (b : Bool) → start < end → middle ≡ old + cond b 0 1 → new ≡ middle + values_between us (start + 1) end → new ≤ old + (values_between us start end + 1)
 values_copied us start end old middle new b i p q =
     let e : end - start ≡ suc (end - (start + 1)) = omega (arith, i) in
@@ -154,7 +154,7 @@ one_alike_row same (f ∷ []) (x ∷ y ∷ xs) r h = one_alike_row same (f ∷ [
 pub repeats_refused_range : (t u : Format) {x y : Content} (v w : Content) (start n : ℕ) {error : GrowError} → IsSound (repeats_format t) x → Refused (options_format t) x y (take n (drop start (weave (ranks_bits v) (u.rows w)))) error → Refused (repeats_format t) x y (take n (drop start (recall repeats_code [] (weave (ranks_bits v) (u.rows w))))) error
 repeats_refused_range t u v w start n s g = recall_refused repeats_code t.kin (options_format t) _ _ s g (storing_range (ranks_bits v) (u.rows w) n start)
 
--- The inner rows behind the first row of a range stand for the same rows behind a row that is kin to it.
+-- The inner rows after the first row of a range stand for the same rows after a row that is kin to it.
 took_rest : (t u : Format) {x m x' : Content} (v w : Content) (start from n : ℕ) (r : Row) → from ≡ suc start → IsLawful t → slice_get (recall repeats_code [] (weave (ranks_bits v) (u.rows w))) start ≡ Some r → start < length (weave (ranks_bits v) (u.rows w)) → Took (repeats_format t) x m (r ∷ []) → Took (options_format t) m x' (take n (drop from (weave (ranks_bits v) (u.rows w)))) → Took (repeats_format t) m x' (take n (drop from (recall repeats_code [] (weave (ranks_bits v) (u.rows w)))))
 took_rest t u {x} {m} {x'} v w start from n r z l h i g k =
     let all = weave (ranks_bits v) (u.rows w) in
@@ -169,7 +169,7 @@ took_rest t u {x} {m} {x'} v w start from n r z l h i g k =
     let f = range_recalled repeats_code n from all in
     rw f at (recall_took repeats_code t.kin (options_format t) us (recall repeats_code ws us) l.kindred (repeats_alike t l) g.grew.sound k (storing_recalled ws us (each_taken IsOption n (drop from all) (each_dropped IsOption from all (woven (ranks_bits v) (u.rows w))))) (reaches_near us (latest repeats_code [] inner) (some_latest t.kin inner r q.reached b)) (recall_near t.kin l.kindred us (latest repeats_code [] inner) ws e))
 
--- the first row of the range was pushed, and the inner rows behind it were copied
+-- the first row of the range was pushed, and the inner rows after it were copied
 pub repeats_copied_rest : (t u : Format) {x m y : Content} (v w : Content) (start end : ℕ) (r : Row) → IsLawful t → start < end → end ≤ length (recall repeats_code [] (weave (ranks_bits v) (u.rows w))) → slice_get (recall repeats_code [] (weave (ranks_bits v) (u.rows w))) start ≡ Some r → ((repeats_format t).rows x ≡ [] → start ≡ 0 → ⊥) → Took (repeats_format t) x m (r ∷ []) → Copied (options_format t) m y (start + 1) (take (end - (start + 1)) (drop (start + 1) (weave (ranks_bits v) (u.rows w)))) → Copied (repeats_format t) x y start (take (end - start) (drop start (recall repeats_code [] (weave (ranks_bits v) (u.rows w)))))
 repeats_copied_rest t u {x} {m} {y} v w start end r l i j h inner g k =
     let all = weave (ranks_bits v) (u.rows w) in
@@ -188,7 +188,7 @@ repeats_refused_first t {x} {y} rs start end r {error} l i h g =
       cause = rw (range_first rs start end r i h) (true_from (repeats_format t) (repeats_format t) x x (r ∷ []) (r ∷ rest) error (λ e k. (repeats_lawful t l).more e x (length ((repeats_format t).rows x)) (r ∷ []) rest k) g.cause);
     }
 
--- the rows behind it were refused, and it was taken back
+-- the rows after it were refused, and it was taken back
 pub repeats_refused_rest : (t u : Format) {x m y z : Content} (v w : Content) (start end : ℕ) (r : Row) {error : GrowError} → IsLawful t → start < end → slice_get (recall repeats_code [] (weave (ranks_bits v) (u.rows w))) start ≡ Some r → IsSound (repeats_format t) x → Took (repeats_format t) x m (r ∷ []) → Refused (options_format t) m y (take (end - (start + 1)) (drop (start + 1) (weave (ranks_bits v) (u.rows w)))) error → WasCut (repeats_format t) y z (length ((repeats_format t).rows x)) → Refused (repeats_format t) x z (take (end - start) (drop start (recall repeats_code [] (weave (ranks_bits v) (u.rows w))))) error
 repeats_refused_rest t u {x} {m} {y} {z} v w start end r {error} l i h s g k c =
     let rs = recall repeats_code [] (weave (ranks_bits v) (u.rows w)) in

@@ -51,7 +51,7 @@ in_line-turn (x ∷ xs) (y ∷ ys) =
     let c : (y ++ x) ++ in_line (beside ys xs) ≡ y ++ (x ++ in_line (beside ys xs)) = append_assoc y x (in_line (beside ys xs)) in
     cc
 
--- the first tree's root, and then the rest of the trees with its kids behind them
+-- the first tree's root, and then the rest of the trees with its kids after them
 pub level_order-tree : {A : Type 0} (v : A) (k r : Forest A) → level_order (tree_and v k r) ≡ record { value = v; kids = k } ∷ level_order (joined r k)
 level_order-tree v k r =
     let a = in_line-first (record { value = v; kids = k } ∷ []) [] (levels k) (levels r) in

@@ -103,7 +103,7 @@ starts-joined at (tree_and w l r) v k =
     let z : (at + length (level_order (tree_and w l no_trees))) + length (nodes r) ≡ at + length (level_order (tree_and w l no_trees) ++ nodes r) = omega (arith, e) in
     ap (λ x. at ∷ x) (starts-joined (at + length (level_order (tree_and w l no_trees))) r v k ∙ ap (λ x. starts (at + length (level_order (tree_and w l no_trees))) r ++ (x + length (level_order (tree_and v k no_trees))) ∷ []) z)
 
--- the layout of one more tree: its nodes level by level behind the others
+-- the layout of one more tree: its nodes level by level after the others
 pub layout_pushed : {A : Type 0} {ts : Forest A} {groups bounds : List ℕ} {values : List A} (v : A) (k : Forest A) → IsLayout ts groups bounds values
     → IsLayout (joined ts (tree_and v k no_trees)) (groups ++ (length values + length (level_order (tree_and v k no_trees))) ∷ [])
     (bounds ++ totals (suc (length values)) (kid_counts (level_order (tree_and v k no_trees)))) (values ++ values_of (level_order (tree_and v k no_trees)))

@@ -10,7 +10,7 @@ abbrev pub is_nil : List ℕ → Bool
 is_nil [] = true
 is_nil (g ∷ gs) = false
 
--- from node j on, behind the bound `last`, with the groups gs still to be met
+-- from node j on, after the bound `last`, with the groups gs still to be met
 abbrev pub follow : ℕ → ℕ → List ℕ → List ℕ → ℕ → Bool
 follow j last [] gs n = nat_eq last n && (nat_eq j (suc n) && is_nil gs)
 follow j last (b ∷ bs) [] n = nat_le last b && (nat_le j b && cond (nat_eq b j) false (follow (suc j) b bs [] n))
@@ -46,7 +46,7 @@ nil-of : (gs : List ℕ) → is_nil gs ≡ true → gs ≡ []
 nil-of [] h = refl
 nil-of (g ∷ gs) h = absurd (false≢true h)
 
--- behind node j
+-- after node j
 rest-kept : (bs : List ℕ) (j b : ℕ) (gs : List ℕ) (n : ℕ) → follow (suc j) b bs gs n ≡ true → (keeps j b bs n ≡ true) × (gs ≡ own_places (suc j) bs)
 rest-kept [] j b gs n h =
     let p = and_parts (nat_eq b n) (nat_eq (suc j) (suc n) && is_nil gs) h in

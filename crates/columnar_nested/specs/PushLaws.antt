@@ -36,7 +36,7 @@ laid_start m before s h e = record {
   valid_left = rw e h;
 }
 
--- one turn, for a node that is met with the trees `rest` behind it
+-- one turn, for a node that is met with the trees `rest` after it
 pub laid_more : (T : Type 0) (m : T → Row) {valid : T → Type 0} {v : Format} {old now next : Content} {before bounds bounds' : List ℕ} {root : Tree T} {waiting waiting' : List (Tree T)} (t : Tree T) (rest : List (Tree T)) (b : ℕ)
     → Laid m valid v old now before bounds root waiting → waiting ≡ t ∷ rest → b ≡ (length (v.rows now) + length rest + 1) + length (out-Tree T t).kids.items → b < 2 ^ 64
     → Took v now next (m (out-Tree T t).value ∷ []) → bounds' ≡ bounds ++ b ∷ [] → waiting' ≡ rest ++ (out-Tree T t).kids.items

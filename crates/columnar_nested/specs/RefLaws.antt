@@ -84,7 +84,7 @@ count_groups {groups} {bounds} values r =
     let l : IsLayout (trees_of bounds values) groups bounds values = passed_layout (rule_passed r) in
     ap length l.at_starts ∙ starts-length 0 (trees_of bounds values)
 
--- tree t begins at its root, whose kids begin behind its bound
+-- tree t begins at its root, whose kids begin after its bound
 pub root_facts : {groups bounds : List ℕ} (values : List Row) (t : ℕ) → IsTreeRule groups bounds (length values) → t < width (trees_of bounds values) → IsRoot groups bounds values t
 root_facts {groups} {bounds} values t r h =
     let l : IsLayout (trees_of bounds values) groups bounds values = passed_layout (rule_passed r) in
@@ -133,7 +133,7 @@ group_within {groups} {bounds} {n} r t h =
         here at b bs zero n h r = let a : at ≡ n = cc in omega (arith, a)
         here at b bs (suc t) n h r = let i = r t n h in omega (arith, i)
 
--- a kid is below the number of nodes, and behind its parent
+-- a kid is below the number of nodes, and after its parent
 pub kid_between : {groups bounds : List ℕ} {n : ℕ} → IsTreeRule groups bounds n → (i k : ℕ) → i < n → IsKidOf bounds i k → (i < k) × (k < n)
 kid_between {groups} {bounds} {n} r i k l h =
     let a = first_kid-after i (slice_index bounds i) (r.ahead i (omega (arith, l))) in
@@ -152,7 +152,7 @@ kid_between {groups} {bounds} {n} r i k l h =
     bounded : {groups bounds : List ℕ} {n : ℕ} → IsTreeRule groups bounds n → (j : ℕ) → j ≤ n → slice_index bounds j ≤ n
     bounded {groups} {bounds} {n} r j l = bounded_by r (n - j) j (omega (arith, l))
 
--- a walk down takes fewer steps than there are nodes behind its start
+-- a walk down takes fewer steps than there are nodes after its start
 pub walk_ends_soon : {groups bounds : List ℕ} {n : ℕ} → IsTreeRule groups bounds n → (i : ℕ) (ks : List ℕ) → i < n → IsWalkFrom bounds i ks → i + length ks < n
 walk_ends_soon r i [] l w = omega (arith, l)
 walk_ends_soon {groups} {bounds} {n} r i (k ∷ ks) l w =

@@ -43,7 +43,7 @@ forest_back (tree_and v k r) =
     let b = forest_back r in
     cc
 
--- the values of a tree and of rows behind it
+-- the values of a tree and of rows after it
 pub level_values-more : (n : Node Row) (rs : List Row) → level_values (tree_row n ∷ rs) ≡ values_of (level_order (tree_and n.value n.kids no_trees)) ++ level_values rs
 level_values-more n rs =
     let k = forest_back n.kids in

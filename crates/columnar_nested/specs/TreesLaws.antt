@@ -252,7 +252,7 @@ len_trees v x y z {n} s e =
     let k = count_trees v x y z (trees_parts v x y z s) in
     omega (arith, k, e)
 
--- the number behind a root's is at most the number of bounds
+-- the number after a root's is at most the number of bounds
 pub root_next : (v : Format) (x y z : Content) (t : ℕ) {r m : ℕ} → IsSound (trees_format v) (both x (both y z)) → t < length (trees_rows v (both x (both y z))) → r ≡ slice_index (words_of x) t → m ≡ length (words_of y) → r + 1 < m
 root_next v x y z t {r} {m} s h e f =
     let b = (tree_facts v x y z t s h).bound_in in

@@ -49,7 +49,7 @@ count-append T ts us = weight-append T (λ n. 1) ts us
 pub count-first : (T : Type 0) (t : Tree T) (ts : List (Tree T)) → count (t ∷ ts) ≡ count (t ∷ []) + count ts
 count-first T t ts = count-append T (t ∷ []) ts
 
--- steps of loops that go over nodes: all weigh at most n, and the kids of the one that is met go behind the others, or not
+-- steps of loops that go over nodes: all weigh at most n, and the kids of the one that is met go after the others, or not
 pub kids_lighter : (T : Type 0) (t : Tree T) (waiting us : List (Tree T)) {n : ℕ} → us ≡ (out-Tree T t).kids.items → count (t ∷ waiting) ≤ n → count us < n
 kids_lighter T t waiting us e l =
     let s = count-step T t waiting in

@@ -140,7 +140,7 @@ fn leaf<T: Clone>(alloc: Global, value: &T) -> Result<Tree<T>, AllocError>
     })
 }
 
-// The tree with one more kid behind the others.
+// The tree with one more kid after the others.
 fn with_kid<T: Drop>(tree: Tree<T>, kid: Tree<T>) -> Result<Tree<T>, AllocError>
     ensures { IfOk result (λ t. length (out-Tree T t).kids.items ≡ length (out-Tree T tree).kids.items + 1) }
 {

@@ -2,7 +2,6 @@
 #![tactic(auto)]
 
 pub mod bytes;
-pub mod fields;
 pub mod grow;
 pub mod push;
 pub mod rows;

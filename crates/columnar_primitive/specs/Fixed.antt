@@ -21,7 +21,7 @@ fixed_rows k (both x y) = []
 fixed_rows k (part l u x) = []
 fixed_rows k (plain rs) = []
 
--- one of the rows, which come behind n others, isn't k times its place
+-- one of the rows, which come after n others, isn't k times its place
 abbrev pub strays : ℕ → ℕ → List Row → Bool
 strays k n [] = false
 strays k n (r ∷ rs) = not (row_eq r (number (k * suc n))) || strays k (suc n) rs
@@ -30,7 +30,7 @@ strays k n (r ∷ rs) = not (row_eq r (number (k * suc n))) || strays k (suc n) 
 abbrev pub passes : ℕ → ℕ → Bool
 passes k n = nat_lt (2 ^ 64 - 1) n || nat_lt (2 ^ 64 - 1) (k * n)
 
--- The rows, behind n others, may not be held.
+-- The rows, after n others, may not be held.
 abbrev pub fixed_refuses : ℕ → Excess → ℕ → List Row → Bool
 fixed_refuses k too_many n rs = passes k (n + length rs)
 fixed_refuses k misplaced n rs = strays k n rs
@@ -58,7 +58,7 @@ IsLimit Length = Unit {0}
 IsLimit Offset = Unit {0}
 IsLimit FormatError = ⊥
 
--- The error names a true cause: the rows, behind n others, may not be held.
+-- The error names a true cause: the rows, after n others, may not be held.
 abbrev pub IsCauseOf : ℕ → GrowError → ℕ → List Row → Type 0
 IsCauseOf k Memory n rs = Unit {0}
 IsCauseOf k Length n rs = fixed_refuses k too_many n rs ≡ true

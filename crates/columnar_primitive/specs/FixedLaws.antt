@@ -76,7 +76,7 @@ strays-more k n (r ∷ rs) ss h = ⊎_elim
     (λ (p : strays k (suc n) rs ≡ true). or_right (not (row_eq r (number (k * suc n)))) (strays k (suc n) (rs ++ ss)) (strays-more k (suc n) rs ss p))
     (or_cases (not (row_eq r (number (k * suc n)))) (strays k (suc n) rs) h)
 
--- behind the right multiples
+-- after the right multiples
 pub strays-behind : (k n m : ℕ) (rs : List Row) → strays k n (multiples k n m ++ rs) ≡ strays k (n + m) rs
 strays-behind k n zero rs = let e : n + zero ≡ n = omega arith in rw (multiples-none k n, e) refl
 strays-behind k n (suc m) rs =

@@ -5,7 +5,7 @@ use Rattle.std.proofs.lemmas.Bool.{le-leb}
 use Rattle.columnar_core.specs.Row.{Row, number}
 use Rattle.columnar_core.specs.Bounds.{rises, numbers}
 
--- so many multiples of k in turn, behind the first `from` of them
+-- so many multiples of k in turn, after the first `from` of them
 unfoldable pub multiples : ℕ → ℕ → ℕ → List Row
 multiples k from zero = []
 multiples k from (suc n) = number (k * suc from) ∷ multiples k (suc from) n
@@ -62,7 +62,7 @@ multiples_get k from i zero l = absurd (omega arith)
 multiples_get k from zero (suc n) l = let a : from + zero ≡ from = omega arith in rw a refl
 multiples_get k from (suc i) (suc n) l = let b : from + suc i ≡ suc from + i = omega arith in rw b (multiples_get k (suc from) i n (omega arith))
 
--- where one multiple is in its place, all behind it are
+-- where one multiple is in its place, all after it are
 pub multiples-shift : (k m n r : ℕ) → k * suc m ≡ k * suc n → multiples k m r ≡ multiples k n r
 unfolding multiples
 multiples-shift k m n zero e = refl

@@ -78,7 +78,7 @@ strided (plain rs) = None
 abbrev pub head_and_bounds : List ℕ → List ℕ → Content
 head_and_bounds head bounds = both (slice (le_bytes head)) (slice (le_bytes bounds))
 
--- does an offset join the multiples: it is the first, or the next of them, and none stands behind them
+-- does an offset join the multiples: it is the first, or the next of them, and none stands after them
 abbrev pub follows : ℕ → ℕ → ℕ → Bool
 follows s n x = nat_eq n 0 || nat_eq x (s * (n + 1))
 

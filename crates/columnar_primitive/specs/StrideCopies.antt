@@ -23,7 +23,7 @@ bounds-more : (head bounds xs : List ℕ) (x : ℕ) → bounds_extended head bou
 bounds-more head bounds [] x = refl
 bounds-more head bounds (y ∷ xs) x = bounds-more (head_pushed head bounds y) (bounds_pushed head bounds y) xs x
 
--- where all offsets join, the one behind the first of them does
+-- where all offsets join, the one after the first of them does
 join-within : (head bounds xs : List ℕ) (x : ℕ) (ys : List ℕ) → all_join head bounds (xs ++ x ∷ ys) ≡ true → joins (head_extended head bounds xs) (bounds_extended head bounds xs) x ≡ true
 join-within head bounds [] x ys h = (and_parts (joins head bounds x) (all_join (head_pushed head bounds x) (bounds_pushed head bounds x) ys) h).0
 join-within head bounds (y ∷ xs) x ys h = join-within (head_pushed head bounds y) (bounds_pushed head bounds y) xs x ys (and_parts (joins head bounds y) (all_join (head_pushed head bounds y) (bounds_pushed head bounds y) (xs ++ x ∷ ys)) h).1

@@ -242,7 +242,7 @@ strides_took {hs} {hs'} s n xs s' n' ys added a b fits few rows ext =
 pub strides_copied : {x y : Content} {added : List Row} (start : ℕ) → Took strides_format x y added → Copied strides_format x y start added
 strides_copied {x} {y} {added} start t = record { took = t; front = λ none z. (grew_exactly row_eq_exact t).rows ∙ ap (λ rs. rs ++ added) none }
 
--- the offset x stands as it is, behind the others
+-- the offset x stands as it is, after the others
 pub took_bound : {hs : List ℕ} (s n : ℕ) (xs : List ℕ) (x : ℕ) → IsHead hs s n → Limits s n (length xs) → n + length xs < 2 ^ 64 - 1 → Took strides_format (both (slice hs) (slice (le_bytes xs))) (both (slice hs) (slice (le_bytes (xs ++ x ∷ [])))) (word_row x ∷ [])
 took_bound s n xs x h p l =
     strides_took s n xs s n (xs ++ x ∷ []) (word_row x ∷ []) h h p.fits (rw length-append (omega arith))

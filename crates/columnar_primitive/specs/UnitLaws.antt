@@ -89,7 +89,7 @@ units_storable = record {
 units_keeps : (c d : Content) (n : ℕ) → Keeps units_format c d n
 units_keeps c d n = record { extents = λ k l. refl; limits = λ k l e rs. refl }
 
--- n units came behind those of c
+-- n units came after those of c
 units_grew : (c d : Content) (n : ℕ) → is_word d ≡ true → number_in d ≡ number_in c + n → Grew units_format c d (units n)
 units_grew c d n w e = record {
   sound = word_sound d w;
@@ -138,7 +138,7 @@ unit_at c i l = unit_get i (number_in c) (omega (arith, length-units (number_in 
 pub word_none : units (number_in (word_of 0)) ≡ []
 word_none = refl
 
--- k units came behind m
+-- k units came after m
 pub number_took : (m n k : ℕ) → n < 2 ^ 64 → n ≡ m + k → Took units_format (word_of m) (word_of n) (units k)
 number_took m n k h e = units_took (word_of m) (word_of n) k refl (word_back n h ∙ (e ∙ ap (λ i. i + k) (sym (word_back m (omega arith)))))
 

@@ -72,7 +72,7 @@ then_equal Greater = refl
 two_numbers : (n m s t : ℕ) (o : Ordering) → ordering_then (int_cmp (pos n) (pos m)) (ordering_then (int_cmp (pos s) (pos t)) o) ≡ ordering_then (ordering_then (nat_cmp n m) (nat_cmp s t)) o
 two_numbers n m s t o = rw (pos_cmp n m, pos_cmp s t) (then_again (nat_cmp n m) (nat_cmp s t) o)
 
--- the rows decide, and then what stands behind them
+-- the rows decide, and then what stands after them
 code_cmp : (r s : Row) (xs ys : List ℤ) → slice_cmp int_cmp (code r xs) (code s ys) ≡ ordering_then (row_cmp r s) (slice_cmp int_cmp xs ys)
 code_cmp (number n) (number m) xs ys = rw (pos_cmp n m) refl
 code_cmp (integer n) (integer m) xs ys = refl

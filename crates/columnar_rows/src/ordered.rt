@@ -14,6 +14,7 @@ use std::hash::{Hash, Hasher};
 mod numbers;
 mod parts;
 mod slices;
+mod tuples;
 
 /// A row that is compared with others of its type, and fed to a hasher, by what it means alone.
 pub trait OrderedRow: Item {

@@ -23,7 +23,7 @@ use std::ops::{Bound, RangeBounds};
 pub struct Slice<S: Column> {
     /// The first row's number.
     pub lower: usize,
-    /// The number of the row behind the last one.
+    /// The number of the row after the last one.
     pub upper: usize,
     /// The column.
     pub slice: S,
@@ -72,7 +72,7 @@ impl<S: Column> Slice<S> {
     }
 
     /// Those of its rows whose numbers, as rows of the column, lie in the range. Asks that the first of these numbers
-    /// is at most that behind the last.
+    /// is at most that after the last.
     pub fn slice<R: RangeBounds<usize>>(self, range: R) -> Self
         requires bounds { R.has_bounds range }
         requires ordered { max self.lower (start_index (R.start_bound range)) ≤ min self.upper (end_index (R.end_bound range) self.upper) }

@@ -15,6 +15,7 @@ ghost use Rattle.columnar_strings.specs.Strings.{bytes_format, strings_format};
 mod earlier;
 mod push;
 mod show;
+mod walk;
 
 use columnar_base::fault::{GrowError, OwnError, StoreFault};
 use columnar_base::tally::Tally;
@@ -35,6 +36,7 @@ use columnar_lists::vector::Vecs;
 pub use push::Text;
 use std::alloc::Global;
 use std::ops::Range;
+pub use walk::StringIter;
 
 /// A column of strings. String i has the bytes from bound i - 1, or from 0 where there is none, up to bound i; it is
 /// well formed where the bounds never fall and the last one is the number of the bytes, 0 where there is none. The

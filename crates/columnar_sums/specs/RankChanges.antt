@@ -25,7 +25,7 @@ use Rattle.columnar_sums.specs.RankLaws.{SoundRanks, ranks_parts, ranks_sound, o
 abbrev three : List ℕ → List ℕ → List ℕ → Content
 three c a b = both (slice c) (both (slice a) (slice b))
 
--- the bits more came behind those before
+-- the bits more came after those before
 pub record Ranked (c a b c' a' b' : List ℕ) (cs : List Bool) : Type 0 where
   pub sound : SoundRanks c' a' b'
   pub bits : bits_in a' b' ≡ bits_in a b ++ cs
@@ -220,7 +220,7 @@ ranked_on {c} {a} {b} {a'} {b'} {cs} ys t e h =
     let l : length (words_in (le_bytes ys)) ≡ length (bits_in a' b') / 1024 = omega (arith, length_words_back ys, h.1, bits_length a' b') in
     record { sound = record { whole = omega arith; bools = t; are_counts = counts_complete a' b' (words_in (le_bytes ys)) h.0 l }; bits = e }
 
--- the counts before lie within the words behind
+-- the counts before lie within the words after
 pub counts_within : {a b a' b' : List ℕ} (xs : List ℕ) → SoundRanks (le_bytes xs) a b → SoundBools a' b' → length (bits_in a b) ≤ length (bits_in a' b') → length xs ≤ length (words_in a') / 16
 counts_within {a} {b} {a'} {b'} xs s t l = omega (arith, counts_many xs s, bits_length a' b', t.few)
 

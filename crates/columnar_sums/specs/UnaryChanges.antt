@@ -112,7 +112,7 @@ run_too_long {c} {a} {b} item run s l e w h = record {
 pub run_refused : {c a b : List ℕ} {y : Content} (item : ℕ) → IsSound unaries_format (three c a b) → Stayed ranks_format (three c a b) y → Refused unaries_format (three c a b) y (word_row item ∷ []) Memory
 run_refused item s g = record { stayed = unary_stayed ranks_format s g; cause = tt }
 
--- falses behind, with the counts of the chunks that they complete
+-- falses after, with the counts of the chunks that they complete
 pub falses_ranked : {c a b c' a' b' : List ℕ} (m n : ℕ) → SoundRanks c a b → SoundBools a' b' → bits_in a' b' ≡ bits_in a b ++ zeros m → n ≡ (length (bits_in a b) + m) / 1024 - length (words_in c) → words_in c' ≡ words_in c ++ repeated n (ones (bits_in a b) (length (bits_in a b))) → length c' % 8 ≡ 0 → Ranked c a b c' a' b' (zeros m)
 falses_ranked {c} {a} {b} {c'} {a'} {b'} m n s t e k w l = record {
   sound = record { whole = l; bools = t; are_counts = rw (e, w) (counts_run (bits_in a b) (words_in c) m n s.are_counts k) };
@@ -174,7 +174,7 @@ bits_fit o ss h = record { room = h.room; sound = (unary_parts ranks_format h.so
 pub run_bits : (x u v : List Bool) (n : ℕ) → u ≡ x ++ zeros n → v ≡ u ++ true ∷ [] → v ≡ x ++ (zeros n ++ true ∷ [])
 run_bits x u v n p q = q ∙ ap (λ (t : List Bool). t ++ true ∷ []) p ∙ append_assoc x (zeros n) (true ∷ [])
 
--- growth that was refused behind what had been taken, and taken back
+-- growth that was refused after what had been taken, and taken back
 pub run_undone : (x x' y z w : Content) (rs : List Row) (n : ℕ) → x' ≡ x → IsSound ranks_format x → Grew ranks_format x' y rs → Stayed ranks_format y z → n ≡ length (ranks_format.rows x) → WasCut ranks_format z w n → Stayed ranks_format x w
 run_undone x x' y z w rs n e s g st l cut =
     let h : Grew ranks_format x y rs = subst (λ (k : Content). Grew ranks_format k y rs) e g in

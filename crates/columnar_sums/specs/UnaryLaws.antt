@@ -87,7 +87,7 @@ unary_bounds f l = record { exact = row_eq_exact; swift = l; are_numbers = λ c 
 
 -- ---- what is kept
 
--- bits with more behind them keep the first offsets
+-- bits with more after them keep the first offsets
 pub unary_kept : (f : Format) {x y : Content} (bs : List Bool) → bits_of f y ≡ bits_of f x ++ bs → Keeps f x y (length (f.rows x)) → Keeps (unary f) x y (length ((unary f).rows x))
 unary_kept f {x} {y} bs e g = record {
   extents = λ m l.
@@ -119,13 +119,13 @@ unary_stayed f {x} {y} s g =
       kept = unary_kept f [] (rw e (sym (append-nil (bits_of f x)))) g.kept;
     }
 
--- the offset behind all offsets
+-- the offset after all offsets
 pub end_of_all : (f : Format) {x : Content} → SoundUnary f x → end_at f x (length ((unary f).rows x)) ≡ falses 0 (bits_of f x)
 end_of_all f {x} p =
     let k : take (length ((unary f).rows x)) (ends_of 0 (bits_of f x)) ≡ ends_of 0 (bits_of f x) = rw (length-offsets f x) (take-length (ends_of 0 (bits_of f x))) in
     ap (last_or 0) k ∙ last-falses true 0 0 (bits_of f x) (λ h. refl) p.ended
 
--- What is refused in all: the bits can't take the runs behind the last offset, or an offset falls.
+-- What is refused in all: the bits can't take the runs after the last offset, or an offset falls.
 pub unary_refuse_more : (f : Format) (e : Excess) {x : Content} → SoundUnary f x → (rs : List Row) → refuses_more (unary f) e x rs ≡ (refuses_more f e x (map truth (runs (falses 0 (bits_of f x)) (numbers rs))) || (is_misplaced e && falls (falses 0 (bits_of f x)) (numbers rs)))
 unary_refuse_more f e {x} p rs = rw (end_of_all f p, upto_rows f p) refl
 
@@ -163,7 +163,7 @@ unary_took f {x} {y} ns ex s h g =
     falls_behind too_many from xs ys h = cc
     falls_behind misplaced from xs ys h = falls-append from xs ys ∙ or_right (falls from xs) (falls (last_or from xs) ys) h
 
--- the bits were cut behind true n - 1
+-- the bits were cut after true n - 1
 pub unary_cut : (f : Format) {x y : Content} {n : ℕ} → IsSound (unary f) x → n ≤ length ((unary f).rows x) → WasCut f x y (upto (bits_of f x) n) → WasCut (unary f) x y n
 unary_cut f {x} {y} {n} s l g =
     let p = unary_parts f s in

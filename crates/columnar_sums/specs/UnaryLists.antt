@@ -54,7 +54,7 @@ upto-all b n (false ∷ bs) e =
     let l = h.0 refl in
     (λ p. l, upto-false bs (length (ends_of (n + 1) bs)) l ∙ (let q = h.1 in omega arith))
 
--- more bits behind change nothing before
+-- more bits after change nothing before
 pub upto-append : (n : ℕ) (bs cs : List Bool) (k : ℕ) → k ≤ length (ends_of n bs) → upto (bs ++ cs) k ≡ upto bs k
 upto-append n [] cs zero l = refl
 upto-append n [] cs (suc k) l = absurd (omega arith)

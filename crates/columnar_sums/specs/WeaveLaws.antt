@@ -15,7 +15,7 @@ unfolding ones
 ones_nil zero = refl
 ones_nil (suc n) = refl
 
--- the trues of the first k, and those of the m behind them
+-- the trues of the first k, and those of the m after them
 pub ones_over : (b : List Bool) (k m : ℕ) → ones b (k + m) ≡ ones b k + ones (drop k b) m
 ones_over b zero m = let z = ones_zero b in let e : zero + m ≡ m = omega arith in rw (e, z) (let f : zero + ones b m ≡ ones b m = omega arith in sym f)
 ones_over [] (suc k) m = rw (ones_nil (suc k + m), ones_nil (suc k), ones_nil m) refl
@@ -43,7 +43,7 @@ ones_past (false ∷ b) (suc n) l = ones_false b n ∙ (ones_past b n (omega ari
 pub ones_most : (b : List Bool) (n : ℕ) → n ≤ length b → ones b n ≤ ones b (length b)
 ones_most b n l = ones_grows b n (length b) l
 
--- of two lists, one behind the other
+-- of two lists, one after the other
 pub ones_both : (b c : List Bool) → ones (b ++ c) (length (b ++ c)) ≡ ones b (length b) + ones c (length c)
 ones_both [] c = let z = ones_nil 0 in rw z (let f : zero + ones c (length c) ≡ ones c (length c) = omega arith in sym f)
 ones_both (true ∷ b) c = omega (arith, ones_true (b ++ c) (length (b ++ c)), ones_both b c, ones_true b (length b))

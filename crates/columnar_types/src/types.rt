@@ -66,7 +66,7 @@ pub trait Columnar: Item {
     }
 
     /// A column of rows alike to the items that come, one for one and in their order. It is refused as a push of them is,
-    /// at the first item that can't be pushed; the items behind it do not come. Asks that the items come to an end.
+    /// at the first item that can't be pushed; the items after it do not come. Asks that the items come to an end.
     final fn as_columns<'x, I: Iterator<Item = &'x Self> + Drop>(
         alloc: Global,
         items: I,

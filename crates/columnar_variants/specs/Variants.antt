@@ -32,7 +32,7 @@ beside a b = record {
 --   sides: all of them, one after the other; size: how many
 --   table: the rows of the column of a variant
 --   told: has each as many rows as this says; room: the lengths of all parts where each has so many rows
---   refuses: may one of them not hold these rows of its own, behind so many; alike, kin: those of the column of a variant
+--   refuses: may one of them not hold these rows of its own, after so many; alike, kin: those of the column of a variant
 pub record Bank : Type 0 where
   pub sides : Format
   pub size : ℕ

@@ -61,7 +61,7 @@ pub fn push_case<T: Item, C: Truncate + Push<T>>(
 }
 
 /// How many of the first `n` rows are of a variant, of which there are `all`. Where all rows are of one variant none is
-/// looked at; else it takes a turn for each row behind these, up to the next one of the variant.
+/// looked at; else it takes a turn for each row after these, up to the next one of the variant.
 pub fn rows_before<CVar: Variants, COff: Words>(
     indexes: &Discriminant<CVar, COff>,
     variant: u8,

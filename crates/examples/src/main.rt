@@ -1,6 +1,7 @@
 //! Examples of programs that use columns: a log of events, which is written, opened, read in place and changed.
 #![tactic(auto)]
 
+mod first;
 mod level;
 mod log;
 mod report;
@@ -53,6 +54,9 @@ fn main(rt: HostRuntime) -> ExitCode {
 }
 
 fn shown<O: Write>(alloc: Global, out: &mut O) -> Result<(), Failure> {
+    if first::show(alloc, out).is_err() {
+        return Err(Failure::Output);
+    }
     events(alloc, out)?;
     levels(alloc, out)?;
     times(alloc, out)?;

@@ -39,7 +39,7 @@ impl Numbers {
         Numbers::of(alloc, [Some(1), None, Some(3), Some(4), None].as_slice())
     }
 
-    // Copies these rows of another column behind its own
+    // Copies these rows of another column after its own
     fn copies(&mut self, source: &Numbers, start: usize, end: usize) -> bool {
         copied(&mut self.column, source.column.borrow(), start, end)
     }

@@ -161,6 +161,7 @@ fn cursor_in_any_order(rt: HostRuntime) -> Result<(), Fail> {
         Move::Rank(3),
         Move::Step(None),
         Move::Next(None),
+        Move::Pos(130),
         Move::ToRank(3, None),
         Move::ToPos(130, false),
     ];

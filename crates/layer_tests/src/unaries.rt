@@ -1,18 +1,23 @@
 // Bounds in unary, and stores of an earlier form.
-ghost use Rattle.std.specs.Prelude.{IsTrue};
+ghost use Rattle.std.specs.Prelude.{All, IsTrue};
 ghost use Rattle.columnar_base.specs.Format.{IsSound, representable};
 ghost use Rattle.columnar_sums.specs.UnaryColumns.{unaries_format, owned_unaries};
 
 use columnar_bytes::stash::Stash;
+use columnar_core::boxed::Boxed;
 use columnar_core::bytes::Check;
 use columnar_core::container::{Borrow, ContainerBytes, Storage};
 use columnar_core::earlier::Earlier;
 use columnar_core::fault::{EitherFault, GrowError};
 use columnar_core::offsets::Offsets;
 use columnar_core::slice::Slice;
-use columnar_core::traits::{Clear, Column, Index, Len, Push};
+use columnar_core::traits::{Clear, Column, Index, Item, Len, Push};
 use columnar_lists::vector::Vecs;
+use columnar_lists::walk::ListIter;
 use columnar_primitive::empties::Empties;
+use columnar_strings::string::Strings;
+use columnar_sums::option::Options;
+use columnar_sums::result::Results;
 use columnar_sums::unaries::Unaries;
 use std::alloc::{AllocError, Global};
 use std::io::Error;
@@ -23,7 +28,7 @@ use test_support::{equal, holds};
 
 type Bounds = Unaries<Vec<u64>, Vec<u64>, [u64; 2]>;
 
-type Lists = Vecs<Vec<u64>, Bounds>;
+pub type Lists = Vecs<Vec<u64>, Bounds>;
 
 type Nested = Vecs<Lists, Bounds>;
 
@@ -31,7 +36,7 @@ type Units = Vecs<Empties, Bounds>;
 
 // What became of a store: 0 where it was of the earlier form, 1 where of the type, else the number of the fault and 10, or of
 // the refusal and 40; then the number of rows, or the slice of the fault; then whether what is written is `written`
-fn opened<C: Earlier + ContainerBytes + Len + Drop>(
+pub fn opened<C: Earlier + ContainerBytes + Len + Drop>(
     alloc: Global,
     words: &[u64],
     written: &[u64],
@@ -83,6 +88,75 @@ fn nests_of_an_earlier_form_are_read(rt: HostRuntime) -> Result<(), Error> {
     )?;
     equal!(rt; answer, (0, 2, true));
     Ok(())
+}
+
+// Pushes the rows; is each taken?
+fn takes_all<T: Item + Copy, C: Push<T>>(column: &mut C, rows: &[T]) -> bool
+    requires sound { IsSound C.format (C.content column.old) }
+    requires valid { All T.valid rows.now }
+    ensures { IsSound C.format (C.content column.new) }
+{
+    for row in rows {
+        if !takes(column, *row) {
+            return false;
+        }
+    }
+    true
+}
+
+// A store of these rows
+fn stored<T: Item + Copy, C: ContainerBytes + Storage + Push<T>>(
+    alloc: Global,
+    rows: &[T],
+) -> Option<Vec<u8>>
+    requires representable { IsTrue (representable C.format) }
+    requires valid { All T.valid rows.now }
+{
+    let mut column = C::empty(alloc);
+    if !takes_all(&mut column, rows) {
+        return None;
+    }
+    let mut bytes = Vec::new(alloc);
+    Stash::<C, Vec<u8>>::Typed(column)
+        .write_bytes(&mut bytes)
+        .ok()?;
+    Some(bytes)
+}
+
+// Is a store of the earlier form of these rows read, and written as a store of the form of today?
+fn is_renewed<
+    T: Item + Copy,
+    C: Earlier<Old: Storage + Push<T>> + ContainerBytes + Storage + Push<T>,
+>(alloc: Global, rows: &[T]) -> bool
+    requires new { IsTrue (representable C.format) }
+    requires old { IsTrue (representable C.Old.format) }
+    requires valid { All T.valid rows.now }
+{
+    let (Some(old), Some(new)) = (
+        stored::<T, C::Old>(alloc, rows),
+        stored::<T, C>(alloc, rows),
+    ) else {
+        return false;
+    };
+    let Ok(stash) = Stash::<C, Vec<u8>>::try_from_either(alloc, old) else {
+        return false;
+    };
+    let mut bytes = Vec::new(alloc);
+    stash.write_bytes(&mut bytes).is_ok() && bytes.as_slice() == new.as_slice()
+}
+
+// Every container whose earlier form is that of its parts
+type Mixed = (Boxed<Options<Lists>>, Results<Strings<Bounds>, Lists>);
+
+#[test]
+fn each_container_is_read_in_its_earlier_form(rt: HostRuntime) {
+    let items = [1u64, 2, 3];
+    let rows = [
+        (Boxed(Some(&items[..2])), Ok("ann")),
+        (Boxed(None), Err(&items[1..])),
+        (Boxed(Some(&items[..0])), Ok("")),
+    ];
+    holds!(rt; is_renewed::<(Boxed<Option<&[u64]>>, Result<&str, &[u64]>), Mixed>(rt.alloc(), rows.as_slice()));
 }
 
 #[test]
@@ -146,13 +220,13 @@ fn takes_lengths<'x, C: Push<&'x [u64]>>(
 
 // Lists with bounds in unary, behind the calls that more than one test makes
 #[derive(Drop)]
-struct Held {
+pub struct Held {
     lists: Lists,
     ghost sound: { IsSound ⟦<Lists as Column>⟧.format (⟦<Lists as Column>⟧.content lists) },
 }
 
 impl Held {
-    fn new(alloc: Global) -> Held {
+    pub fn new(alloc: Global) -> Held {
         Held {
             lists: Lists::empty(alloc),
         }
@@ -162,7 +236,17 @@ impl Held {
         takes_lengths(&mut self.lists, items, lengths)
     }
 
-    fn copies(&mut self, other: &Held, start: usize, end: usize) -> bool {
+    /// Pushes lists of these lengths up to the first that is refused; how many are taken.
+    pub fn takes_some(&mut self, items: &[u64], lengths: &[usize]) -> usize {
+        for at in 0..lengths.len() {
+            if !takes(&mut self.lists, front(items, lengths[at])) {
+                return at;
+            }
+        }
+        lengths.len()
+    }
+
+    pub fn copies(&mut self, other: &Held, start: usize, end: usize) -> bool {
         copied(&mut self.lists, other.lists.borrow(), start, end)
     }
 
@@ -171,7 +255,7 @@ impl Held {
     }
 
     // Has it these lengths, and does its own test accept it?
-    fn is(&self, lengths: &[usize]) -> bool {
+    pub fn is(&self, lengths: &[usize]) -> bool {
         has_lengths(&self.lists.borrow(), lengths) && self.lists.borrow().check().is_ok()
     }
 
@@ -271,4 +355,30 @@ fn offsets_in_unary_are_read_in_order(rt: HostRuntime) {
     holds!(rt; !bounds.rises_to(2200));
     bounds.clear();
     holds!(rt; are_ends(&bounds, &[]));
+}
+
+// Does a walk give lists of these numbers, each as its first and its length, in their order?
+fn walked<V: Index<Ref = u64> + Copy, W: Offsets + Drop>(
+    lists: ListIter<V, W>,
+    wanted: &[(Option<u64>, usize)],
+) -> bool {
+    let mut at = 0usize;
+    for list in lists {
+        if at >= wanted.len() || (row_at(&list, 0), list.len()) != wanted[at] {
+            return false;
+        }
+        at += 1;
+    }
+    at == wanted.len()
+}
+
+#[test]
+fn a_walk_over_lists_gives_each_in_order(rt: HostRuntime) -> Result<(), Fail> {
+    let mut held = Held::new(rt.alloc());
+    holds!(rt; held.takes([7, 8, 9].as_slice(), [2, 0, 1].as_slice()));
+    let wanted = [(Some(7), 2), (None, 0), (Some(7), 1)];
+    let view = held.lists.borrow();
+    holds!(rt; walked(view.index_iter(), wanted.as_slice()));
+    holds!(rt; walked(view.into_index_iter(), wanted.as_slice()));
+    Ok(())
 }

@@ -16,7 +16,7 @@ use test_support::{equal, holds};
 
 type Two = Lookbacks<Vec<u64>, 2>;
 
-// Twenty comes again behind two values
+// Twenty comes again after two values
 static RETURNS: [u64; 5] = [10, 20, 10, 30, 20];
 
 #[test]

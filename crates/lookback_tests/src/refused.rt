@@ -22,7 +22,7 @@ fn is_kept(alloc: Global, item: u64, trial: &Trial<'_>) -> bool {
         && both_pushes_keep::<&u64, Held>(alloc, &item, trial)
 }
 
-// The first row of the source is the same as the last one, and values are behind it
+// The first row of the source is the same as the last one, and values are after it
 #[test]
 fn a_new_value(rt: HostRuntime) -> Result<(), Fail> {
     let trial = Trial {
@@ -38,7 +38,7 @@ fn a_new_value(rt: HostRuntime) -> Result<(), Fail> {
     Ok(())
 }
 
-// The first row of the source is stored, and so are more values behind it
+// The first row of the source is stored, and so are more values after it
 #[test]
 fn a_value_that_goes_on(rt: HostRuntime) -> Result<(), Fail> {
     let trial = Trial {
@@ -71,7 +71,7 @@ fn the_last_bit_of_a_word(rt: HostRuntime) -> Result<(), Fail> {
     Ok(())
 }
 
-// The rows (1, 10), (1, 10), (2, 20), and (3, 30) behind them
+// The rows (1, 10), (1, 10), (2, 20), and (3, 30) after them
 #[test]
 fn runs_of_pairs(rt: HostRuntime) -> Result<(), Fail> {
     let alloc = rt.alloc();

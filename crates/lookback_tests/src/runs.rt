@@ -57,7 +57,7 @@ impl Runs {
         takes(&mut self.column, item)
     }
 
-    // Copies these rows of another column behind its own
+    // Copies these rows of another column after its own
     pub(crate) fn copies(&mut self, source: &Runs, start: usize, end: usize) -> bool {
         copied(&mut self.column, source.column.borrow(), start, end)
     }
@@ -196,7 +196,7 @@ impl Backs {
         takes_ref(&mut self.column, item)
     }
 
-    // Copies these rows of another column behind its own
+    // Copies these rows of another column after its own
     pub(crate) fn copies(&mut self, source: &Backs, start: usize, end: usize) -> bool {
         copied(&mut self.column, source.column.borrow(), start, end)
     }

@@ -1,1 +1,4 @@
+pub mod Ages
 pub mod Groups
+pub mod Told
+pub mod Uses

@@ -1,64 +1,91 @@
 //! What the program's words ask for.
-ghost use Rattle.std.specs.Prelude.{◌≡◌, ◌∷◌, [], ◌≤◌, ◌↔◌, IfOk};
+ghost use Rattle.std.specs.Prelude.{◌≡◌, ◌∷◌, ℕ, List, [], IfOk, OnOk, OnErr, IsTrue, string_bytes};
+ghost use Rattle.std.specs.Io.KnownBytes.{Appends};
 ghost use Rattle.columnar.specs.Accepted.{Accepts};
-ghost use Rattle.columnar.specs.Either.{Either};
+ghost use Rattle.columnar.specs.Bytes.{le_bytes};
+ghost use Rattle.columnar.specs.Format.{representable};
 ghost use Rattle.columnar.specs.Frame.{framed_slices};
+ghost use Rattle.columnar.specs.Row.{number};
+ghost use Rattle.columnar.specs.Sent.{AppendsBeginning};
+ghost use Rattle.roster.specs.Told.{outcome_line};
+ghost use Rattle.roster.specs.Uses.{use_of, Answered, Ends, Given, Hears, Judges, Shows, TellsSeven};
 
 use crate::group::Group;
-use crate::roster::{Columns, OldColumns, Person, Unbuilt, ages, bytes_of, everyone, print_slices};
+use crate::roster::{Columns, OldColumns, Person, Unbuilt, bytes_of, everyone, tell_view};
+use crate::told::{Answer, Failure, Outcome, put, tell_fault, tell_rows, tell_words};
+use columnar::bytes::WriteBytes;
 use columnar::bytes::indexed::encode;
 use columnar::bytes::stash::Stash;
+use columnar::common::Earlier;
 use columnar::fault::{EitherFault, GrowError};
-use columnar::{Column, Item, Len, Push};
+use columnar::{Column, ContainerBytes, Len, Push};
 use std::alloc::{AllocError, Global};
 use std::fs;
-use std::io::{self, ErrorKind, Read, Write};
+use std::io::{ErrorKind, Read, Write};
 use std::rt::Files;
 
-const USAGE: &str = "usage: roster [first | write PATH | check PATH]";
+/// How a run of the program ended.
+#[derive(Clone, Copy)]
+pub struct Ended {
+    /// What became of what the words ask for.
+    pub outcome: Outcome,
+    /// Did the error output take all that it was to be told? It changes no status.
+    pub heard: bool,
+}
 
-/// Runs what the words ask for, and answers the exit status: 0 where it was done, 1 where it failed, 2 where the
-/// words ask for nothing that the program does.
+/// Does what the words ask for, and tells the error output why it was not done.
 pub fn run_words<R: Files, O: Write, E: Write>(
     rt: &R,
     alloc: Global,
     words: &[String],
     out: &mut O,
     err: &mut E,
-) -> u8 {
-    match words {
-        [] => ended(show(alloc, out), err),
-        [word] if word.as_str() == "first" => ended(first(alloc, out), err),
-        [word, path] if word.as_str() == "write" => ended(
-            write_roster(rt, alloc, path.as_str()),
-            err,
-        ),
-        [word, path] if word.as_str() == "check" => ended(
-            check(rt, alloc, path.as_str(), out),
-            err,
-        ),
-        _ => say(err, USAGE, 2),
+) -> Ended
+    ensures out { Ends ⟦<Columns as Column>⟧.format ⟦<OldColumns as Column>⟧.format ⟦<Vec<u64> as Column>⟧.format (use_of words.now) result.outcome (O.contents out.old) (O.contents out.new) }
+    ensures err { Hears (outcome_line result.outcome) result.heard (E.contents err.old) (E.contents err.new) }
+{
+    let outcome = do_words(rt, alloc, words, out);
+    let heard = put(err, outcome.line()).is_ok();
+    Ended { outcome, heard }
+}
+
+// Does what the words ask for.
+fn do_words<R: Files, O: Write>(rt: &R, alloc: Global, words: &[String], out: &mut O) -> Outcome
+    ensures { Ends ⟦<Columns as Column>⟧.format ⟦<OldColumns as Column>⟧.format ⟦<Vec<u64> as Column>⟧.format (use_of words.now) result (O.contents out.old) (O.contents out.new) }
+{
+    let Some(answer) = answer_words(rt, alloc, words) else {
+        return Outcome::Misused;
+    };
+    match give(answer, out) {
+        Ok(status) => Outcome::Done(status),
+        Err(failure) => Outcome::Failed(failure),
     }
 }
 
-/// Says that memory was refused; the status is 1.
-pub fn no_memory<E: Write>(err: &mut E) -> u8 {
-    say(err, "failed: no memory", 1)
+// What answers the words, or None where they ask for nothing that the program does.
+fn answer_words<R: Files>(
+    rt: &R,
+    alloc: Global,
+    words: &[String],
+) -> Option<Result<Answer, Failure>>
+    ensures { Answered ⟦<Columns as Column>⟧.format ⟦<OldColumns as Column>⟧.format ⟦<Vec<u64> as Column>⟧.format (use_of words.now) result }
+{
+    match words {
+        [] => Some(show(alloc)),
+        [word] if word.as_str() == "first" => Some(first(alloc)),
+        [word, path] if word.as_str() == "write" => Some(write_roster(rt, alloc, path.as_str())),
+        [word, path] if word.as_str() == "check" => Some(check(rt, alloc, path.as_str())),
+        _ => None,
+    }
 }
 
-// A standard error that fails changes no status.
-fn say<E: Write>(err: &mut E, text: &str, status: u8) -> u8 {
-    let _written = writeln!(err, "{text}");
-    status
-}
-
-// Why a command was not done
-#[derive(Clone, Copy)]
-enum Failure {
-    Memory,
-    TooLong,
-    Input,
-    Output,
+// The status of an answer, whose text goes to the output.
+fn give<O: WriteBytes>(answer: Result<Answer, Failure>, out: &mut O) -> Result<u8, Failure>
+    ensures { Given answer result (O.contents out.old) (O.contents out.new) }
+{
+    let answer = answer?;
+    put(out, answer.text.as_str())?;
+    Ok(answer.status)
 }
 
 impl From<AllocError> for Failure {
@@ -76,17 +103,6 @@ impl From<Unbuilt> for Failure {
     }
 }
 
-// The status of a command that was done, or what is said of one that was not, and then 1.
-fn ended<E: Write>(done: Result<u8, Failure>, err: &mut E) -> u8 {
-    match done {
-        Ok(status) => status,
-        Err(Failure::Memory) => no_memory(err),
-        Err(Failure::TooLong) => say(err, "failed: too long", 1),
-        Err(Failure::Input) => say(err, "failed: cannot read", 1),
-        Err(Failure::Output) => say(err, "failed: cannot write", 1),
-    }
-}
-
 // The bytes of the roster; they are accepted as its columns.
 fn roster_bytes(alloc: Global) -> Result<Vec<u8>, Failure>
     ensures { IfOk result (λ bytes. Accepts ⟦<Columns as Column>⟧.format bytes.items) }
@@ -96,31 +112,42 @@ fn roster_bytes(alloc: Global) -> Result<Vec<u8>, Failure>
 }
 
 // The slices of the roster, and the sum of the ages, read back from its bytes.
-fn show<O: Write>(alloc: Global, out: &mut O) -> Result<u8, Failure> {
+fn show(alloc: Global) -> Result<Answer, Failure>
+    ensures { IfOk result (λ answer. (answer.status ≡ 0) × Shows ⟦<Columns as Column>⟧.format (string_bytes answer.text)) }
+{
     let bytes = roster_bytes(alloc)?;
     match Stash::<Columns, Vec<u8>>::try_from_bytes(alloc, bytes) {
         Ok(opened) => {
-            let view = opened.borrow();
-            if print_slices(&view, out).is_err() {
-                return Err(Failure::Output);
-            }
-            match writeln!(out, "Present values summed: {}", ages(&view)) {
-                Ok(()) => Ok(0),
-                Err(_) => Err(Failure::Output),
-            }
+            let text = tell_view(alloc, &opened.borrow())?;
+            Ok(Answer { status: 0, text })
         }
         Err(_) => unreachable!(),
     }
 }
 
-// The roster's bytes as a file.
-fn write_roster<R: Files>(rt: &R, alloc: Global, path: &str) -> Result<u8, Failure> {
+// The roster's bytes as a file. Where they are not built, no file is made.
+fn write_roster<R: Files>(rt: &R, alloc: Global, path: &str) -> Result<Answer, Failure>
+    ensures { IfOk result (λ answer. (answer.status ≡ 0) × (string_bytes answer.text ≡ [])) }
+{
     let bytes = roster_bytes(alloc)?;
     match fs::create(rt, path) {
-        Ok(mut file) => match file.write_all(bytes.as_slice()) {
-            Ok(()) => Ok(0),
-            Err(_) => Err(Failure::Output),
-        },
+        Ok(mut file) => send_store(&mut file, bytes.as_slice())?,
+        Err(_) => return Err(Failure::Output),
+    }
+    Ok(Answer {
+        status: 0,
+        text: String::new(alloc),
+    })
+}
+
+// Sends bytes to a file; they are accepted as the roster's columns.
+fn send_store<F: WriteBytes>(file: &mut F, bytes: &[u8]) -> Result<(), Failure>
+    requires { Accepts ⟦<Columns as Column>⟧.format bytes.now }
+    ensures ok { OnOk result (Appends (F.contents file.old) (F.contents file.new) bytes.now) }
+    ensures err { OnErr result (AppendsBeginning (F.contents file.old) (F.contents file.new) bytes.now) }
+{
+    match file.write_all(bytes) {
+        Ok(()) => Ok(()),
         Err(_) => Err(Failure::Output),
     }
 }
@@ -142,37 +169,31 @@ fn file_bytes<R: Files>(rt: &R, alloc: Global, path: &str) -> Result<Vec<u8>, Fa
 }
 
 // How many rows a file has, or which rule it breaks first, and at which slice.
-fn check<R: Files, O: Write>(
-    rt: &R,
-    alloc: Global,
-    path: &str,
-    out: &mut O,
-) -> Result<u8, Failure> {
+fn check<R: Files>(rt: &R, alloc: Global, path: &str) -> Result<Answer, Failure>
+    ensures { IfOk result (λ answer. (bytes : List ℕ) × Judges ⟦<Columns as Column>⟧.format ⟦<OldColumns as Column>⟧.format bytes answer.status (string_bytes answer.text)) }
+{
     let bytes = file_bytes(rt, alloc, path)?;
-    judge(alloc, bytes, out)
+    judge::<Columns>(alloc, bytes)
 }
 
-// Prints the number of rows, status 0, where the bytes are accepted for the roster's columns or for their earlier form; else
-// the first broken rule, status 1.
-fn judge<O: Write>(alloc: Global, bytes: Vec<u8>, out: &mut O) -> Result<u8, Failure>
-    ensures refused { IfOk result (λ status. (status ≡ 1) ↔ (Either ⟦<Columns as Column>⟧.format ⟦<OldColumns as Column>⟧.format bytes.items → ⊥)) }
-    ensures two { IfOk result (λ status. status ≤ 1) }
+// The number of rows, status 0, where the bytes are accepted for the columns or for their earlier form; else the first
+// broken rule, status 1.
+fn judge<C: ContainerBytes + Earlier + Len + Drop>(
+    alloc: Global,
+    bytes: Vec<u8>,
+) -> Result<Answer, Failure>
+    requires new { IsTrue (representable C.format) }
+    requires old { IsTrue (representable C.Old.format) }
+    ensures { IfOk result (λ answer. Judges C.format C.Old.format bytes.items answer.status (string_bytes answer.text)) }
 {
-    match Stash::<Columns, Vec<u8>>::try_from_either(alloc, bytes) {
-        Ok(opened) => match writeln!(out, "rows: {}", opened.len()) {
-            Ok(()) => Ok(0),
-            Err(_) => Err(Failure::Output),
-        },
+    match Stash::<C, Vec<u8>>::try_from_either(alloc, bytes) {
+        Ok(opened) => {
+            let text = tell_rows(alloc, opened.len())?;
+            Ok(Answer { status: 0, text })
+        }
         Err(EitherFault::Store(fault)) => {
-            match writeln!(
-                out,
-                "refused: {} in slice {}",
-                fault.number(),
-                fault.slice()
-            ) {
-                Ok(()) => Ok(1),
-                Err(_) => Err(Failure::Output),
-            }
+            let text = tell_fault(alloc, fault.number(), fault.slice())?;
+            Ok(Answer { status: 1, text })
         }
         Err(EitherFault::Grow(GrowError::Memory)) => Err(Failure::Memory),
         Err(EitherFault::Grow(_)) => Err(Failure::TooLong),
@@ -180,24 +201,25 @@ fn judge<O: Write>(alloc: Global, bytes: Vec<u8>, out: &mut O) -> Result<u8, Fai
 }
 
 // A column of one number: its words, and its rows once its bytes are opened.
-fn first<O: Write>(alloc: Global, out: &mut O) -> Result<u8, Failure> {
+fn first(alloc: Global) -> Result<Answer, Failure>
+    ensures { IfOk result (λ answer. (answer.status ≡ 0) × TellsSeven ⟦<Vec<u64> as Column>⟧.format (string_bytes answer.text)) }
+{
     let (words, bytes) = written_seven(alloc)?;
-    if print_words(out, words.as_slice()).is_err() {
-        return Err(Failure::Output);
-    }
     match Stash::<Vec<u64>, Vec<u8>>::try_from_bytes(alloc, bytes) {
-        Ok(opened) => match writeln!(out, "rows: {}", opened.len()) {
-            Ok(()) => Ok(0),
-            Err(_) => Err(Failure::Output),
-        },
+        Ok(opened) => {
+            let mut text = tell_words(alloc, words.as_slice())?;
+            text.push_str(tell_rows(alloc, opened.len())?.as_str())?;
+            Ok(Answer { status: 0, text })
+        }
         Err(_) => unreachable!(),
     }
 }
 
 // The words and the bytes of a column that 7 was pushed to; the bytes are accepted, and hold the one row 7.
 fn written_seven(alloc: Global) -> Result<(Vec<u64>, Vec<u8>), Failure>
+    ensures same { IfOk result (λ r. r.1.items ≡ le_bytes r.0.items) }
     ensures accepted { IfOk result (λ r. Accepts ⟦<Vec<u64> as Column>⟧.format r.1.items) }
-    ensures rows { IfOk result (λ r. ⟦<Vec<u64> as Column>⟧.format.rows (⟦<Vec<u64> as Column>⟧.format.build (framed_slices r.1.items)) ≡ ⟦<u64 as Item>⟧.meaning 7 ∷ []) }
+    ensures rows { IfOk result (λ r. ⟦<Vec<u64> as Column>⟧.format.rows (⟦<Vec<u64> as Column>⟧.format.build (framed_slices r.1.items)) ≡ number 7 ∷ []) }
 {
     let mut stash = Stash::<Vec<u64>, Vec<u8>>::empty(alloc);
     if stash.push(7u64).is_err() {
@@ -212,16 +234,6 @@ fn written_seven(alloc: Global) -> Result<(Vec<u64>, Vec<u8>), Failure>
         return Err(Failure::Memory);
     }
     Ok((words, bytes))
-}
-
-fn print_words<O: Write>(out: &mut O, words: &[u64]) -> io::Result<()> {
-    for (i, word) in words.iter().enumerate() {
-        if i > 0 {
-            write!(out, " ")?;
-        }
-        write!(out, "{word}")?;
-    }
-    writeln!(out)
 }
 
 #[cfg(test)]

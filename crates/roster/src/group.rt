@@ -4,6 +4,7 @@ ghost use Rattle.columnar.specs.Discriminants.{forms_content};
 ghost use Rattle.columnar.specs.Duals.{dual_content, dual_format};
 ghost use Rattle.roster.specs.Groups.{group_row, group_valid, reference_row, reference_valid};
 
+pub mod ages;
 pub mod bytes;
 pub mod grow;
 pub mod owned;

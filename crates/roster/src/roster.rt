@@ -1,17 +1,17 @@
 //! The roster: who is present, alone or in teams, as a column of groups and as bytes.
-ghost use Rattle.std.specs.Prelude.{◌≡◌, All, IfOk, IsTrue};
+ghost use Rattle.std.specs.Prelude.{◌≡◌, All, IfOk, IsTrue, string_bytes};
 ghost use Rattle.columnar.specs.Accepted.{Accepts};
-ghost use Rattle.columnar.specs.Format.{IsSound, representable};
+ghost use Rattle.columnar.specs.Format.{IsSound, representable, slices_of};
+ghost use Rattle.roster.specs.Told.{slice_lines};
+ghost use Rattle.roster.specs.Uses.{shown};
 
-use crate::group::{Group, GroupReference};
+use crate::group::Group;
+use crate::group::ages::{Aged, sum_ages};
 use columnar::bytes::stash::Stash;
 use columnar::common::Earlier;
 use columnar::fault::{GrowError, WriteFault};
-use columnar::{
-    AsBytes, Columnar, ContainerBytes, ContainerOf, Index, Item, Len, PushRef, Slice, Storage,
-};
+use columnar::{AsBytes, Columnar, ContainerBytes, ContainerOf, Index, Len, PushRef, Storage};
 use std::alloc::{AllocError, Global};
-use std::io::{self, Write};
 
 /// A name and an age.
 pub type Person = (String, u64);
@@ -97,43 +97,29 @@ where
     }
 }
 
-/// Prints for each slice its alignment and how many bytes it has.
-pub fn print_slices<'a, V: AsBytes<'a>, O: Write>(column: &V, out: &mut O) -> io::Result<()>
+/// For each slice of a view a line with its alignment and how many bytes it has.
+pub fn tell_slices<'a, V: AsBytes<'a>>(alloc: Global, view: &V) -> Result<String, AllocError>
     requires { IsTrue (representable V.format) }
+    ensures { IfOk result (λ text. string_bytes text ≡ slice_lines V.format.aligns (slices_of (V.content view.now))) }
 {
+    let mut text = String::new(alloc);
     for index in 0..V::slice_count() {
-        let (align, slice) = column.get_byte_slice(index);
-        writeln!(out, "align: {align}, bytes.len(): {}", slice.len())?;
+        let (align, slice) = view.get_byte_slice(index);
+        writeln!(text, "align: {align}, bytes.len(): {}", slice.len())?;
     }
-    Ok(())
+    Ok(text)
 }
 
-// The sum of the ages of a team, where they are rows of a view; it wraps at 2^64.
-fn team_ages<N: Copy + Item, W: Index<Ref = (N, u64)> + Copy>(team: Slice<W>, before: u64) -> u64
-    requires { ⟦<Slice<W> as Item>⟧.valid team }
+/// The slices of a view of rows with ages, a line for each, and then the sum of all ages.
+pub fn tell_view<'a, V: AsBytes<'a> + Index<Ref: Aged> + Len>(
+    alloc: Global,
+    view: &V,
+) -> Result<String, AllocError>
+    requires representable { IsTrue (representable V.format) }
+    requires sound { IsSound V.format (V.content view.now) }
+    ensures { IfOk result (λ text. string_bytes text ≡ shown V.Ref.ages V.format (V.content view.now)) }
 {
-    let mut sum = before;
-    for index in 0..team.len() {
-        sum = sum.wrapping_add(team.get(index).1);
-    }
-    sum
-}
-
-/// The sum of all ages of groups of persons; it wraps at 2^64.
-pub fn ages<
-    M: Copy + Item,
-    N: Copy + Item,
-    W: Index<Ref = (N, u64)> + Copy,
-    V: Index<Ref = GroupReference<(M, u64), Slice<W>>> + Len,
->(groups: &V) -> u64
-    requires { IsSound V.format (V.content groups.now) }
-{
-    let mut sum = 0u64;
-    for index in 0..groups.len() {
-        match groups.get(index) {
-            GroupReference::Solo(person) => sum = sum.wrapping_add(person.1),
-            GroupReference::Team(team) => sum = team_ages(team, sum),
-        }
-    }
-    sum
+    let mut text = tell_slices(alloc, view)?;
+    writeln!(text, "Present values summed: {}", sum_ages(view))?;
+    Ok(text)
 }

@@ -4,12 +4,12 @@ use columnar::bytes::indexed::validate;
 use columnar::bytes::stash::Stash;
 use columnar::primitive::offsets::{Fixeds, Strides};
 use columnar::primitive::{Bools, Empties};
-use columnar::{Borrow, Check, Len, Options, Vecs};
+use columnar::{Borrow, Check, Len, Options, Push, Vecs};
 use std::alloc::Global;
 use std::io::Error;
 use std::test::Fail;
 use test_support::columns::row_at;
-use test_support::stashes::{opened, row_of};
+use test_support::stashes::{opened, row_of, writes};
 use test_support::stores::{bytes_of, front, refusal};
 use test_support::{equal, holds};
 
@@ -102,6 +102,9 @@ fn arrays_of_three_bytes(rt: HostRuntime) -> Result<(), Fail> {
         refusal::<Vec<[u8; 3]>>(rt.alloc(), part.as_slice())?,
         (8, 0)
     );
+    let mut stash = Stash::<Vec<[u8; 3]>, Vec<u8>>::empty(rt.alloc());
+    holds!(rt; stash.push([1u8, 2, 3]).is_ok());
+    holds!(rt; writes(&stash, one.as_slice()));
     Ok(())
 }
 

@@ -2,7 +2,7 @@
 //! proof of a test takes a time that grows with the square of its branches. The crate of the test has the calls, in a
 //! module `claims`.
 
-/// Claims that a condition holds; it is known to hold behind the claim.
+/// Claims that a condition holds; it is known to hold after the claim.
 #[macro_export]
 macro_rules! holds {
     ($rt:expr; $claim:expr $(,)?) => {

@@ -93,7 +93,7 @@ pub fn takes_ranges<V: Len + Copy, C: Push<Slice<V>>>(
     true
 }
 
-/// Copies the rows `start..end` of a view behind those of a column; false where they are not there, or where the copy is
+/// Copies the rows `start..end` of a view after those of a column; false where they are not there, or where the copy is
 /// refused.
 pub fn copied<V: Len + Copy, C: ExtendFrom<V>>(
     column: &mut C,
@@ -108,7 +108,7 @@ pub fn copied<V: Len + Copy, C: ExtendFrom<V>>(
     start <= end && end <= view.len() && column.extend_from_self(view, start..end).is_ok()
 }
 
-/// Copies all rows of a view behind those of a column.
+/// Copies all rows of a view after those of a column.
 pub fn copy_all<V: Len + Copy, C: ExtendFrom<V>>(column: &mut C, view: V) -> Result<(), GrowError>
     requires sound { IsSound C.format (C.content column.old) }
     requires view_sound { IsSound V.format (V.content view) }

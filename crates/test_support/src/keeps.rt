@@ -241,7 +241,7 @@ pub fn encoding_keeps<'a, S: AsBytes<'a>>(alloc: Global, item: &S, words: &[u64]
     }
 }
 
-/// The words behind the first two.
+/// The words after the first two.
 pub fn behind_two(words: &[u64]) -> &[u64] {
     if words.len() >= 2 { &words[2..] } else { words }
 }

@@ -18,7 +18,7 @@ use test_support::keeps::encoding_keeps;
 use test_support::stashes::opened;
 use test_support::trials::{Trial, copies_keep, is_lawful, pushes_keep, turns_and_clones_keep};
 
-// A row is pushed behind another, or copied
+// A row is pushed after another, or copied
 fn trial_of<'a>(before: &'a [u64], source: &'a [u64], after: &'a [u64]) -> Trial<'a> {
     Trial {
         before,

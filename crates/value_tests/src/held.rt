@@ -124,7 +124,7 @@ fn copy_of<V: Len + Copy, C: Storage + ExtendFrom<V>, I: Iterator<Item = V> + Dr
     Some(Held { column })
 }
 
-// The same column with the rows `start..end` of a view behind its own, and then with room for those of the view; none where
+// The same column with the rows `start..end` of a view after its own, and then with room for those of the view; none where
 // it is refused
 fn copied_behind<V: Len + Copy, C: Storage + ExtendFrom<V>>(
     mut held: Held<C>,
@@ -139,7 +139,7 @@ fn copied_behind<V: Len + Copy, C: Storage + ExtendFrom<V>>(
     if taken & made { Some(held) } else { None }
 }
 
-/// Copies all rows of a view, into room for those of the views, and behind them the rows `start..end`; cuts that to the first
+/// Copies all rows of a view, into room for those of the views, and after them the rows `start..end`; cuts that to the first
 /// `kept` rows, duplicates and clears it. None where a call is refused, or where a row is left by the last.
 pub fn copy_twice<V: Len + Copy, C: Storage + ExtendFrom<V>, I: Iterator<Item = V> + Drop>(
     alloc: Global,

@@ -18,7 +18,7 @@ use test_support::{equal, holds};
 
 type Pairs = (Vec<u64>, Vec<u64>);
 
-// The numbers 7 and 8, and a word behind the last slice
+// The numbers 7 and 8, and a word after the last slice
 static WORD_BEHIND: [u64; 5] = [16, 32, 7, 8, 9];
 
 static SEVEN_EIGHT: [u64; 4] = [16, 32, 7, 8];

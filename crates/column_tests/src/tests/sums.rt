@@ -73,7 +73,7 @@ impl Held {
             && self.column.push_ref(third).is_ok()
     }
 
-    // Copies these rows of another column behind its own
+    // Copies these rows of another column after its own
     fn copies(&mut self, source: &Held, start: usize, end: usize) -> bool {
         copied(&mut self.column, source.column.borrow(), start, end)
     }

@@ -1,4 +1,4 @@
-//! Arrays of elements as elements: one element's bytes behind the other's.
+//! Arrays of elements as elements: one element's bytes after the other's.
 ghost use Rattle.std.specs.Prelude.{ℕ, ◌≡◌};
 ghost use Rattle.columnar_base.specs.Arrays.{array_bytes, array_row, array_row_of, array_size};
 ghost use Rattle.columnar_base.specs.ArrayLaws.{array_element};

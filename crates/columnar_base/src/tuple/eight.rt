@@ -464,3 +464,28 @@ impl<
         )
     }
 }
+
+/// The parts of eight columns of one length, each well formed, as the tuple is.
+pub fn parts_of_eight<
+    A: Column,
+    B: Column,
+    C: Column,
+    D: Column,
+    E: Column,
+    F: Column,
+    G: Column,
+    H: Column,
+>(tuple: (A, B, C, D, E, F, G, H)) -> (A, B, C, D, E, F, G, H)
+    requires { IsSound (tuple_format A.format B.format (C.format ∷ D.format ∷ E.format ∷ F.format ∷ G.format ∷ H.format ∷ [])) (both (A.content tuple.0) (both (B.content tuple.1) (both (C.content tuple.2) (both (D.content tuple.3) (both (E.content tuple.4) (both (F.content tuple.5) (both (G.content tuple.6) (H.content tuple.7)))))))) }
+    ensures first { IsSound A.format (A.content result.0) }
+    ensures second { IsSound B.format (B.content result.1) }
+    ensures third { IsSound C.format (C.content result.2) }
+    ensures fourth { IsSound D.format (D.content result.3) }
+    ensures fifth { IsSound E.format (E.content result.4) }
+    ensures sixth { IsSound F.format (F.content result.5) }
+    ensures seventh { IsSound G.format (G.content result.6) }
+    ensures eighth { IsSound H.format (H.content result.7) }
+    ensures tuple { result ≡ tuple }
+{
+    tuple
+}

@@ -292,3 +292,18 @@ impl<
         )
     }
 }
+
+/// The parts of five columns of one length, each well formed, as the tuple is.
+pub fn parts_of_five<A: Column, B: Column, C: Column, D: Column, E: Column>(
+    tuple: (A, B, C, D, E),
+) -> (A, B, C, D, E)
+    requires { IsSound (tuple_format A.format B.format (C.format ∷ D.format ∷ E.format ∷ [])) (both (A.content tuple.0) (both (B.content tuple.1) (both (C.content tuple.2) (both (D.content tuple.3) (E.content tuple.4))))) }
+    ensures first { IsSound A.format (A.content result.0) }
+    ensures second { IsSound B.format (B.content result.1) }
+    ensures third { IsSound C.format (C.content result.2) }
+    ensures fourth { IsSound D.format (D.content result.3) }
+    ensures fifth { IsSound E.format (E.content result.4) }
+    ensures tuple { result ≡ tuple }
+{
+    tuple
+}

@@ -260,3 +260,17 @@ impl<
         )
     }
 }
+
+/// The parts of four columns of one length, each well formed, as the tuple is.
+pub fn parts_of_four<A: Column, B: Column, C: Column, D: Column>(
+    tuple: (A, B, C, D),
+) -> (A, B, C, D)
+    requires { IsSound (tuple_format A.format B.format (C.format ∷ D.format ∷ [])) (both (A.content tuple.0) (both (B.content tuple.1) (both (C.content tuple.2) (D.content tuple.3)))) }
+    ensures first { IsSound A.format (A.content result.0) }
+    ensures second { IsSound B.format (B.content result.1) }
+    ensures third { IsSound C.format (C.content result.2) }
+    ensures fourth { IsSound D.format (D.content result.3) }
+    ensures tuple { result ≡ tuple }
+{
+    tuple
+}

@@ -218,3 +218,14 @@ impl<
         )
     }
 }
+
+/// The parts of three columns of one length, each well formed, as the tuple is.
+pub fn parts_of_three<A: Column, B: Column, C: Column>(tuple: (A, B, C)) -> (A, B, C)
+    requires { IsSound (tuple_format A.format B.format (C.format ∷ [])) (both (A.content tuple.0) (both (B.content tuple.1) (C.content tuple.2))) }
+    ensures first { IsSound A.format (A.content result.0) }
+    ensures second { IsSound B.format (B.content result.1) }
+    ensures third { IsSound C.format (C.content result.2) }
+    ensures tuple { result ≡ tuple }
+{
+    tuple
+}

@@ -42,7 +42,7 @@ pub fn same_bytes()
     ensures { (slices : List (List ℕ)) → ((i : ℕ) → AreBytes (slice_index_or slices i [])) → le_bytes (words slices) ≡ store_bytes slices }
 {}
 
-/// What is written has zeros between the slices and nothing behind them, and is the one such store.
+/// What is written has zeros between the slices and nothing after them, and is the one such store.
 pub fn one_tight_store()
     ensures written { (slices : List (List ℕ)) → 8 * length (words slices) < 2 ^ 64 → FramesTightly (store_bytes slices) slices }
     ensures one { (a b : List ℕ) (slices : List (List ℕ)) → AreBytes a → AreBytes b → FramesTightly a slices → FramesTightly b slices → a ≡ b }

@@ -9,7 +9,7 @@ use std::alloc::AllocError;
 use std::ops::DerefSlice;
 use std::rc::RcSlice;
 
-/// Shared bytes of an encoding: zeros between the slices, and nothing behind them. Only a `Stash` makes them.
+/// Shared bytes of an encoding: zeros between the slices, and nothing after them. Only a `Stash` makes them.
 #[derive(Drop)]
 pub struct AlignedBytes {
     shared: RcSlice<u8>,

@@ -163,7 +163,7 @@ impl<C: ContainerBytes, B: ByteStore> Stash<C, B> {
         }
     }
 
-    /// A stash of the bytes of the encoding, with zeros between the slices and nothing behind them, of the same rows.
+    /// A stash of the bytes of the encoding, with zeros between the slices and nothing after them, of the same rows.
     /// Refused with `Length` exactly where these bytes would pass 2^64 - 1.
     pub fn to_aligned(&self, alloc: Global) -> Result<Self, EncodeError>
         requires representable { IsTrue (representable C.format) }
@@ -200,7 +200,7 @@ impl<C: ContainerBytes + Drop, B: ByteStore> Stash<C, B> {
     ghost use Rattle.columnar_bytes.specs.StashLends.{ends_as};
     ghost use Rattle.columnar_bytes.specs.declared.stash.Stash.TheVariants.{Align};
 
-    /// The bytes of the encoding, with zeros between the slices and nothing behind them, which the stash then holds: bytes
+    /// The bytes of the encoding, with zeros between the slices and nothing after them, which the stash then holds: bytes
     /// of the same rows. Where it is of the variant `Align` it holds them already, and is never refused. Refused with
     /// `Length` exactly where these bytes would pass 2^64 - 1; a refusal leaves the stash as it was.
     pub fn make_aligned(&mut self, alloc: Global) -> Result<&Checked<C, AlignedBytes>, EncodeError>

@@ -8,7 +8,7 @@ use super::sliced::Sliced;
 use columnar_base::element::Primitive;
 use std::num::Wrapping;
 
-/// A number whose arrays stand in a slice one behind the other.
+/// A number whose arrays stand in a slice one after the other.
 pub trait SlicedArray<const N: usize>: Sliced + Primitive {
     /// The numbers of the arrays.
     fn flat(arrays: &[[Self; N]]) -> &[Self]

@@ -101,7 +101,7 @@ impl<T: Item, TC: Truncate + PushRef<T> + SameAs<T>> PushRef<T>
 }
 
 /// A front that is copied into a column without rows is copied as it stands. Of any other range the first row is
-/// pushed, and the inner rows behind it are copied, so that it stores at most one value more than the range does.
+/// pushed, and the inner rows after it are copied, so that it stores at most one value more than the range does.
 impl<'x, V: Index + Copy, TC: ExtendFrom<V> + Push<V::Ref> + SameAs<V::Ref>> ExtendFrom<
     Repeats<V, View<'x, u64>, View<'x, u64>, View<'x, u64>>,
 > for Repeats<TC, Vec<u64>, Vec<u64>, [u64; 2]> {

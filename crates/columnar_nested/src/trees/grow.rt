@@ -15,7 +15,7 @@ use columnar_base::traits::{Clear, Item, PushRef};
 use std::alloc::Global;
 use std::collections::VecDeque;
 
-// Where the kids of the next node end, if that number has 64 bits: behind it, the pending ones, and its kids.
+// Where the kids of the next node end, if that number has 64 bits: after it, the pending ones, and its kids.
 fn bound_of(start: usize, pending: usize, kids: usize) -> Option<u64>
     ensures some { IfSome result (λ b. b ≡ (start + pending + 1) + kids) }
     ensures none { IfNone result (2 ^ 64 ≤ (start + pending + 1) + kids) }

@@ -83,7 +83,7 @@ fn root_of<G: NodeBounds, V: Column, B: NodeBounds>(
     ensures tree { slice_get ((trees_format V.format).rows (both (slice (G.bytes groups.now)) (both (slice (B.bytes bounds)) (V.content values)))) index ≡ Some (⟦<TreesRef<V, B> as Item>⟧.meaning result) }
     ensures valid { ⟦<TreesRef<V, B> as Item>⟧.valid result }
 {
-    // There are fewer than 2^61 bounds, so the number behind a node's is one of 64 bits.
+    // There are fewer than 2^61 bounds, so the number after a node's is one of 64 bits.
     let _count = word_count(bounds.words());
     let root = groups.bound(index) as usize;
     TreesRef {

@@ -32,7 +32,7 @@ use std::ops::Range;
 pub struct Strides<BC = Vec<u64>, HC = [u64; 2]> {
     /// The stride, and how many offsets follow it.
     pub head: HC,
-    /// The offsets behind these.
+    /// The offsets after these.
     pub bounds: BC,
 }
 
@@ -101,7 +101,7 @@ impl Strides<Vec<u64>, [u64; 2]> {
         }
     }
 
-    /// Adds an offset. Where no bound stands behind the multiples, it joins them if it is the next, or the first, which
+    /// Adds an offset. Where no bound stands after the multiples, it joins them if it is the next, or the first, which
     /// is then the stride; else it goes to the bounds. An offset that joins the multiples takes no memory. Length is
     /// answered where there are 2^64 - 1 offsets. After a refusal nothing has changed.
     pub fn push(&mut self, item: u64) -> Result<(), GrowError>
@@ -190,7 +190,7 @@ impl Strides<Vec<u64>, [u64; 2]> {
     }
 }
 
-// Is an offset behind `length` multiples the next of them, or the first?
+// Is an offset after `length` multiples the next of them, or the first?
 fn follows(stride: u64, length: u64, item: u64) -> bool
     requires { length < 2 ^ 64 - 1 }
     ensures { result ≡ follows stride length item }

@@ -175,26 +175,6 @@ impl<A: OrderedRow> OrderedRow for (A,) {
     }
 }
 
-impl<A: OrderedRow, B: OrderedRow, C: OrderedRow> OrderedRow for (A, B, C) {
-    ghost row_input = { λ r. A.row_input (first_of r) ++ (B.row_input (first_of (second_of r)) ++ C.row_input (second_of (second_of r))) };
-
-    fn same_row(&self, other: &Self) -> bool {
-        self.0.same_row(&other.0) && self.1.same_row(&other.1) && self.2.same_row(&other.2)
-    }
-
-    fn compare_row(&self, other: &Self) -> Ordering {
-        let first = self.0.compare_row(&other.0);
-        let second = self.1.compare_row(&other.1);
-        first.then(second.then(self.2.compare_row(&other.2)))
-    }
-
-    fn hash_row<H: Hasher>(&self, state: &mut H) {
-        self.0.hash_row(state);
-        self.1.hash_row(state);
-        self.2.hash_row(state);
-    }
-}
-
 /// Its whole seconds, and then the nanoseconds besides.
 impl OrderedRow for Duration {
     ghost row_input = { λ r. fed.u64 (seconds_of r) ++ fed.u32 (nanos_of r) };

@@ -329,7 +329,7 @@ impl<'a, CC: Words, VC: Words, WC: Words> Cursor<'a, CC, VC, WC> {
         }
     }
 
-    /// The next set bit, at or behind the cursor, which then stands behind it. Where there is none, the cursor goes on
+    /// The next set bit, at or after the cursor, which then stands after it. Where there is none, the cursor goes on
     /// to the last word.
     pub fn next_one(&mut self) -> Option<usize>
         ensures bits { (self.new.bits ≡ self.old.bits) × (self.new.counts ≡ self.old.counts) }
@@ -341,7 +341,7 @@ impl<'a, CC: Words, VC: Words, WC: Words> Cursor<'a, CC, VC, WC> {
         self.next_one_tallied(&mut Tally::new())
     }
 
-    /// The next bit, and the cursor then stands behind it; None at the end.
+    /// The next bit, and the cursor then stands after it; None at the end.
     pub fn step(&mut self) -> Option<bool>
         ensures bits { (self.new.bits ≡ self.old.bits) × (self.new.counts ≡ self.old.counts) }
         ensures onward { self.old.pos ≤ self.new.pos }
@@ -352,7 +352,7 @@ impl<'a, CC: Words, VC: Words, WC: Words> Cursor<'a, CC, VC, WC> {
     }
 
     /// Goes forward to bit `target`, or to the end where there is no such bit. Is there one? Asks that the cursor does
-    /// not stand behind it.
+    /// not stand after it.
     pub fn seek_to_pos(&mut self, target: usize) -> bool
         requires { self.old.pos ≤ target }
         ensures bits { (self.new.bits ≡ self.old.bits) × (self.new.counts ≡ self.old.counts) }
@@ -364,7 +364,7 @@ impl<'a, CC: Words, VC: Words, WC: Words> Cursor<'a, CC, VC, WC> {
         self.seek_to_pos_tallied(target, &mut Tally::new())
     }
 
-    /// The set bit before which `rank` others are set, and the cursor then stands behind it; it stands at the end where
+    /// The set bit before which `rank` others are set, and the cursor then stands after it; it stands at the end where
     /// there is none. Asks that at most `rank` bits before the cursor are set.
     pub fn seek_to_rank(&mut self, rank: u64) -> Option<usize>
         requires { ones self.old.bits self.old.pos ≤ rank }

@@ -224,7 +224,7 @@ impl Reserve for Held {
     }
 }
 
-/// Memory is answered at most where the bit fills a word: where 63 bits stand behind the last full one.
+/// Memory is answered at most where the bit fills a word: where 63 bits stand after the last full one.
 impl Push<bool> for Held {
     fn push(&mut self, item: bool) -> Result<(), GrowError>
         requires sound { IsSound ranks_format (owned_ranks self.old) }

@@ -72,7 +72,7 @@ fn rows_are_copied_behind_the_same_values(rt: HostRuntime) -> Result<(), Fail> {
     Ok(())
 }
 
-// The source stored its last ten anew; behind the copied thirty it stands one back.
+// The source stored its last ten anew; after the copied thirty it stands one back.
 #[test]
 fn rows_are_copied_no_further_back(rt: HostRuntime) -> Result<(), Fail> {
     let source = numbers::<Two>(rt.alloc(), [10, 20, 10, 30, 10].as_slice())?;

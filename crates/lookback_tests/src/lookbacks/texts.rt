@@ -60,7 +60,7 @@ fn stored<const N: u8>(alloc: Global, rows: &[String]) -> Result<Option<usize>, 
     }
 }
 
-// Each comes again behind 299 others.
+// Each comes again after 299 others.
 #[test]
 fn names_that_come_again_in_their_order(rt: HostRuntime) -> Result<(), Fail> {
     let rows = names(rt.alloc(), 300, false)?;
@@ -69,7 +69,7 @@ fn names_that_come_again_in_their_order(rt: HostRuntime) -> Result<(), Fail> {
     Ok(())
 }
 
-// Of those that come again the first 255, or 3, are among the last values; each behind them is stored anew.
+// Of those that come again the first 255, or 3, are among the last values; each after them is stored anew.
 #[test]
 fn names_that_come_again_in_reverse(rt: HostRuntime) -> Result<(), Fail> {
     let rows = names(rt.alloc(), 300, true)?;

@@ -95,7 +95,7 @@ fn the_last_bit_of_a_word(rt: HostRuntime) -> Result<(), Fail> {
     Ok(())
 }
 
-// The rows (1, 10), (1, 10), (2, 20), and (3, 30) behind them
+// The rows (1, 10), (1, 10), (2, 20), and (3, 30) after them
 #[test]
 fn pairs_that_come_again(rt: HostRuntime) -> Result<(), Fail> {
     let alloc = rt.alloc();
@@ -115,7 +115,7 @@ fn pairs_that_come_again(rt: HostRuntime) -> Result<(), Fail> {
     Ok(())
 }
 
-// The rows "ab", "ab" and "cd", and "ef" behind them
+// The rows "ab", "ab" and "cd", and "ef" after them
 #[test]
 fn texts_that_come_again(rt: HostRuntime) -> Result<(), Fail> {
     let alloc = rt.alloc();

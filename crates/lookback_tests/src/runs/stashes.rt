@@ -66,12 +66,12 @@ impl RunStash {
         self.stash.push(item).is_ok()
     }
 
-    // Copies these rows of a column behind its own
+    // Copies these rows of a column after its own
     pub(crate) fn copies(&mut self, source: &Runs, start: usize, end: usize) -> bool {
         stash_copies(&mut self.stash, source.column.borrow(), start, end)
     }
 
-    // Copies these rows behind those of a column
+    // Copies these rows after those of a column
     pub(crate) fn is_copied(&self, column: &mut Runs, start: usize, end: usize) -> bool {
         copied(&mut column.column, self.stash.borrow(), start, end)
     }
@@ -169,12 +169,12 @@ impl BackStash {
         self.stash.push_ref(item).is_ok()
     }
 
-    // Copies these rows of a column behind its own
+    // Copies these rows of a column after its own
     pub(crate) fn copies(&mut self, source: &Backs, start: usize, end: usize) -> bool {
         stash_copies(&mut self.stash, source.column.borrow(), start, end)
     }
 
-    // Copies these rows behind those of a column
+    // Copies these rows after those of a column
     pub(crate) fn is_copied(&self, column: &mut Backs, start: usize, end: usize) -> bool {
         copied(&mut column.column, self.stash.borrow(), start, end)
     }

@@ -1,7 +1,7 @@
 // What each use prints, and with which status it ends, also where an output fails.
 use super::*;
 use columnar::{PushRef, Storage};
-use std::io::{Error, ErrorKind};
+use std::io::{self, Error};
 use std::test::Fail;
 
 static FIRST: &str = "16 24 7\nrows: 1\n";
@@ -50,10 +50,11 @@ impl Write for Brief {
     }
 }
 
-// What the words make of outputs that take so many bytes: the status, and what was taken
+// What the words make of outputs that take so many bytes: the status, whether all was heard, and what was taken
 #[derive(Drop)]
-struct Outcome {
+struct Printed {
     status: u8,
+    heard: bool,
     out: Vec<u8>,
     err: Vec<u8>,
 }
@@ -63,7 +64,7 @@ fn outcome_of(
     words: &[&str],
     out_limit: usize,
     err_limit: usize,
-) -> Result<Outcome, Fail> {
+) -> Result<Printed, Fail> {
     let alloc = rt.alloc();
     let mut owned = Vec::new(alloc);
     for word in words {
@@ -77,9 +78,10 @@ fn outcome_of(
         taken: Vec::new(alloc),
         limit: err_limit,
     };
-    let status = run_words(rt, alloc, owned.as_slice(), &mut out, &mut err);
-    Ok(Outcome {
-        status,
+    let ended = run_words(rt, alloc, owned.as_slice(), &mut out, &mut err);
+    Ok(Printed {
+        status: ended.outcome.status(),
+        heard: ended.heard,
         out: out.taken,
         err: err.taken,
     })
@@ -135,6 +137,7 @@ fn a_standard_output_that_fails_is_told(rt: HostRuntime) -> Result<(), Fail> {
     }
     let done = outcome_of(&rt, ["first"].as_slice(), text.len(), 0)?;
     assert_eq!(rt; done.status, 0);
+    assert!(rt; done.heard);
     Ok(())
 }
 
@@ -144,6 +147,7 @@ fn a_standard_error_that_fails_changes_no_status(rt: HostRuntime) -> Result<(), 
     for limit in 0..text.len() {
         let done = outcome_of(&rt, ["second"].as_slice(), 100, limit)?;
         assert_eq!(rt; done.status, 2);
+        assert!(rt; !done.heard);
         assert_eq!(rt; done.out.len(), 0);
         assert_eq!(rt; done.err.as_slice(), front(text, limit));
         let done = outcome_of(&rt, ["first"].as_slice(), 0, limit)?;
@@ -162,21 +166,6 @@ fn no_word_shows_the_roster(rt: HostRuntime) -> Result<(), Fail> {
     assert_eq!(rt; done.status, 1);
     assert_eq!(rt; done.err.as_slice(), CANNOT_WRITE.as_bytes());
     Ok(())
-}
-
-// What a check of these bytes prints, and its status
-fn judged(rt: &HostRuntime, bytes: &[u8]) -> Result<Outcome, Fail> {
-    let alloc = rt.alloc();
-    let mut out = Brief {
-        taken: Vec::new(alloc),
-        limit: 100,
-    };
-    let status = judge(alloc, bytes.to_vec(alloc)?, &mut out).unwrap_or(9);
-    Ok(Outcome {
-        status,
-        out: out.taken,
-        err: Vec::new(alloc),
-    })
 }
 
 // The words that start the roster's bytes: where its slices end
@@ -217,10 +206,13 @@ fn bytes_after(rt: &HostRuntime, words: &[u64], rest: &[u8]) -> Result<Vec<u8>, 
     Ok(bytes)
 }
 
-// Is this what a check of these bytes prints, with this status?
+// Is this what a check of these bytes answers, with this status?
 fn prints(rt: &HostRuntime, bytes: &[u8], status: u8, text: &str) -> Result<bool, Fail> {
-    let done = judged(rt, bytes)?;
-    Ok(done.status == status && done.out.as_slice() == text.as_bytes())
+    let alloc = rt.alloc();
+    let answer = judge::<Columns>(alloc, bytes.to_vec(alloc)?)
+        .ok()
+        .ok_or("no answer")?;
+    Ok(answer.status == status && answer.text.as_str() == text)
 }
 
 #[test]

@@ -130,7 +130,7 @@ fn push_of_kind_keeps(kinds: &mut Kinds, variant: u8, offset: u64) -> bool
     }
 }
 
-// The first row needs memory, and so does the first of another variant, and each behind it.
+// The first row needs memory, and so does the first of another variant, and each after it.
 #[test]
 fn pushes_of_variants(rt: HostRuntime) -> Result<(), Fail> {
     let mut kinds = Kinds::empty(rt.alloc());

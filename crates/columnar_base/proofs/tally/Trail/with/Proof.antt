@@ -1,4 +1,4 @@
--- `with` reads nothing of what it is passed. It makes a struct without bytes, at the earlier list with the number behind it.
+-- `with` reads nothing of what it is passed. It makes a struct without bytes, at the earlier list with the number after it.
 use Rattle.std.proofs.Common.{[], ◌∷◌, ◌++◌, refl, w64}
 use Rattle.std.proofs.raw_atomic.Walks.{proved}
 use mir.Syntax.{named}

@@ -1,0 +1,117 @@
+//! What the program tells, and why it fails.
+ghost use Rattle.std.specs.Prelude.{◌≡◌, IfOk, OnOk, OnErr, string_bytes};
+ghost use Rattle.std.specs.Io.KnownBytes.{Appends};
+ghost use Rattle.columnar.specs.Sent.{AppendsBeginning};
+ghost use Rattle.roster.specs.Told.{rows_line, refused_line, sum_line, words_line, failure_line, outcome_line, outcome_status};
+
+use columnar::bytes::WriteBytes;
+use std::alloc::{AllocError, Global};
+
+/// What answers a use of the program: the exit status, and the text for the output.
+#[derive(Drop)]
+pub struct Answer {
+    pub status: u8,
+    pub text: String,
+}
+
+/// Why a use was not done.
+#[derive(Clone, Copy)]
+pub enum Failure {
+    /// A request for memory was refused.
+    Memory,
+    /// A column would pass the lengths that it can have.
+    TooLong,
+    /// A file was not read.
+    Input,
+    /// The output, or a file, was not written.
+    Output,
+}
+
+impl Failure {
+    /// The line that is said of it.
+    pub fn line(self) -> &'static str
+        ensures { result.now ≡ failure_line self }
+    {
+        match self {
+            Failure::Memory => "failed: no memory\n",
+            Failure::TooLong => "failed: too long\n",
+            Failure::Input => "failed: cannot read\n",
+            Failure::Output => "failed: cannot write\n",
+        }
+    }
+}
+
+/// What became of a use of the program.
+#[derive(Clone, Copy)]
+pub enum Outcome {
+    /// It was done, with this status.
+    Done(u8),
+    /// It was not done.
+    Failed(Failure),
+    /// The words ask for nothing that the program does.
+    Misused,
+}
+
+impl Outcome {
+    /// What the error output is told of it; nothing of a use that was done.
+    pub fn line(self) -> &'static str
+        ensures { result.now ≡ outcome_line self }
+    {
+        match self {
+            Outcome::Done(_) => "",
+            Outcome::Failed(failure) => failure.line(),
+            Outcome::Misused => "usage: roster [first | write PATH | check PATH]\n",
+        }
+    }
+
+    /// The exit status: 1 for a failure, 2 for a misuse.
+    pub fn status(self) -> u8
+        ensures { result ≡ outcome_status self }
+    {
+        match self {
+            Outcome::Done(status) => status,
+            Outcome::Failed(_) => 1,
+            Outcome::Misused => 2,
+        }
+    }
+}
+
+/// Writes the text, whole; after a failure a beginning of it went out.
+pub fn put<O: WriteBytes>(out: &mut O, text: &str) -> Result<(), Failure>
+    ensures ok { OnOk result (Appends (O.contents out.old) (O.contents out.new) text.now) }
+    ensures err { OnErr result (AppendsBeginning (O.contents out.old) (O.contents out.new) text.now) }
+{
+    match out.write_all(text.as_bytes()) {
+        Ok(()) => Ok(()),
+        Err(_) => Err(Failure::Output),
+    }
+}
+
+/// The line that tells how many rows there are.
+pub fn tell_rows(alloc: Global, count: usize) -> Result<String, AllocError>
+    ensures { IfOk result (λ line. string_bytes line ≡ rows_line count) }
+{
+    format!(in alloc; "rows: {count}\n")
+}
+
+/// The line that tells which rule is broken first, and at which slice.
+pub fn tell_fault(alloc: Global, rule: u8, slice: usize) -> Result<String, AllocError>
+    ensures { IfOk result (λ line. string_bytes line ≡ refused_line rule slice) }
+{
+    format!(in alloc; "refused: {rule} in slice {slice}\n")
+}
+
+/// The numbers in one line, with a space between them.
+pub fn tell_words(alloc: Global, words: &[u64]) -> Result<String, AllocError>
+    ensures { IfOk result (λ line. string_bytes line ≡ words_line words.now) }
+{
+    let mut line = String::new(alloc);
+    if let Some((first, rest)) = words.split_first() {
+        write!(line, "{first}")?;
+        for word in rest {
+            write!(line, " {word}")?;
+        }
+    }
+    writeln!(line)?;
+    Ok(line)
+}

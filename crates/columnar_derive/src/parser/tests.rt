@@ -96,7 +96,8 @@ fn kind_of(alloc: Global, kind: &str) -> Result<String, Unread> {
     let text = format!(in alloc; "struct A {{ pub(crate) a: {kind}, }}")?;
     let tokens = tokens_of(alloc, text.as_str())?;
     let description = described(alloc, tokens.as_slice(), "A")?;
-    match description.body {
+    let Description { name: _name, body } = description;
+    match body {
         Body::Fields(mut fields) => match fields.pop() {
             Some(field) => Ok(field.kind),
             None => Err(Unread::Memory),

@@ -37,7 +37,7 @@ pub use columnar_lookback::lookbacks::Lookbacks;
 pub use columnar_lookback::repeats::Repeats;
 pub use columnar_lookback::same::SameAs;
 pub use columnar_own::push::PushParts;
-pub use columnar_own::rows::{MakeRow, OwnRows};
+pub use columnar_own::rows::{MakeRow, OwnRow, OwnRows};
 pub use columnar_strings::string::Strings;
 pub use columnar_sums::discriminant::Discriminant;
 pub use columnar_sums::option::Options;

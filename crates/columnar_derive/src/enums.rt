@@ -195,7 +195,6 @@ impl EnumPage {
         page.add_pushed_rows()?;
         page.add_owned()?;
         page.add_values_of_rows()?;
-        page.add_shorter_rows()?;
         let EnumPage { lines, .. } = page;
         Ok(lines.into_text())
     }
@@ -207,10 +206,8 @@ impl EnumPage {
             "//! Rows of `{own}`, as `columnar_derive` writes them.
 use super::*;
 use columnar::fault::{{GrowError, OwnError}};
-use columnar::own::{{Last, Nth, Variants}};
-use columnar::{{
-    Columnar, ContainerOf, FromRow, Item, MakeRow, OwnRows, Push, PushParts, ReborrowRef,
-}};
+use columnar::sums::variants::{{Last, Nth, Variants}};
+use columnar::{{Columnar, ContainerOf, FromRow, Item, MakeRow, OwnRow, OwnRows, Push, PushParts}};
 use std::alloc::Global;
 
 /// A column of values of `{own}`.
@@ -349,7 +346,6 @@ pub enum {row} {{"
         }
         let names = joined(self.alloc, names.as_slice(), ", ")?;
         let rows = if has_all { "Row" } else { "Row, unit" };
-        let place = self.place.as_str();
         let mut own = String::from_str(self.alloc, self.own.as_str())?;
         if is_row {
             own.push_str("Reference")?;
@@ -357,6 +353,7 @@ pub enum {row} {{"
         let module = if is_row { ".rows" } else { "" };
         let meaning = self.clauses(is_row, false)?;
         let valid = self.clauses(is_row, true)?;
+        let place = self.place.as_str();
         let text = format!(in self.alloc;
             "    ghost use Rattle.columnar.specs.Row.{{{rows}}};
     ghost use Rattle.columnar.specs.Variants.{{case}};
@@ -381,13 +378,10 @@ pub enum {row} {{"
         after: &str,
     ) -> Result<(), AllocError> {
         let mut params = Vec::new(self.alloc);
-        if more.starts_with('\'') {
-            keep(&mut params, String::from_str(self.alloc, more)?)?;
-        }
         for param in &self.params {
             keep(&mut params, format!(in self.alloc; "{param}: {bound}")?)?;
         }
-        if !more.is_empty() && !more.starts_with('\'') {
+        if !more.is_empty() {
             keep(&mut params, String::from_str(self.alloc, more)?)?;
         }
         let (trait_name, argument) = of;
@@ -417,13 +411,7 @@ pub enum {row} {{"
     fn add_made_rows(&mut self) -> Result<(), AllocError> {
         let own = String::from_str(self.alloc, self.own.as_str())?;
         let rows = format!(in self.alloc; "Rows{}", self.angles)?;
-        self.add_header(
-            "Copy + Item",
-            "",
-            ("MakeRow", rows.as_str()),
-            own.as_str(),
-            " {",
-        )?;
+        self.add_header("Item", "", ("MakeRow", rows.as_str()), own.as_str(), " {")?;
         let row = self.row.as_str();
         let begun = format!(in self.alloc;
             "    type Row = {row};
@@ -608,7 +596,7 @@ pub enum {row} {{"
     // How values are made of rows
     fn add_values_of_rows(&mut self) -> Result<(), AllocError> {
         let own = String::from_str(self.alloc, self.own.as_str())?;
-        let row = String::from_str(self.alloc, self.row.as_str())?;
+        let row = format!(in self.alloc; "OwnRow<Rows{}, {own}>", self.angles)?;
         let after = if self.params.is_empty() { " {" } else { "" };
         self.add_header("Item", "", ("FromRow", row.as_str()), own.as_str(), after)?;
         if !self.params.is_empty() {
@@ -639,7 +627,7 @@ pub enum {row} {{"
             ") -> Result<Self, OwnError> {",
             WIDTH,
         )?;
-        self.lines.add("        match row {")?;
+        self.lines.add("        match row.show() {")?;
         for case in &self.cases {
             let pattern = case.of(self.alloc, self.row_name.as_str(), "a")?;
             let name = case.name.as_str();
@@ -679,47 +667,6 @@ pub enum {row} {{"
                 )?;
             }
             self.lines.add("            }")?;
-        }
-        self.lines.add("        }\n    }\n}\n")
-    }
-
-    // The same rows for a shorter time
-    fn add_shorter_rows(&mut self) -> Result<(), AllocError> {
-        let row = String::from_str(self.alloc, self.row.as_str())?;
-        self.add_header(
-            "ReborrowRef<'b>",
-            "'b",
-            ("ReborrowRef", "'b"),
-            row.as_str(),
-            " {",
-        )?;
-        let row_name = self.row_name.as_str();
-        if self.params.is_empty() {
-            let line = format!(in self.alloc; "    type ShortRef = {row_name};")?;
-            self.lines.add(line.as_str())?;
-        } else {
-            let short = each(self.alloc, self.params.as_slice(), "", "::ShortRef")?;
-            let before = format!(in self.alloc; "type ShortRef = {row_name}<")?;
-            self.lines
-                .add_list("    ", before.as_str(), short.as_slice(), ">;", WIDTH)?;
-        }
-        self.lines.add("\n    fn reborrow_ref(self) -> Self::ShortRef {\n        match self {")?;
-        for case in &self.cases {
-            let pattern = case.of(self.alloc, row_name, "a")?;
-            let name = case.name.as_str();
-            if case.has_value() {
-                let function = format!(in self.alloc; "{row_name}::{name}")?;
-                self.lines.add_arm(&Arm {
-                    indent: "            ",
-                    pattern: pattern.as_str(),
-                    fields: &[],
-                    function: function.as_str(),
-                    argument: "a.reborrow_ref()",
-                })?;
-            } else {
-                let pattern = pattern.as_str();
-                self.lines.add_path_arm("            ", pattern, pattern)?;
-            }
         }
         self.lines.add("        }\n    }\n}")
     }

@@ -51,7 +51,6 @@ impl Page {
         page.add_made_rows()?;
         page.add_pushes()?;
         page.add_owned()?;
-        page.add_shorter_rows()?;
         let Page { lines, .. } = page;
         Ok(lines.into_text())
     }
@@ -64,9 +63,7 @@ impl Page {
             "//! Rows of `{own}`, as `columnar_derive` writes them.
 use super::*;
 use columnar::fault::{{GrowError, OwnError}};
-use columnar::{{
-    Columnar, ContainerOf, FromRow, Item, MakeRow, OwnRows, Push, PushParts, ReborrowRef,
-}};
+use columnar::{{Columnar, ContainerOf, FromRow, Item, MakeRow, OwnRow, OwnRows, Push, PushParts}};
 use std::alloc::Global;
 
 /// A column of values of `{own}`.
@@ -150,7 +147,7 @@ pub struct {row} {{"
 
     // How rows are made of the rows of the parts
     fn add_made_rows(&mut self) -> Result<(), AllocError> {
-        let params = each(self.alloc, self.params.as_slice(), "", ": Copy + Item")?;
+        let params = each(self.alloc, self.params.as_slice(), "", ": Item")?;
         self.lines.add_header(&Header {
             params: params.as_slice(),
             trait_name: "MakeRow",
@@ -214,74 +211,19 @@ pub struct {row} {{"
 }}
 "
         )?;
-        let bounds = format!(in self.alloc;
-            "where
-    Parts: FromRow<{tuple}>,
-{{"
+        let from_row = format!(in self.alloc;
+            "impl<R: Item> FromRow<OwnRow<R, {own}>> for {own}
+where
+    Parts: FromRow<R>,
+{{
+    fn from_row(alloc: Global, row: OwnRow<R, {own}>) -> Result<Self, OwnError> {{
+        let parts = Parts::from_row(alloc, row.parts)?;"
         )?;
         self.lines.add(columnar.as_str())?;
-        let params = each(self.alloc, self.params.as_slice(), "", ": Item")?;
-        self.lines.add_header(&Header {
-            params: params.as_slice(),
-            trait_name: "FromRow",
-            of: &[String::from_str(self.alloc, self.row.as_str())?],
-            own: self.own.as_str(),
-            after: "",
-        })?;
-        self.lines.add(bounds.as_str())?;
-        let mut of = Vec::new(self.alloc);
-        keep(&mut of, String::from_str(self.alloc, "alloc: Global")?)?;
-        keep(&mut of, format!(in self.alloc; "row: {}", self.row)?)?;
-        self.lines.add_list(
-            "    ",
-            "fn from_row(",
-            of.as_slice(),
-            ") -> Result<Self, OwnError> {",
-            WIDTH,
-        )?;
-        let read = each(self.alloc, self.fields.as_slice(), "row.", "")?;
-        self.lines
-            .add_values("        ", "let row = ", read.as_slice(), ";")?;
-        self.lines
-            .add("        let parts = Parts::from_row(alloc, row)?;")?;
+        self.lines.add(from_row.as_str())?;
         let made = format!(in self.alloc; "Ok({} ", self.own)?;
         let parts = self.parts_of("parts")?;
         self.add_struct(made.as_str(), parts.as_slice(), ")")?;
-        self.lines.add("    }\n}\n")
-    }
-
-    // The same rows for a shorter time
-    fn add_shorter_rows(&mut self) -> Result<(), AllocError> {
-        let own = self.own.as_str();
-        let name = format!(in self.alloc; "{own}Reference ")?;
-        let row = format!(in self.alloc; "type ShortRef = {own}Reference<")?;
-        let mut params = Vec::new(self.alloc);
-        keep(&mut params, String::from_str(self.alloc, "'b")?)?;
-        for param in &self.params {
-            keep(
-                &mut params,
-                format!(in self.alloc; "{param}: ReborrowRef<'b>")?,
-            )?;
-        }
-        self.lines.add_header(&Header {
-            params: params.as_slice(),
-            trait_name: "ReborrowRef",
-            of: &[String::from_str(self.alloc, "'b")?],
-            own: self.row.as_str(),
-            after: " {",
-        })?;
-        let short = each(self.alloc, self.params.as_slice(), "", "::ShortRef")?;
-        self.lines
-            .add_list("    ", row.as_str(), short.as_slice(), ">;", WIDTH)?;
-        self.lines
-            .add("\n    fn reborrow_ref(self) -> Self::ShortRef {")?;
-        let values = each(
-            self.alloc,
-            self.fields.as_slice(),
-            "self.",
-            ".reborrow_ref()",
-        )?;
-        self.add_struct(name.as_str(), values.as_slice(), "")?;
         self.lines.add("    }\n}")
     }
 }

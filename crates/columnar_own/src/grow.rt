@@ -1,10 +1,9 @@
 //! How a column of one's own grows, is cut and is borrowed: as its parts.
-use crate::push::PushParts;
-use crate::rows::{MakeRow, OwnRows};
+use crate::rows::{OwnRow, OwnRows};
 use columnar_base::fault::GrowError;
 use columnar_base::traits::{Clear, Column};
 use columnar_core::container::{
-    Borrow, Container, ExtendFrom, Named, Reborrow, Reserve, Storage, Truncate,
+    Borrow, Container, ExtendFrom, Reborrow, ReborrowRef, Reserve, Storage, Truncate,
 };
 use std::alloc::Global;
 use std::ops::Range;
@@ -59,12 +58,12 @@ impl<V: Column + Copy, P: ExtendFrom<V>, K> ExtendFrom<OwnRows<V, K>> for OwnRow
     }
 }
 
-impl<'a, P: Borrow<'a>, K: MakeRow<<P as Borrow<'a>>::Ref>> Borrow<'a> for OwnRows<P, K> {
-    type Ref = K::Row;
+impl<'a, P: Borrow<'a>, K> Borrow<'a> for OwnRows<P, K> {
+    type Ref = OwnRow<<P as Borrow<'a>>::Ref, K>;
 
     type Borrowed = OwnRows<P::Borrowed, K>;
 
-    type Parts = Named<<P as Borrow<'a>>::Ref, P::Parts>;
+    type Parts = P::Parts;
 
     ghost same_format = { P.same_format };
 
@@ -73,8 +72,7 @@ impl<'a, P: Borrow<'a>, K: MakeRow<<P as Borrow<'a>>::Ref>> Borrow<'a> for OwnRo
     }
 }
 
-impl<'a, P: Container<'a>, K: MakeRow<<P as Borrow<'a>>::Ref, Row: PushParts<P>>> Container<'a>
-    for OwnRows<P, K> {}
+impl<'a, P: Container<'a>, K> Container<'a> for OwnRows<P, K> {}
 
 impl<'b, P: Reborrow<'b>, K> Reborrow<'b> for OwnRows<P, K> {
     type Short = OwnRows<P::Short, K>;
@@ -83,5 +81,13 @@ impl<'b, P: Reborrow<'b>, K> Reborrow<'b> for OwnRows<P, K> {
 
     fn reborrow(self) -> OwnRows<P::Short, K> {
         OwnRows::new(self.parts.reborrow())
+    }
+}
+
+impl<'b, R: ReborrowRef<'b>, K> ReborrowRef<'b> for OwnRow<R, K> {
+    type ShortRef = OwnRow<R::ShortRef, K>;
+
+    fn reborrow_ref(self) -> OwnRow<R::ShortRef, K> {
+        OwnRow::new(self.parts.reborrow_ref())
     }
 }

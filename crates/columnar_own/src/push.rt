@@ -3,7 +3,7 @@ ghost use Rattle.std.specs.Prelude.{[], ◌∷◌, OnOk, IfErr};
 ghost use Rattle.columnar_base.specs.Format.{IsSound};
 ghost use Rattle.columnar_base.specs.Change.{Took, Refused};
 
-use crate::rows::OwnRows;
+use crate::rows::{OwnRow, OwnRows};
 use columnar_base::fault::GrowError;
 use columnar_base::traits::{Column, Item, Push, PushRef};
 
@@ -20,6 +20,12 @@ pub trait PushParts<P: Column>: Item {
 impl<'x, T: PushParts<P>, P: Column> PushParts<P> for &'x T {
     fn push_parts(&self, parts: &mut P) -> Result<(), GrowError> {
         (**self).push_parts(parts)
+    }
+}
+
+impl<R: Copy + Item, P: Push<R>, K> PushParts<P> for OwnRow<R, K> {
+    fn push_parts(&self, parts: &mut P) -> Result<(), GrowError> {
+        parts.push(self.parts)
     }
 }
 

@@ -4,17 +4,55 @@ ghost use Rattle.std.specs.Prelude.{◌≡◌};
 use columnar_base::traits::{Column, Index, Item, Len};
 use std::marker::PhantomData;
 
-/// Which rows of one's own stand for rows of the parts. It is implemented for the type whose values are kept, once for
-/// rows that are read as `R`.
+/// How a type whose values are kept shows rows of what they are made of, which are read as `R`.
 pub trait MakeRow<R: Item> {
-    /// What stands for a row.
-    type Row: Copy + Item;
+    /// What stands for a row, with the parts by their names.
+    type Row: Item;
 
     /// A row of the parts, as a row of one's own, which means the same.
     fn make_row(row: R) -> Self::Row
         requires { R.valid row }
         ensures row { Self.Row.meaning result ≡ R.meaning row }
         ensures valid { Self.Row.valid result };
+}
+
+/// A row of a column of values of the type `K`: a row of what they are made of.
+#[derive(Drop)]
+#[derive_where(Clone, Copy, PartialEq; R)]
+pub struct OwnRow<R, K> {
+    /// The row of what the values are made of.
+    pub parts: R,
+    kind: PhantomData<K>,
+}
+
+impl<R, K> OwnRow<R, K> {
+    /// The row of these parts.
+    pub fn new(parts: R) -> OwnRow<R, K>
+        ensures { result.parts ≡ parts }
+    {
+        OwnRow {
+            parts,
+            kind: PhantomData,
+        }
+    }
+}
+
+impl<R: Item, K: MakeRow<R>> OwnRow<R, K> {
+    /// The row with its parts by their names, as the type shows it.
+    pub fn show(self) -> K::Row
+        requires { R.valid self.parts }
+        ensures row { K.Row.meaning result ≡ R.meaning self.parts }
+        ensures valid { K.Row.valid result }
+    {
+        K::make_row(self.parts)
+    }
+}
+
+/// As a row, it is that of its parts.
+impl<R: Item, K> Item for OwnRow<R, K> {
+    ghost meaning = { λ r. R.meaning r.parts };
+
+    ghost valid = { λ r. R.valid r.parts };
 }
 
 /// A column of values of one's own, of the type `K`, or a view of one: it is kept in a column of what they are made of, with
@@ -51,24 +89,24 @@ impl<P: Len, K> Len for OwnRows<P, K> {
     }
 }
 
-impl<P: Index, K: MakeRow<P::Ref>> Index for OwnRows<P, K> {
-    type Ref = K::Row;
+impl<P: Index, K> Index for OwnRows<P, K> {
+    type Ref = OwnRow<P::Ref, K>;
 
-    fn get(&self, index: usize) -> K::Row {
-        K::make_row(self.parts.get(index))
+    fn get(&self, index: usize) -> OwnRow<P::Ref, K> {
+        OwnRow::new(self.parts.get(index))
     }
 }
 
 /// Rows are read through a reference as those of the parts are through one.
-impl<'x, P: Column, K: MakeRow<<&'x P as Index>::Ref>> Index for &'x OwnRows<P, K>
+impl<'x, P: Column, K> Index for &'x OwnRows<P, K>
 where
     &'x P: Index,
 {
-    type Ref = <K as MakeRow<<&'x P as Index>::Ref>>::Row;
+    type Ref = OwnRow<<&'x P as Index>::Ref, K>;
 
-    fn get(&self, index: usize) -> <K as MakeRow<<&'x P as Index>::Ref>>::Row {
+    fn get(&self, index: usize) -> OwnRow<<&'x P as Index>::Ref, K> {
         let column: &'x OwnRows<P, K> = *self;
         let parts: &'x P = &column.parts;
-        K::make_row(parts.get(index))
+        OwnRow::new(parts.get(index))
     }
 }

@@ -87,7 +87,8 @@ impl Visits {
 
     /// Prints each visit on a line: when, how long the name is, how many pages were seen, and whether there is a note.
     pub fn print<O: Write>(&self, out: &mut O) -> io::Result<()> {
-        for visit in self.stash.borrow().into_index_iter() {
+        for row in self.stash.borrow().into_index_iter() {
+            let visit = row.show();
             let (user, pages) = (visit.user.len(), visit.pages.len());
             let noted = visit.note.is_some();
             writeln!(out, "{} {user} {pages} {} {noted}", visit.time, visit.level)?;

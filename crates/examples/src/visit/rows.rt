@@ -1,9 +1,7 @@
 //! Rows of `Visit`, as `columnar_derive` writes them.
 use super::*;
 use columnar::fault::{GrowError, OwnError};
-use columnar::{
-    Columnar, ContainerOf, FromRow, Item, MakeRow, OwnRows, Push, PushParts, ReborrowRef,
-};
+use columnar::{Columnar, ContainerOf, FromRow, Item, MakeRow, OwnRow, OwnRows, Push, PushParts};
 use std::alloc::Global;
 
 /// A column of values of `Visit`.
@@ -34,9 +32,7 @@ impl<A: Item, B: Item, C: Item, D: Item, E: Item> Item for VisitReference<A, B, 
     ghost valid = { λ e. ⟦<(A, B, C, D, E) as Item>⟧.valid (e.time, e.user, e.pages, e.level, e.note) };
 }
 
-impl<A: Copy + Item, B: Copy + Item, C: Copy + Item, D: Copy + Item, E: Copy + Item> MakeRow<
-    (A, B, C, D, E),
-> for Visit {
+impl<A: Item, B: Item, C: Item, D: Item, E: Item> MakeRow<(A, B, C, D, E)> for Visit {
     type Row = VisitReference<A, B, C, D, E>;
 
     fn make_row(row: (A, B, C, D, E)) -> Self::Row {
@@ -75,13 +71,12 @@ impl Columnar for Visit {
     type Container = OwnRows<ContainerOf<Parts>, Visit>;
 }
 
-impl<A: Item, B: Item, C: Item, D: Item, E: Item> FromRow<VisitReference<A, B, C, D, E>> for Visit
+impl<R: Item> FromRow<OwnRow<R, Visit>> for Visit
 where
-    Parts: FromRow<(A, B, C, D, E)>,
+    Parts: FromRow<R>,
 {
-    fn from_row(alloc: Global, row: VisitReference<A, B, C, D, E>) -> Result<Self, OwnError> {
-        let row = (row.time, row.user, row.pages, row.level, row.note);
-        let parts = Parts::from_row(alloc, row)?;
+    fn from_row(alloc: Global, row: OwnRow<R, Visit>) -> Result<Self, OwnError> {
+        let parts = Parts::from_row(alloc, row.parts)?;
         Ok(Visit {
             time: parts.0,
             user: parts.1,
@@ -89,26 +84,5 @@ where
             level: parts.3,
             note: parts.4,
         })
-    }
-}
-
-impl<
-    'b,
-    A: ReborrowRef<'b>,
-    B: ReborrowRef<'b>,
-    C: ReborrowRef<'b>,
-    D: ReborrowRef<'b>,
-    E: ReborrowRef<'b>,
-> ReborrowRef<'b> for VisitReference<A, B, C, D, E> {
-    type ShortRef = VisitReference<A::ShortRef, B::ShortRef, C::ShortRef, D::ShortRef, E::ShortRef>;
-
-    fn reborrow_ref(self) -> Self::ShortRef {
-        VisitReference {
-            time: self.time.reborrow_ref(),
-            user: self.user.reborrow_ref(),
-            pages: self.pages.reborrow_ref(),
-            level: self.level.reborrow_ref(),
-            note: self.note.reborrow_ref(),
-        }
     }
 }

@@ -44,7 +44,10 @@ pub use Rattle.columnar_nested.specs.NodeRefs
 pub use Rattle.columnar_nested.specs.Refs
 pub use Rattle.columnar_lists.specs.Lists
 pub use Rattle.columnar_lists.specs.Cut
+pub use Rattle.columnar_lists.specs.Walks
+pub use Rattle.columnar_lists.specs.WalksLeft
 pub use Rattle.columnar_strings.specs.Strings
+pub use Rattle.columnar_strings.specs.StringWalks
 pub use Rattle.columnar_bytes.specs.Machine
 pub use Rattle.columnar_bytes.specs.States
 pub use Rattle.columnar_bytes.specs.Written
@@ -91,6 +94,12 @@ pub use Rattle.columnar_sums.specs.Marked
 pub use Rattle.columnar_variants.specs.Cases
 pub use Rattle.columnar_variants.specs.VariantBytes
 pub use Rattle.columnar_variants.specs.VariantCounts
+pub use Rattle.columnar_variants.specs.Nths
+pub use Rattle.columnar_variants.specs.BankCases
+pub use Rattle.columnar_variants.specs.BankCopies
+pub use Rattle.columnar_variants.specs.BankEarlier
+pub use Rattle.columnar_variants.specs.VariantCopies
+pub use Rattle.columnar_variants.specs.VariantRows
 pub use Rattle.columnar_cells.specs.BitLaws
 pub use Rattle.columnar_lookback.specs.Lookbacks
 pub use Rattle.columnar_lookback.specs.Recall

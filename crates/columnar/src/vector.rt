@@ -1,3 +1,4 @@
 //! Lists of rows.
 
 pub use columnar_lists::vector::Vecs;
+pub use columnar_lists::walk::{ListIter, Ranges};

@@ -1,5 +1,7 @@
 //! Rows in boxes: a column of them is a column of what the boxes hold, with the same slices and the same rows.
 ghost use Rattle.std.specs.Prelude.{◌≡◌};
+ghost use Rattle.std.specs.Borrow.{sem, Lends};
+ghost use Rattle.columnar_core.specs.contracts.boxed.Boxed.{the_row};
 
 use crate::byte_slice::ByteSlice;
 use crate::bytes::{AsBytes, Check, FromBytes, Stored};
@@ -57,7 +59,11 @@ impl<T> Deref for Boxed<T> {
 impl<T> DerefMut for Boxed<T> {
     ghost deref_mut_gives = { λ b x. x ≡ b.0 };
 
-    fn deref_mut(&mut self) -> &mut T {
+    /// What it holds; what is written there is what the box then holds.
+    fn deref_mut(&mut self) -> &mut T
+        ensures* writes_back { sem 𝓛 (Lends (the_row T.row) T.row self.entry result (λ x. record { 0 = x })) }
+        ensures value { result.now ≡ self.old.0 }
+    {
         &mut self.0
     }
 }

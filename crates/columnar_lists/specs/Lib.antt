@@ -6,3 +6,5 @@ pub mod Cut
 pub mod CutIs
 pub mod EarlierLists
 pub mod Walks
+pub mod WalksLeft
+pub mod WalkLaws

@@ -98,7 +98,7 @@ where
 }
 
 impl<TC: Column, BC: Offsets> Vecs<TC, BC> {
-    ghost use Rattle.columnar_lists.specs.Walks.{lists_left};
+    ghost use Rattle.columnar_lists.specs.WalksLeft.{lists_left};
 
     /// The lists in their order, read through a reference; each is found from where the one before it ends.
     pub fn index_iter<'x>(&'x self) -> ListIter<&'x TC, &'x BC>

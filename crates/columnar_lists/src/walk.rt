@@ -1,6 +1,6 @@
 //! Lists one after another: where each ends is found from where the one before it ends. So a walk over lists looks for no
 //! offset, also where the offsets are in unary.
-ghost use Rattle.std.specs.Prelude.{◌≡◌, ◌+◌, ◌∷◌, length, drop, slice_get, Some, IfSome, IfNone};
+ghost use Rattle.std.specs.Prelude.{◌≡◌, ◌+◌, ◌-◌, ◌∷◌, length, slice_get, Some, IfSome, IfNone};
 ghost use Rattle.columnar_base.specs.Row.{number};
 ghost use Rattle.columnar_base.specs.Format.{both, IsSound};
 ghost use Rattle.columnar_core.specs.Bounds.{numbers};
@@ -72,7 +72,7 @@ pub struct ListIter<V: Column, W: Column> {
 }
 
 impl<V: Column, W: Offsets> ListIter<V, W> {
-    ghost use Rattle.columnar_lists.specs.Walks.{lists_left};
+    ghost use Rattle.columnar_lists.specs.WalksLeft.{lists_left};
 
     /// All lists. Asks that the column of these parts is well formed.
     pub fn new(bounds: W, values: V) -> Self
@@ -90,7 +90,7 @@ impl<V: Column, W: Offsets> ListIter<V, W> {
 
 impl<V: Index + Copy, W: Offsets + Drop> Iterator for ListIter<V, W> {
     ghost use Rattle.columnar_base.specs.RowsLeft.{GivesRow};
-    ghost use Rattle.columnar_lists.specs.Walks.{lists_left};
+    ghost use Rattle.columnar_lists.specs.WalksLeft.{lists_left};
     ghost use Rattle.std.specs.Iterator.{item_count, UpTo};
     ghost use Rattle.std.specs.Iterator.SizeHint.{IsWithinCount};
 
@@ -102,7 +102,9 @@ impl<V: Index + Copy, W: Offsets + Drop> Iterator for ListIter<V, W> {
 
     /// The next list; `None` once all were given, and from then on.
     fn next(&mut self) -> Option<Slice<V>> {
-        let (lower, upper) = self.ranges.next(&self.bounds)?;
+        let Some((lower, upper)) = self.ranges.next(&self.bounds) else {
+            return None;
+        };
         Some(Slice {
             lower,
             upper,

@@ -1,3 +1,4 @@
 pub mod Strings
 pub mod StringLaws
 pub mod StringWalks
+pub mod StringWalkLaws

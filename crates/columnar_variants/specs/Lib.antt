@@ -15,3 +15,13 @@ pub mod Duals
 pub mod DualLaws
 pub mod DualCopies
 pub mod DualEarlier
+pub mod Nths
+pub mod BankLaws
+pub mod BankCases
+pub mod BankCopies
+pub mod BankCaseLaws
+pub mod BankChanges
+pub mod BankBytes
+pub mod BankCopyLaws
+pub mod BankEarlier
+pub mod FrontLaws

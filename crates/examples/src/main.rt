@@ -6,6 +6,7 @@ mod level;
 mod log;
 mod report;
 mod spans;
+mod visit;
 
 use columnar::bytes::stash::{Command, Stash};
 use columnar::fault::GrowError;
@@ -17,6 +18,7 @@ use spans::{Span, Spans};
 use std::alloc::{AllocError, Global};
 use std::io::{self, Write};
 use std::process::ExitCode;
+use visit::{Visit, Visits};
 
 // Why the example did not come to its end
 #[derive(Clone, Copy)]
@@ -58,7 +60,8 @@ fn shown<O: Write>(alloc: Global, out: &mut O) -> Result<(), Failure> {
     events(alloc, out)?;
     levels(alloc, out)?;
     times(alloc, out)?;
-    pages(alloc, out)
+    pages(alloc, out)?;
+    visits(alloc, out)
 }
 
 // A column of values of one's own type.
@@ -107,6 +110,38 @@ fn pages<O: Write>(alloc: Global, out: &mut O) -> Result<(), Failure> {
     };
     writeln!(out, "{} {}", opened.raise(1)?, opened.raise(2)?)?;
     opened.print(out)?;
+    Ok(())
+}
+
+fn two_pages(alloc: Global) -> Result<Vec<String>, AllocError> {
+    let first = String::from_str(alloc, "/index")?;
+    let second = String::from_str(alloc, "/about")?;
+    Ok(vec![in alloc; first, second]?)
+}
+
+// Values of a struct of one's own, kept field by field.
+fn visits<O: Write>(alloc: Global, out: &mut O) -> Result<(), Failure> {
+    let mut visits = Visits::new(alloc);
+    let pages = two_pages(alloc)?;
+    visits.add_parts(12, "ada", pages.as_slice())?;
+    visits.add(&Visit {
+        time: 20,
+        user: String::from_str(alloc, "bobby")?,
+        pages,
+        level: 3,
+        note: Some(String::from_str(alloc, "late")?),
+    })?;
+    let Some(bytes) = visits.written(alloc) else {
+        return Err(Failure::Growth);
+    };
+    let Ok(opened) = Visits::open(alloc, bytes) else {
+        return Err(Failure::Growth);
+    };
+    opened.print(out)?;
+    writeln!(out, "times: {}", opened.time())?;
+    if let Some(Ok(visit)) = opened.visit(alloc, 1) {
+        writeln!(out, "{} saw {} pages", visit.user, visit.pages.len())?;
+    }
     Ok(())
 }
 

@@ -5,6 +5,8 @@
 #[cfg(test)]
 mod claims;
 #[cfg(test)]
+mod earlier;
+#[cfg(test)]
 mod refused;
 #[cfg(test)]
 mod stashes;

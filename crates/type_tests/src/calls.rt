@@ -3,7 +3,7 @@ ghost use Rattle.std.specs.Prelude.{All, IsTrue};
 ghost use Rattle.columnar.specs.Format.{representable};
 
 use columnar::bytes::stash::Stash;
-use columnar::fault::OwnError;
+use columnar::fault::{GrowError, OwnError};
 use columnar::{
     Borrow, Columnar, ContainerBytes, ContainerOf, FromRow, Index, Item, Len, PushRef, Ref, Storage,
 };
@@ -64,6 +64,52 @@ where
         }
     }
     true
+}
+
+/// What became of items that were made a column and were to come back.
+#[derive(Clone, Copy, Debug, PartialEq, Eq)]
+pub enum Outcome {
+    /// The same items came back.
+    Same,
+    /// Others did, or the refusal was none for want of memory.
+    Other,
+    /// Memory was refused.
+    NoMemory,
+}
+
+/// As `come_back`, where memory may be refused.
+pub fn come_back_or_lack_memory<'a, T: FromRow<Ref<'a, T>> + PartialEq>(
+    alloc: Global,
+    slot: &'a mut Option<ContainerOf<T>>,
+    items: &[T],
+) -> Outcome
+where
+    T::Container: Storage + PushRef<T> + Borrow<'a>,
+    requires { All T.valid items.now }
+{
+    let column = match T::as_columns(alloc, items.iter()) {
+        Ok(column) => column,
+        Err(GrowError::Memory) => return Outcome::NoMemory,
+        Err(_) => return Outcome::Other,
+    };
+    let column: &'a ContainerOf<T> = slot.insert(column);
+    let view = column.borrow();
+    for index in 0..items.len().min(view.len()) {
+        match T::into_owned(alloc, view.get(index)) {
+            Ok(value) => {
+                if value != items[index] {
+                    return Outcome::Other;
+                }
+            }
+            Err(OwnError::Memory) => return Outcome::NoMemory,
+            Err(_) => return Outcome::Other,
+        }
+    }
+    if view.len() == items.len() {
+        Outcome::Same
+    } else {
+        Outcome::Other
+    }
 }
 
 /// Why a row has no value of the type, if it has none

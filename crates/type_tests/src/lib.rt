@@ -7,6 +7,8 @@ mod claims;
 #[cfg(test)]
 mod owned;
 #[cfg(test)]
+mod refused;
+#[cfg(test)]
 mod stores;
 #[cfg(test)]
 mod types;

@@ -1,7 +1,17 @@
 //! What a column of a sum type of one's own is made of: the variants of its rows, and the values of each variant in a column of
 //! their own. With two variants, each trait of a container is one call of these.
 
+pub use columnar_variants::bank::bytes::{
+    AsBytesBank, BytesBank, CheckBank, FromBytesBank, StoredBank,
+};
+pub use columnar_variants::bank::copy::ExtendBank;
+pub use columnar_variants::bank::earlier::EarlierBank;
+pub use columnar_variants::bank::grow::{ClearBank, CutBank, ReserveBank, StorageBank};
+pub use columnar_variants::bank::owned::{BorrowBank, ReborrowBank};
+pub use columnar_variants::bank::push::{PushCase, PushCaseRef};
+pub use columnar_variants::bank::{ColumnBank, IndexBank, LenBank};
 pub use columnar_variants::case::{push_case, push_ref_case, rows_before};
+pub use columnar_variants::cases::{Cases, Last, Nth};
 pub use columnar_variants::copy::extend_variants;
 pub use columnar_variants::count::{count_variants, judge_counts};
 pub use columnar_variants::dual::bytes::{
@@ -14,4 +24,7 @@ pub use columnar_variants::dual::{
     get_dual, len_of_dual, push_first, push_first_ref, push_second, push_second_ref, reserve_dual,
     truncate_dual,
 };
+pub use columnar_variants::fronts::{count_rows, fronts};
 pub use columnar_variants::run::push_variants;
+pub use columnar_variants::variants::Variants;
+pub use columnar_variants::variants::owned::ReborrowCases;

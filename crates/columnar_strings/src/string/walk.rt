@@ -1,5 +1,5 @@
 //! Strings one after another.
-ghost use Rattle.std.specs.Prelude.{◌≡◌, IfSome};
+ghost use Rattle.std.specs.Prelude.{◌≡◌, ⊤, IfSome};
 ghost use Rattle.std.specs.Int.{to_le_bytes, w8};
 ghost use Rattle.columnar_base.specs.Format.{both, IsSound};
 ghost use Rattle.columnar_base.specs.Elements.{elements};
@@ -54,7 +54,9 @@ impl<'a, W: Offsets + Drop> Iterator for StringIter<'a, W> {
 
     /// The next string; `None` once all were given, and from then on.
     fn next(&mut self) -> Option<&'a [u8]> {
-        let (lower, upper) = self.ranges.next(&self.bounds)?;
+        let Some((lower, upper)) = self.ranges.next(&self.bounds) else {
+            return None;
+        };
         Some(elements_between(self.values, lower, upper))
     }
 
@@ -89,7 +91,7 @@ impl<'a, BC: Offsets> Strings<BC, &'a [u8]> {
     /// The strings in their order.
     pub fn into_index_iter(self) -> StringIter<'a, BC>
         requires { IsSound (strings_format BC.format) (⟦<Strings<BC, &'a [u8]> as Column>⟧.content self) }
-        ensures { strings_left result ≡ (strings_format BC.format).rows (⟦<Strings<BC, &'a [u8]> as Column>⟧.content self) }
+        ensures { strings_left result ≡ (strings_format BC.format).rows (⟦<Strings<BC, &'a [u8]> as Column>⟧.content self.entry) }
     {
         let Strings { bounds, values } = self;
         StringIter::new(bounds, values)

@@ -1,0 +1,41 @@
+//! Where a file stands in its crate.
+use std::alloc::{AllocError, Global};
+
+/// How clauses name what the file declares: the crate that stands before `src` in the path, and the modules after it. None where no
+/// crate stands there.
+pub fn declared_in(alloc: Global, path: &str) -> Result<Option<String>, AllocError> {
+    let mut before = String::new(alloc);
+    let mut place: Option<String> = None;
+    for part in path.split('/') {
+        match &mut place {
+            Some(text) => {
+                let module = part.strip_suffix(".rt").unwrap_or(part);
+                if module != "lib" && module != "main" {
+                    text.push('.')?;
+                    text.push_str(module)?;
+                }
+            }
+            None => {
+                let name = before.as_str();
+                if part == "src" && !name.is_empty() && name != "." && name != ".." {
+                    place = Some(format!(in alloc; "Rattle.{before}.specs.declared")?);
+                }
+            }
+        }
+        before = String::from_str(alloc, part)?;
+    }
+    Ok(place)
+}
+
+/// The same for a module that is named, as `examples::shape`.
+pub fn declared_by(alloc: Global, module: &str) -> Result<String, AllocError> {
+    let mut place = String::from_str(alloc, "Rattle")?;
+    for (i, part) in module.split("::").enumerate() {
+        place.push('.')?;
+        place.push_str(part)?;
+        if i == 0 {
+            place.push_str(".specs.declared")?;
+        }
+    }
+    Ok(place)
+}

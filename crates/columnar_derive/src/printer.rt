@@ -1,0 +1,25 @@
+//! What makes a struct or an enum the rows of a column, as text.
+use crate::enums::EnumPage;
+use crate::item::{Body, Description};
+use crate::structs::Page;
+use std::alloc::{AllocError, Global};
+
+/// The text for a struct or an enum, laid out. An enum asks how clauses name what its file declares: None where that is not
+/// known.
+pub fn printed(
+    alloc: Global,
+    description: &Description,
+    place: Option<&str>,
+) -> Result<Option<String>, AllocError> {
+    let own = description.name.as_str();
+    match &description.body {
+        Body::Fields(fields) => Ok(Some(Page::new(alloc, own, fields.as_slice())?.printed()?)),
+        Body::Variants(variants) => match place {
+            Some(place) => {
+                let page = EnumPage::new(alloc, own, variants.as_slice(), place)?;
+                Ok(Some(page.printed()?))
+            }
+            None => Ok(None),
+        },
+    }
+}

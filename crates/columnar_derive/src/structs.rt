@@ -1,0 +1,287 @@
+//! The text for a struct.
+use crate::item::Field;
+use crate::lines::{Header, Lines, WIDTH, each, in_clause, in_tuple, joined, keep, parameter};
+use std::alloc::{AllocError, Global};
+
+/// The text for a struct, and the words that it is made of.
+#[derive(Drop)]
+pub struct Page {
+    alloc: Global,
+    lines: Lines,
+    // The name of the struct, and the type of its rows
+    own: String,
+    row: String,
+    fields: Vec<String>,
+    kinds: Vec<String>,
+    // A parameter for each field, and the tuple of them
+    params: Vec<String>,
+    tuple: String,
+}
+
+impl Page {
+    /// No text yet.
+    pub fn new(alloc: Global, own: &str, fields: &[Field]) -> Result<Page, AllocError> {
+        let mut names = Vec::new(alloc);
+        let mut kinds = Vec::new(alloc);
+        let mut params = Vec::new(alloc);
+        for (i, field) in fields.iter().enumerate() {
+            keep(&mut names, String::from_str(alloc, field.name.as_str())?)?;
+            keep(&mut kinds, String::from_str(alloc, field.kind.as_str())?)?;
+            keep(&mut params, parameter(alloc, i)?)?;
+        }
+        let list = joined(alloc, params.as_slice(), ", ")?;
+        let tuple = in_tuple(alloc, params.as_slice())?;
+        Ok(Page {
+            alloc,
+            lines: Lines::new(alloc),
+            own: String::from_str(alloc, own)?,
+            row: format!(in alloc; "{own}Reference<{list}>")?,
+            fields: names,
+            kinds,
+            params,
+            tuple,
+        })
+    }
+
+    /// All of the text.
+    pub fn printed(self) -> Result<String, AllocError> {
+        let mut page = self;
+        page.add_head()?;
+        page.add_items()?;
+        page.add_made_rows()?;
+        page.add_pushes()?;
+        page.add_owned()?;
+        page.add_shorter_rows()?;
+        let Page { lines, .. } = page;
+        Ok(lines.into_text())
+    }
+
+    // How the file begins: the column, and the struct of the rows
+    fn add_head(&mut self) -> Result<(), AllocError> {
+        let own = self.own.as_str();
+        let row = self.row.as_str();
+        let head = format!(in self.alloc;
+            "//! Rows of `{own}`, as `columnar_derive` writes them.
+use super::*;
+use columnar::fault::{{GrowError, OwnError}};
+use columnar::{{
+    Columnar, ContainerOf, FromRow, Item, MakeRow, OwnRows, Push, PushParts, ReborrowRef,
+}};
+use std::alloc::Global;
+
+/// A column of values of `{own}`.
+pub type {own}Container = ContainerOf<{own}>;
+
+// The fields, in their order"
+        )?;
+        let row = format!(in self.alloc;
+            "
+/// What stands for a value of `{own}` in a column.
+#[derive(Clone, Copy, Debug)]
+pub struct {row} {{"
+        )?;
+        self.lines.add(head.as_str())?;
+        let kinds = self.kinds.as_slice();
+        self.lines.add_tuple("", "type Parts = ", kinds, ";")?;
+        self.lines.add(row.as_str())?;
+        for (name, param) in self.fields.iter().zip(self.params.iter()) {
+            let line = format!(in self.alloc; "    pub {name}: {param},")?;
+            self.lines.add(line.as_str())?;
+        }
+        self.lines.add("}\n")
+    }
+
+    // What values and rows mean: what the tuple of their fields does
+    fn add_items(&mut self) -> Result<(), AllocError> {
+        let own = self.own.as_str();
+        let tuple = self.tuple.as_str();
+        let fields = each(self.alloc, self.fields.as_slice(), "e.", "")?;
+        let fields = in_clause(self.alloc, fields.as_slice())?;
+        let of_values = format!(in self.alloc;
+            "impl Item for {own} {{
+    ghost meaning = {{ λ e. ⟦<Parts as Item>⟧.meaning {fields} }};
+
+    ghost valid = {{ λ e. ⟦<Parts as Item>⟧.valid {fields} }};
+}}
+"
+        )?;
+        let of_rows = format!(in self.alloc;
+            "    ghost meaning = {{ λ e. ⟦<{tuple} as Item>⟧.meaning {fields} }};
+
+    ghost valid = {{ λ e. ⟦<{tuple} as Item>⟧.valid {fields} }};
+}}
+"
+        )?;
+        self.lines.add(of_values.as_str())?;
+        let params = each(self.alloc, self.params.as_slice(), "", ": Item")?;
+        self.lines.add_header(&Header {
+            params: params.as_slice(),
+            trait_name: "Item",
+            of: &[],
+            own: self.row.as_str(),
+            after: " {",
+        })?;
+        self.lines.add(of_rows.as_str())
+    }
+
+    // The struct, or its row, made of fields that are read in a certain way
+    fn add_struct(
+        &mut self,
+        before: &str,
+        values: &[String],
+        after: &str,
+    ) -> Result<(), AllocError> {
+        let mut items = Vec::new(self.alloc);
+        for (name, value) in self.fields.iter().zip(values.iter()) {
+            keep(&mut items, format!(in self.alloc; "{name}: {value}")?)?;
+        }
+        self.lines
+            .add_braces("        ", before, items.as_slice(), after)
+    }
+
+    // The parts of a tuple, by their numbers
+    fn parts_of(&self, tuple: &str) -> Result<Vec<String>, AllocError> {
+        let mut parts = Vec::new(self.alloc);
+        for (i, _) in self.fields.iter().enumerate() {
+            keep(&mut parts, format!(in self.alloc; "{tuple}.{i}")?)?;
+        }
+        Ok(parts)
+    }
+
+    // How rows are made of the rows of the parts
+    fn add_made_rows(&mut self) -> Result<(), AllocError> {
+        let params = each(self.alloc, self.params.as_slice(), "", ": Copy + Item")?;
+        self.lines.add_header(&Header {
+            params: params.as_slice(),
+            trait_name: "MakeRow",
+            of: &[String::from_str(self.alloc, self.tuple.as_str())?],
+            own: self.own.as_str(),
+            after: " {",
+        })?;
+        let own = self.own.as_str();
+        let tuple = self.tuple.as_str();
+        let row = self.row.as_str();
+        let begun = format!(in self.alloc;
+            "    type Row = {row};
+
+    fn make_row(row: {tuple}) -> Self::Row {{"
+        )?;
+        let name = format!(in self.alloc; "{own}Reference ")?;
+        self.lines.add(begun.as_str())?;
+        let parts = self.parts_of("row")?;
+        self.add_struct(name.as_str(), parts.as_slice(), "")?;
+        self.lines.add("    }\n}\n")
+    }
+
+    // How values and rows are pushed
+    fn add_pushes(&mut self) -> Result<(), AllocError> {
+        let own = self.own.as_str();
+        let tuple = self.tuple.as_str();
+        let of_values = format!(in self.alloc;
+            "impl PushParts<ContainerOf<Parts>> for {own} {{
+    fn push_parts(&self, parts: &mut ContainerOf<Parts>) -> Result<(), GrowError> {{"
+        )?;
+        self.lines.add(of_values.as_str())?;
+        let lent = each(self.alloc, self.fields.as_slice(), "&self.", "")?;
+        self.lines
+            .add_values("        ", "parts.push(", lent.as_slice(), ")")?;
+        self.lines.add("    }\n}\n")?;
+        let mut params = each(self.alloc, self.params.as_slice(), "", ": Copy + Item")?;
+        keep(&mut params, format!(in self.alloc; "P: Push<{tuple}>")?)?;
+        self.lines.add_header(&Header {
+            params: params.as_slice(),
+            trait_name: "PushParts",
+            of: &[String::from_str(self.alloc, "P")?],
+            own: self.row.as_str(),
+            after: " {",
+        })?;
+        self.lines.add("    fn push_parts(&self, parts: &mut P) -> Result<(), GrowError> {")?;
+        let copied = each(self.alloc, self.fields.as_slice(), "self.", "")?;
+        self.lines
+            .add_values("        ", "parts.push(", copied.as_slice(), ")")?;
+        self.lines.add("    }\n}\n")
+    }
+
+    // The column of the values, and how they are made of rows
+    fn add_owned(&mut self) -> Result<(), AllocError> {
+        let own = self.own.as_str();
+        let tuple = self.tuple.as_str();
+        let columnar = format!(in self.alloc;
+            "impl Columnar for {own} {{
+    ghost unfit = {{ ⟦<Parts as Columnar>⟧.unfit }};
+
+    type Container = OwnRows<ContainerOf<Parts>, {own}>;
+}}
+"
+        )?;
+        let bounds = format!(in self.alloc;
+            "where
+    Parts: FromRow<{tuple}>,
+{{"
+        )?;
+        self.lines.add(columnar.as_str())?;
+        let params = each(self.alloc, self.params.as_slice(), "", ": Item")?;
+        self.lines.add_header(&Header {
+            params: params.as_slice(),
+            trait_name: "FromRow",
+            of: &[String::from_str(self.alloc, self.row.as_str())?],
+            own: self.own.as_str(),
+            after: "",
+        })?;
+        self.lines.add(bounds.as_str())?;
+        let mut of = Vec::new(self.alloc);
+        keep(&mut of, String::from_str(self.alloc, "alloc: Global")?)?;
+        keep(&mut of, format!(in self.alloc; "row: {}", self.row)?)?;
+        self.lines.add_list(
+            "    ",
+            "fn from_row(",
+            of.as_slice(),
+            ") -> Result<Self, OwnError> {",
+            WIDTH,
+        )?;
+        let read = each(self.alloc, self.fields.as_slice(), "row.", "")?;
+        self.lines
+            .add_values("        ", "let row = ", read.as_slice(), ";")?;
+        self.lines
+            .add("        let parts = Parts::from_row(alloc, row)?;")?;
+        let made = format!(in self.alloc; "Ok({} ", self.own)?;
+        let parts = self.parts_of("parts")?;
+        self.add_struct(made.as_str(), parts.as_slice(), ")")?;
+        self.lines.add("    }\n}\n")
+    }
+
+    // The same rows for a shorter time
+    fn add_shorter_rows(&mut self) -> Result<(), AllocError> {
+        let own = self.own.as_str();
+        let name = format!(in self.alloc; "{own}Reference ")?;
+        let row = format!(in self.alloc; "type ShortRef = {own}Reference<")?;
+        let mut params = Vec::new(self.alloc);
+        keep(&mut params, String::from_str(self.alloc, "'b")?)?;
+        for param in &self.params {
+            keep(
+                &mut params,
+                format!(in self.alloc; "{param}: ReborrowRef<'b>")?,
+            )?;
+        }
+        self.lines.add_header(&Header {
+            params: params.as_slice(),
+            trait_name: "ReborrowRef",
+            of: &[String::from_str(self.alloc, "'b")?],
+            own: self.row.as_str(),
+            after: " {",
+        })?;
+        let short = each(self.alloc, self.params.as_slice(), "", "::ShortRef")?;
+        self.lines
+            .add_list("    ", row.as_str(), short.as_slice(), ">;", WIDTH)?;
+        self.lines
+            .add("\n    fn reborrow_ref(self) -> Self::ShortRef {")?;
+        let values = each(
+            self.alloc,
+            self.fields.as_slice(),
+            "self.",
+            ".reborrow_ref()",
+        )?;
+        self.add_struct(name.as_str(), values.as_slice(), "")?;
+        self.lines.add("    }\n}")
+    }
+}

@@ -1,0 +1,7 @@
+use Rattle.std.proofs.Common.{arith}
+use Rattle.columnar_sums.specs.Discriminants.{forms_content, variants_of}
+use Rattle.columnar_variants.specs.VariantCountLaws.{below_sole}
+use Rattle.columnar_variants.proofs.fronts.hold_bytes.Goals as goal
+
+pub returns-in-Some : goal.returns-in-Some
+returns-in-Some g c = below_sole 256 c.in-Some._kind (variants_of (forms_content g.CVar.Variants.bytes g.COff.Words.bytes c.args.indexes.now)) (omega arith) c.in-Some.ensures.next

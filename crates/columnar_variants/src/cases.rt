@@ -1,0 +1,67 @@
+//! Rows of one of several variants.
+ghost use Rattle.std.specs.Prelude.{◌≡◌, ℕ, refl};
+ghost use Rattle.columnar_core.specs.Row.{Row};
+ghost use Rattle.columnar_variants.specs.Variants.{case};
+ghost use Rattle.columnar_variants.specs.Nths.{nth_variant, nth_value, nth_valid};
+
+use columnar_core::traits::Item;
+
+/// An item of one of several variants, as a row of `Variants`: which it is of, and its value.
+pub trait Cases: Item {
+    // its variant, and the row of its value
+    ghost variant: { Self → ℕ };
+
+    ghost value: { Self → Row };
+
+    // it means the value of that variant
+    ghost meant: { (x : Self) → Self.meaning x ≡ case (variant x) (value x) };
+}
+
+/// Of the first variant, or of one of those after it: `Nth<A, Nth<B, Last<C>>>` is of one of three.
+#[derive(Clone, Copy, Debug, PartialEq, Eq, Drop)]
+pub enum Nth<A, B> {
+    This(A),
+    Next(B),
+}
+
+/// Of the last variant.
+#[derive(Clone, Copy, Debug, PartialEq, Eq, Drop)]
+pub struct Last<C>(pub C);
+
+/// As a row, it is its value as the first variant.
+impl<C: Item> Item for Last<C> {
+    ghost meaning = { λ x. case 0 (C.meaning x.0) };
+
+    ghost valid = { λ x. C.valid x.0 };
+}
+
+impl<C: Item> Cases for Last<C> {
+    ghost variant = { λ x. 0 };
+
+    ghost value = { λ x. C.meaning x.0 };
+
+    ghost meant = { λ x. refl };
+}
+
+/// As a row, it is its value as its variant, which is one more where it is of one of the others.
+impl<A: Item, B: Cases> Item for Nth<A, B> {
+    ghost meaning = { λ x. case (nth_variant B.variant x) (nth_value A.meaning B.value x) };
+
+    ghost valid = { nth_valid A.valid B.valid };
+}
+
+impl<A: Item, B: Cases> Cases for Nth<A, B> {
+    ghost variant = { nth_variant B.variant };
+
+    ghost value = { nth_value A.meaning B.value };
+
+    ghost meant = { λ x. refl };
+}
+
+impl<'x, T: Cases> Cases for &'x T {
+    ghost variant = { λ x. T.variant x.now };
+
+    ghost value = { λ x. T.value x.now };
+
+    ghost meant = { λ x. T.meant x.now };
+}

@@ -1,0 +1,24 @@
+//! A column of any number of variants that is made of an earlier form.
+ghost use Rattle.columnar_variants.specs.BankEarlier.{earlier_variants};
+
+use super::Variants;
+use crate::bank::earlier::EarlierBank;
+use columnar_core::earlier::Earlier;
+use columnar_core::fault::GrowError;
+use std::alloc::Global;
+
+/// The earlier form is that of the columns; the variants stay.
+impl<B: EarlierBank> Earlier for Variants<B, Vec<u8>, Vec<u64>> {
+    type Old = Variants<B::Old, Vec<u8>, Vec<u64>>;
+
+    ghost earlier = { earlier_variants B.Old.bank B.bank B.earlier };
+
+    fn from_old(
+        alloc: Global,
+        old: Variants<B::Old, Vec<u8>, Vec<u64>>,
+    ) -> Result<Self, GrowError> {
+        let Variants { columns, indexes } = old;
+        let columns = B::columns_of_old(alloc, columns)?;
+        Ok(Variants { columns, indexes })
+    }
+}

@@ -1,0 +1,9 @@
+//! Tests of columns of any number of variants, by their public calls alone.
+#![tactic(auto)]
+
+#[cfg(test)]
+mod claims;
+#[cfg(test)]
+mod three;
+#[cfg(test)]
+mod two;

@@ -1,1 +1,4 @@
+pub mod Ending
 pub mod Lines
+pub mod Seven
+pub mod Showing

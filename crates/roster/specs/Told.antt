@@ -36,6 +36,11 @@ spaced (word ∷ words) = decimal word ++ flat_map (λ w. codes " " ++ decimal w
 abbrev pub words_line : List ℕ → List ℕ
 words_line words = spaced words ++ codes "\n"
 
+-- the words of the column of the one number 7, that is where the table ends, where the slice ends, and the slice; and that
+-- it has one row
+abbrev pub seven_lines : List ℕ
+seven_lines = codes "16 24 7\nrows: 1\n"
+
 -- what is said where a use was not done
 abbrev pub failure_line : Failure → List ℕ
 failure_line Memory = codes "failed: no memory\n"

@@ -3,16 +3,14 @@ use Rattle.std.specs.Prelude.{ℕ, Bool, true, false, List, [], ◌∷◌, ◌++
 use Rattle.std.proofs.Common.{Global, String}
 use Rattle.std.specs.Io.KnownBytes.{Keeps, Appends}
 use Rattle.columnar.specs.Accepted.{Accepts, IsFirstFault}
-use Rattle.columnar.specs.Bytes.{le_bytes}
 use Rattle.columnar.specs.Either.{Either}
 use Rattle.columnar.specs.Faults.{fault_number, fault_slice}
 use Rattle.columnar.specs.Format.{Format, Content, slices_of}
 use Rattle.columnar.specs.Frame.{framed_slices}
-use Rattle.columnar.specs.Row.{Row, number}
+use Rattle.columnar.specs.Row.{Row}
 use Rattle.columnar.specs.Sent.{AppendsBeginning}
-use Rattle.columnar_base.specs.declared.fault.StoreFault.{StoreFault}
 use Rattle.roster.specs.Ages.{ages_sum, roster_ages}
-use Rattle.roster.specs.Told.{rows_line, refused_line, slice_lines, sum_line, words_line}
+use Rattle.roster.specs.Told.{rows_line, refused_line, seven_lines, slice_lines, sum_line}
 use Rattle.roster.specs.declared.told.Answer.{Answer}
 use Rattle.roster.specs.declared.told.Failure.{Failure}
 use Rattle.roster.specs.declared.told.Outcome.{Outcome}
@@ -45,47 +43,43 @@ shown ages f c = slice_lines f.aligns (slices_of c) ++ sum_line (ages_sum ages (
 abbrev pub Shows : Format → List ℕ → Type 0
 Shows f text = (bytes : List ℕ) × (Accepts f bytes × (text ≡ shown roster_ages f (f.build (framed_slices bytes))))
 
--- the text tells the words of some bytes that are accepted, whose one row is 7, and that there is one row
-abbrev pub TellsSeven : Format → List ℕ → Type 0
-TellsSeven f text = (words : List ℕ) × (Accepts f (le_bytes words) × ((f.rows (f.build (framed_slices (le_bytes words))) ≡ number 7 ∷ []) × (text ≡ words_line words ++ rows_line 1)))
-
 -- the text tells the number of rows of bytes that are accepted
 abbrev pub TellsRows : Format → List ℕ → List ℕ → Type 0
 TellsRows f bytes text = Accepts f bytes × (text ≡ rows_line (length (f.rows (f.build (framed_slices bytes)))))
 
 -- the text tells the first fault of bytes that are accepted for neither format
 abbrev pub TellsFault : Format → Format → List ℕ → List ℕ → Type 0
-TellsFault f old bytes text = (Either f old bytes → ⊥) × ((fault : StoreFault) × ((IsFirstFault f bytes fault ⊎ IsFirstFault old bytes fault) × (text ≡ refused_line (fault_number fault) (fault_slice fault))))
+TellsFault f old bytes text = (Either f old bytes → ⊥) × ((fault : _) × ((IsFirstFault f bytes fault ⊎ IsFirstFault old bytes fault) × (text ≡ refused_line (fault_number fault) (fault_slice fault))))
 
 -- what a check of bytes answers, for a format and its earlier form
 abbrev pub Judges : Format → Format → List ℕ → ℕ → List ℕ → Type 0
 Judges f old bytes status text = ((status ≡ 0) × (TellsRows f bytes text ⊎ TellsRows old bytes text)) ⊎ ((status ≡ 1) × TellsFault f old bytes text)
 
 -- What answers a use: the status, and the text on the output. `f` and `old` are the formats of the roster's columns and
--- of their earlier form, `one` that of the column of one number.
-abbrev pub Answers : Format → Format → Format → Use → ℕ → List ℕ → Type 0
-Answers f old one shows status text = (status ≡ 0) × Shows f text
-Answers f old one begins status text = (status ≡ 0) × TellsSeven one text
-Answers f old one writes status text = (status ≡ 0) × (text ≡ [])
-Answers f old one checks status text = (bytes : List ℕ) × Judges f old bytes status text
-Answers f old one misuses status text = ⊥
+-- of their earlier form.
+abbrev pub Answers : Format → Format → Use → ℕ → List ℕ → Type 0
+Answers f old shows status text = (status ≡ 0) × Shows f text
+Answers f old begins status text = (status ≡ 0) × (text ≡ seven_lines)
+Answers f old writes status text = (status ≡ 0) × (text ≡ [])
+Answers f old checks status text = (bytes : List ℕ) × Judges f old bytes status text
+Answers f old misuses status text = ⊥
 
 -- an answer to a use that the program has, or none where the words ask for nothing that it does
-abbrev pub Answered : Format → Format → Format → Use → Option (Result Answer Failure) → Type 0
-Answered f old one asked (Some (Ok answer)) = Answers f old one asked answer.status (string_bytes answer.text)
-Answered f old one asked (Some (Err failure)) = asked ≢ misuses
-Answered f old one asked None = asked ≡ misuses
+abbrev pub Answered : Format → Format → Use → Option (Result Answer Failure) → Type 0
+Answered f old asked (Some (Ok answer)) = Answers f old asked answer.status (string_bytes answer.text)
+Answered f old asked (Some (Err failure)) = asked ≢ misuses
+Answered f old asked None = asked ≡ misuses
 
 -- What went to the output of a use that was not done: nothing, or a beginning of what answers it.
-abbrev pub Began : Format → Format → Format → Use → Option (List ℕ) → Option (List ℕ) → Type 0
-Began f old one asked before after = Keeps before after ⊎ ((status : ℕ) × ((text : List ℕ) × (Answers f old one asked status text × AppendsBeginning before after text)))
+abbrev pub Began : Format → Format → Use → Option (List ℕ) → Option (List ℕ) → Type 0
+Began f old asked before after = Keeps before after ⊎ ((status : ℕ) × ((text : List ℕ) × (Answers f old asked status text × AppendsBeginning before after text)))
 
 -- What an outcome tells of a use, and of what went to the output: it was done, and what answers it went out; it failed;
 -- or the words ask for nothing that the program does, and nothing went out.
-abbrev pub Ends : Format → Format → Format → Use → Outcome → Option (List ℕ) → Option (List ℕ) → Type 0
-Ends f old one asked (Done status) before after = (text : List ℕ) × (Answers f old one asked status text × Appends before after text)
-Ends f old one asked (Failed failure) before after = (asked ≢ misuses) × Began f old one asked before after
-Ends f old one asked Misused before after = (asked ≡ misuses) × Keeps before after
+abbrev pub Ends : Format → Format → Use → Outcome → Option (List ℕ) → Option (List ℕ) → Type 0
+Ends f old asked (Done status) before after = (text : List ℕ) × (Answers f old asked status text × Appends before after text)
+Ends f old asked (Failed failure) before after = (asked ≢ misuses) × Began f old asked before after
+Ends f old asked Misused before after = (asked ≡ misuses) × Keeps before after
 
 -- What went to an output that is told a text: all of it, or, where not all was taken, a beginning of it.
 abbrev pub Hears : List ℕ → Bool → Option (List ℕ) → Option (List ℕ) → Type 0

@@ -2,23 +2,23 @@
 ghost use Rattle.std.specs.Prelude.{◌≡◌, ◌∷◌, ℕ, List, [], IfOk, OnOk, OnErr, IsTrue, string_bytes};
 ghost use Rattle.std.specs.Io.KnownBytes.{Appends};
 ghost use Rattle.columnar.specs.Accepted.{Accepts};
-ghost use Rattle.columnar.specs.Bytes.{le_bytes};
-ghost use Rattle.columnar.specs.Format.{representable};
+ghost use Rattle.columnar.specs.Format.{IsSound, representable};
 ghost use Rattle.columnar.specs.Frame.{framed_slices};
 ghost use Rattle.columnar.specs.Row.{number};
 ghost use Rattle.columnar.specs.Sent.{AppendsBeginning};
-ghost use Rattle.roster.specs.Told.{outcome_line};
-ghost use Rattle.roster.specs.Uses.{use_of, Answered, Ends, Given, Hears, Judges, Shows, TellsSeven};
+ghost use Rattle.columnar.specs.Stashes.{stash_content};
+ghost use Rattle.roster.specs.Told.{outcome_line, seven_lines};
+ghost use Rattle.roster.specs.Uses.{use_of, Answered, Ends, Given, Hears, Judges, Shows};
 
 use crate::group::Group;
 use crate::roster::{Columns, OldColumns, Person, Unbuilt, bytes_of, everyone, tell_view};
-use crate::told::{Answer, Failure, Outcome, put, tell_fault, tell_rows, tell_words};
+use crate::told::{Answer, Failure, Outcome, put, tell_column, tell_fault, tell_rows};
 use columnar::bytes::WriteBytes;
 use columnar::bytes::indexed::encode;
 use columnar::bytes::stash::Stash;
 use columnar::common::Earlier;
 use columnar::fault::{EitherFault, GrowError};
-use columnar::{Column, ContainerBytes, Len, Push};
+use columnar::{Column, ContainerBytes, Len, Push, Stored};
 use std::alloc::{AllocError, Global};
 use std::fs;
 use std::io::{ErrorKind, Read, Write};
@@ -41,7 +41,7 @@ pub fn run_words<R: Files, O: Write, E: Write>(
     out: &mut O,
     err: &mut E,
 ) -> Ended
-    ensures out { Ends ⟦<Columns as Column>⟧.format ⟦<OldColumns as Column>⟧.format ⟦<Vec<u64> as Column>⟧.format (use_of words.now) result.outcome (O.contents out.old) (O.contents out.new) }
+    ensures out { Ends ⟦<Columns as Column>⟧.format ⟦<OldColumns as Column>⟧.format (use_of words.now) result.outcome (O.contents out.old) (O.contents out.new) }
     ensures err { Hears (outcome_line result.outcome) result.heard (E.contents err.old) (E.contents err.new) }
 {
     let outcome = do_words(rt, alloc, words, out);
@@ -51,7 +51,7 @@ pub fn run_words<R: Files, O: Write, E: Write>(
 
 // Does what the words ask for.
 fn do_words<R: Files, O: Write>(rt: &R, alloc: Global, words: &[String], out: &mut O) -> Outcome
-    ensures { Ends ⟦<Columns as Column>⟧.format ⟦<OldColumns as Column>⟧.format ⟦<Vec<u64> as Column>⟧.format (use_of words.now) result (O.contents out.old) (O.contents out.new) }
+    ensures { Ends ⟦<Columns as Column>⟧.format ⟦<OldColumns as Column>⟧.format (use_of words.now) result (O.contents out.old) (O.contents out.new) }
 {
     let Some(answer) = answer_words(rt, alloc, words) else {
         return Outcome::Misused;
@@ -68,7 +68,7 @@ fn answer_words<R: Files>(
     alloc: Global,
     words: &[String],
 ) -> Option<Result<Answer, Failure>>
-    ensures { Answered ⟦<Columns as Column>⟧.format ⟦<OldColumns as Column>⟧.format ⟦<Vec<u64> as Column>⟧.format (use_of words.now) result }
+    ensures { Answered ⟦<Columns as Column>⟧.format ⟦<OldColumns as Column>⟧.format (use_of words.now) result }
 {
     match words {
         [] => Some(show(alloc)),
@@ -111,18 +111,26 @@ fn roster_bytes(alloc: Global) -> Result<Vec<u8>, Failure>
     Ok(bytes_of::<Group<Person>>(alloc, groups.as_slice())?)
 }
 
+// The stash of bytes that are accepted.
+fn stash_of<C: Stored>(alloc: Global, bytes: Vec<u8>) -> Stash<C, Vec<u8>>
+    requires representable { IsTrue (representable C.format) }
+    requires accepted { Accepts C.format bytes.items }
+    ensures content { stash_content result ≡ C.format.build (framed_slices bytes.items) }
+    ensures sound { IsSound C.format (stash_content result) }
+{
+    match Stash::try_from_bytes(alloc, bytes) {
+        Ok(opened) => opened,
+        Err(_) => unreachable!(),
+    }
+}
+
 // The slices of the roster, and the sum of the ages, read back from its bytes.
 fn show(alloc: Global) -> Result<Answer, Failure>
     ensures { IfOk result (λ answer. (answer.status ≡ 0) × Shows ⟦<Columns as Column>⟧.format (string_bytes answer.text)) }
 {
-    let bytes = roster_bytes(alloc)?;
-    match Stash::<Columns, Vec<u8>>::try_from_bytes(alloc, bytes) {
-        Ok(opened) => {
-            let text = tell_view(alloc, &opened.borrow())?;
-            Ok(Answer { status: 0, text })
-        }
-        Err(_) => unreachable!(),
-    }
+    let opened = stash_of::<Columns>(alloc, roster_bytes(alloc)?);
+    let text = tell_view(alloc, &opened.borrow())?;
+    Ok(Answer { status: 0, text })
 }
 
 // The roster's bytes as a file. Where they are not built, no file is made.
@@ -202,22 +210,17 @@ fn judge<C: ContainerBytes + Earlier + Len + Drop>(
 
 // A column of one number: its words, and its rows once its bytes are opened.
 fn first(alloc: Global) -> Result<Answer, Failure>
-    ensures { IfOk result (λ answer. (answer.status ≡ 0) × TellsSeven ⟦<Vec<u64> as Column>⟧.format (string_bytes answer.text)) }
+    ensures { IfOk result (λ answer. (answer.status ≡ 0) × (string_bytes answer.text ≡ seven_lines)) }
 {
     let (words, bytes) = written_seven(alloc)?;
-    match Stash::<Vec<u64>, Vec<u8>>::try_from_bytes(alloc, bytes) {
-        Ok(opened) => {
-            let mut text = tell_words(alloc, words.as_slice())?;
-            text.push_str(tell_rows(alloc, opened.len())?.as_str())?;
-            Ok(Answer { status: 0, text })
-        }
-        Err(_) => unreachable!(),
-    }
+    let opened = stash_of::<Vec<u64>>(alloc, bytes);
+    let text = tell_column(alloc, words.as_slice(), opened.len())?;
+    Ok(Answer { status: 0, text })
 }
 
 // The words and the bytes of a column that 7 was pushed to; the bytes are accepted, and hold the one row 7.
 fn written_seven(alloc: Global) -> Result<(Vec<u64>, Vec<u8>), Failure>
-    ensures same { IfOk result (λ r. r.1.items ≡ le_bytes r.0.items) }
+    ensures words { IfOk result (λ r. r.0.items ≡ 16 ∷ 24 ∷ 7 ∷ []) }
     ensures accepted { IfOk result (λ r. Accepts ⟦<Vec<u64> as Column>⟧.format r.1.items) }
     ensures rows { IfOk result (λ r. ⟦<Vec<u64> as Column>⟧.format.rows (⟦<Vec<u64> as Column>⟧.format.build (framed_slices r.1.items)) ≡ number 7 ∷ []) }
 {

@@ -1,5 +1,5 @@
 //! What the program tells, and why it fails.
-ghost use Rattle.std.specs.Prelude.{◌≡◌, IfOk, OnOk, OnErr, string_bytes};
+ghost use Rattle.std.specs.Prelude.{◌≡◌, ◌++◌, IfOk, OnOk, OnErr, string_bytes};
 ghost use Rattle.std.specs.Io.KnownBytes.{Appends};
 ghost use Rattle.columnar.specs.Sent.{AppendsBeginning};
 ghost use Rattle.roster.specs.Told.{rows_line, refused_line, sum_line, words_line, failure_line, outcome_line, outcome_status};
@@ -114,4 +114,13 @@ pub fn tell_words(alloc: Global, words: &[u64]) -> Result<String, AllocError>
     }
     writeln!(line)?;
     Ok(line)
+}
+
+/// The words of a column in one line, and then how many rows it has.
+pub fn tell_column(alloc: Global, words: &[u64], rows: usize) -> Result<String, AllocError>
+    ensures { IfOk result (λ text. string_bytes text ≡ words_line words.now ++ rows_line rows) }
+{
+    let mut text = tell_words(alloc, words)?;
+    writeln!(text, "rows: {rows}")?;
+    Ok(text)
 }

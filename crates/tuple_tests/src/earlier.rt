@@ -10,7 +10,9 @@ use test_support::holds;
 fn is_made_of_two<T: Item + Copy, C: Earlier<Old: Storage + Push<T>> + Len + Drop>(
     alloc: Global,
     row: T,
-) -> bool {
+) -> bool
+    requires { T.valid row }
+{
     let mut old = <C::Old as Storage>::empty(alloc);
     if !takes(&mut old, row) || !takes(&mut old, row) {
         return false;

@@ -87,7 +87,7 @@ where
     T::Container: Storage + PushRef<T> + Borrow<'a>,
     requires { All T.valid items.now }
 {
-    let column = match T::as_columns(alloc, items.iter()) {
+    let column = match T::column_of(alloc, items) {
         Ok(column) => column,
         Err(GrowError::Memory) => return Outcome::NoMemory,
         Err(_) => return Outcome::Other,

@@ -96,17 +96,6 @@ fn tuples_of_up_to_five_come_back(rt: HostRuntime) -> Result<(), Fail> {
 }
 
 #[test]
-fn tuples_of_six_to_ten_come_back(rt: HostRuntime) -> Result<(), Fail> {
-    let alloc = rt.alloc();
-    holds!(rt; come_back::<(u8, u8, u8, u8, u8, u8)>(alloc, &mut None, [(1, 2, 3, 4, 5, 6), (6, 5, 4, 3, 2, 1)].as_slice()));
-    holds!(rt; come_back::<(u8, u8, u8, u8, u8, u8, u8)>(alloc, &mut None, [(1, 2, 3, 4, 5, 6, 7), (7, 6, 5, 4, 3, 2, 1)].as_slice()));
-    holds!(rt; come_back::<(u8, u8, u8, u8, u8, u8, u8, u8)>(alloc, &mut None, [(1, 2, 3, 4, 5, 6, 7, 8), (8, 7, 6, 5, 4, 3, 2, 1)].as_slice()));
-    holds!(rt; come_back::<(u8, u8, u8, u8, u8, u8, u8, u8, u8)>(alloc, &mut None, [(1, 2, 3, 4, 5, 6, 7, 8, 9), (9, 8, 7, 6, 5, 4, 3, 2, 1)].as_slice()));
-    holds!(rt; come_back::<(u8, u8, u8, u8, u8, u8, u8, u8, u8, u8)>(alloc, &mut None, [(1, 2, 3, 4, 5, 6, 7, 8, 9, 10), (10, 9, 8, 7, 6, 5, 4, 3, 2, 1)].as_slice()));
-    Ok(())
-}
-
-#[test]
 fn bytes_that_are_no_text_have_no_value(rt: HostRuntime) -> Result<(), Fail> {
     let alloc = rt.alloc();
     holds!(rt; refusal_of::<&[u8], String>(alloc, FF.as_slice()) == Some(OwnError::Utf8));

@@ -4,6 +4,8 @@
 #[cfg(test)]
 mod claims;
 #[cfg(test)]
+mod refused;
+#[cfg(test)]
 mod three;
 #[cfg(test)]
 mod two;

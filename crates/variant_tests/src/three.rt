@@ -29,9 +29,13 @@ impl Held {
             column: Three::empty(alloc),
         };
         for i in 0..rows.len() {
-            let _taken = takes_ref(&mut held.column, &rows[i]);
+            let _taken = held.takes(&rows[i]);
         }
         held
+    }
+
+    fn takes(&mut self, row: &Row) -> bool {
+        takes_ref(&mut self.column, row)
     }
 
     fn copies(&mut self, source: &Held, start: usize, end: usize) -> bool {

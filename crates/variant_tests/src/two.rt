@@ -1,5 +1,4 @@
 // Columns of two variants: a worked store, and stores of broken rules.
-ghost use Rattle.std.specs.Prelude.{IsTrue};
 ghost use Rattle.columnar_core.specs.Format.{IsSound};
 
 use columnar_core::container::Storage;
@@ -13,9 +12,9 @@ use test_support::columns::{reads, takes, takes_ref};
 use test_support::stores::{is_written, refusal};
 use test_support::{equal, holds};
 
-type Two = Variants<(Vec<u64>, (Vec<u64>,))>;
+pub type Two = Variants<(Vec<u64>, (Vec<u64>,))>;
 
-type Row = Nth<u64, Last<u64>>;
+pub type Row = Nth<u64, Last<u64>>;
 
 // A column of two variants, behind the calls that the tests make.
 #[derive(Drop)]
@@ -61,13 +60,41 @@ fn rows_are_written_by_their_variants(rt: HostRuntime) -> Result<(), Fail> {
 #[test]
 fn rules_of_two_variants(rt: HostRuntime) -> Result<(), Fail> {
     let alloc = rt.alloc();
-    // The rows are 5 of the first variant, 7 of the second, 6 of the first
-    equal!(rt; refusal::<Two>(alloc, &[40, 56, 64, 67, 96, 5, 6, 7, 256, 0, 0, 1])?, (0, 0));
-    // The third row is of a third variant
-    equal!(rt; refusal::<Two>(alloc, &[40, 56, 64, 67, 96, 5, 6, 7, 131328, 0, 0, 0])?, (17, 0));
-    // Two values of the second variant, of which there is one row
-    equal!(rt; refusal::<Two>(alloc, &[40, 56, 72, 75, 104, 5, 6, 7, 8, 256, 0, 0, 1])?, (10, 0));
-    // One value of the first variant, of which there are two rows
-    equal!(rt; refusal::<Two>(alloc, &[40, 48, 56, 59, 88, 5, 7, 256, 0, 0, 1])?, (10, 0));
+    // The rows are 5 of the first variant, 7 of the second, 6 of the first.
+    let words = [40, 56, 64, 67, 96, 5, 6, 7, 256, 0, 0, 1];
+    let of_a_third_variant = [40, 56, 64, 67, 96, 5, 6, 7, 131328, 0, 0, 0];
+    let numbered_from_one = [40, 56, 64, 67, 96, 5, 6, 7, 256, 0, 0, 2];
+    let one_first_too_few = [40, 48, 64, 67, 96, 5, 7, 8, 256, 0, 0, 1];
+    let one_second_too_many = [40, 48, 64, 66, 88, 5, 7, 8, 256, 0, 0];
+    for (words, fault) in [
+        (words.as_slice(), (0, 0)),
+        (of_a_third_variant.as_slice(), (17, 0)),
+        (numbered_from_one.as_slice(), (17, 2)),
+        (one_first_too_few.as_slice(), (10, 0)),
+        (one_second_too_many.as_slice(), (10, 0)),
+    ] {
+        equal!(rt; refusal::<Two>(alloc, words)?, fault);
+    }
+    Ok(())
+}
+
+// Where all rows are of one variant, a head tells which and how many: one more than the variant, and the number.
+#[test]
+fn heads_of_two_variants(rt: HostRuntime) -> Result<(), Fail> {
+    let alloc = rt.alloc();
+    let two_firsts = [40, 56, 56, 56, 72, 5, 6, 1, 2];
+    let two_seconds = [40, 40, 56, 56, 72, 5, 6, 2, 2];
+    let two_thirds = [40, 40, 56, 56, 72, 5, 6, 3, 2];
+    let more_than_there_are = [40, 56, 56, 56, 72, 5, 6, 1, u64::MAX];
+    let firsts_as_seconds = [40, 56, 56, 56, 72, 5, 6, 2, 2];
+    for (words, fault) in [
+        (two_firsts.as_slice(), (0, 0)),
+        (two_seconds.as_slice(), (0, 0)),
+        (two_thirds.as_slice(), (17, 0)),
+        (more_than_there_are.as_slice(), (10, 0)),
+        (firsts_as_seconds.as_slice(), (10, 0)),
+    ] {
+        equal!(rt; refusal::<Two>(alloc, words)?, fault);
+    }
     Ok(())
 }

@@ -70,12 +70,3 @@ fn lists_of_digits_are_opened_and_loaded(rt: HostRuntime) -> Result<(), Fail> {
     holds!(rt; has_both_lists(&typed));
     Ok(())
 }
-
-#[test]
-fn lists_of_digits_are_made_typed_in_place(rt: HostRuntime) -> Result<(), Fail> {
-    let mut stash = opened::<Lists>(rt.alloc(), TWO_LISTS.as_slice()).expect(&rt, "opened");
-    holds!(rt; stash.make_typed().is_ok());
-    equal!(rt; variant(&stash), 0);
-    holds!(rt; has_both_lists(&stash));
-    Ok(())
-}

@@ -1,12 +1,13 @@
 use Rattle.std.proofs.Common.{◌≡◌, ◌∷◌, [], ℕ, ◌++◌, ◌∙◌, List, false, ap, sym}
 use Rattle.std.specs.Prelude.{Result, Ok, Err, OnOk, is_err}
-use Rattle.columnar.specs.Row.{Row}
+use Rattle.columnar.specs.Row.{Row, number}
 use Rattle.columnar.specs.Format.{Format, Content, IsSound, IsExact}
 use Rattle.columnar.specs.Frame.{framed_slices}
 use Rattle.columnar.specs.Change.{Took}
-use Rattle.columnar.specs.Stashes.{written_bytes}
+use Rattle.columnar.specs.Stashes.{stash_content, written_bytes}
 use Rattle.columnar.specs.ChangeLaws.{grew_exactly}
 use Rattle.columnar.specs.AlikeLaws.{row_eq_exact}
+use Rattle.roster.proofs.Seven.{encoded_seven}
 use Rattle.roster.proofs.cli.written_seven.Goals as goal
 
 -- what a call that was done ensures
@@ -30,3 +31,11 @@ returns-clause-rows c =
     c.new-bytes.ensures.items
     (done c.write_bytes.result wrote c.write_bytes.ensures.ok)
     (done c.write_bytes.result wrote c.write_bytes.ensures.content)
+
+pub returns-clause-words : goal.returns-clause-words
+returns-clause-words c =
+    let pushed = sym c.is_err.ensures.value ∙ c.if-is_err.false in
+    let wrote = sym c.is_err-2.ensures.value ∙ c.if-is_err-2.false in
+    let g = grew_exactly row_eq_exact (done c.push.result pushed c.push.ensures.ok) in
+    encoded_seven c.new-words.result.items c.encode.new.store.items (stash_content c.push.new.self) _ g.sound (g.rows ∙ ap (λ rs. rs ++ (number 7 ∷ [])) c.empty-stash.ensures.rows)
+    c.borrow.ensures.content c.new-words.ensures.items (done c.encode.result wrote c.encode.ensures.ok)

@@ -116,6 +116,7 @@ impl<V: Index + Copy, W: Offsets + Drop> Iterator for ListIter<V, W> {
     fn size_hint(&self) -> (usize, Option<usize>)
         ensures lower { IsWithinCount result.0 (item_count lists_left self.now) }
         ensures upper { IfSome result.1 (UpTo (item_count lists_left self.now)) }
+        ensures left { result ≡ (length (lists_left self.now), Some (length (lists_left self.now))) }
     {
         let left = ExactSizeIterator::len(self);
         (left, Some(left))

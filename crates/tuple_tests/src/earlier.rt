@@ -1,4 +1,5 @@
 // Tuples that are made of their earlier form.
+use super::worked::{One, Ten, Three, Two};
 use columnar_core::container::Storage;
 use columnar_core::earlier::Earlier;
 use columnar_core::traits::{Item, Len, Push};
@@ -23,25 +24,10 @@ fn is_made_of_two<T: Item + Copy, C: Earlier<Old: Storage + Push<T>> + Len + Dro
     }
 }
 
-type Three = (Vec<u64>, Vec<u64>, Vec<u64>);
-
-type Ten = (
-    Vec<u64>,
-    Vec<u64>,
-    Vec<u64>,
-    Vec<u64>,
-    Vec<u64>,
-    Vec<u64>,
-    Vec<u64>,
-    Vec<u64>,
-    Vec<u64>,
-    Vec<u64>,
-);
-
 #[test]
 fn of_one_and_of_two(rt: HostRuntime) {
-    holds!(rt; is_made_of_two::<(u64,), (Vec<u64>,)>(rt.alloc(), (1,)));
-    holds!(rt; is_made_of_two::<(u64, u64), (Vec<u64>, Vec<u64>)>(rt.alloc(), (1, 2)));
+    holds!(rt; is_made_of_two::<(u64,), One>(rt.alloc(), (1,)));
+    holds!(rt; is_made_of_two::<(u64, u64), Two>(rt.alloc(), (1, 2)));
 }
 
 #[test]

@@ -45,25 +45,7 @@ where
     T::Container: Storage + PushRef<T> + Borrow<'a>,
     requires { All T.valid items.now }
 {
-    let Ok(column) = T::column_of(alloc, items) else {
-        return false;
-    };
-    let column: &'a ContainerOf<T> = slot.insert(column);
-    let view = column.borrow();
-    if view.len() != items.len() {
-        return false;
-    }
-    for index in 0..items.len() {
-        match T::into_owned(alloc, view.get(index)) {
-            Ok(value) => {
-                if value != items[index] {
-                    return false;
-                }
-            }
-            Err(_) => return false,
-        }
-    }
-    true
+    come_back_or_lack_memory(alloc, slot, items) == Outcome::Same
 }
 
 /// What became of items that were made a column and were to come back.

@@ -1,5 +1,5 @@
 //! Strings one after another.
-ghost use Rattle.std.specs.Prelude.{◌≡◌, ⊤, IfSome};
+ghost use Rattle.std.specs.Prelude.{◌≡◌, ⊤, length, Some, IfSome};
 ghost use Rattle.std.specs.Int.{to_le_bytes, w8};
 ghost use Rattle.columnar_base.specs.Format.{both, IsSound};
 ghost use Rattle.columnar_base.specs.Elements.{elements};
@@ -64,6 +64,7 @@ impl<'a, W: Offsets + Drop> Iterator for StringIter<'a, W> {
     fn size_hint(&self) -> (usize, Option<usize>)
         ensures lower { IsWithinCount result.0 (item_count strings_left self.now) }
         ensures upper { IfSome result.1 (UpTo (item_count strings_left self.now)) }
+        ensures left { result ≡ (length (strings_left self.now), Some (length (strings_left self.now))) }
     {
         let left = ExactSizeIterator::len(self);
         (left, Some(left))

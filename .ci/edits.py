@@ -10,10 +10,12 @@ lemma is not proved, too.
 
 Those are tried whose record is not of what stands (gate/record.py), and a tenth of the others.
 
-usage: .ci/edits.py [--all | --tenth N] [--jobs N] [CRATE ..]
+usage: .ci/edits.py [--all | --tenth N] [--sources] [--jobs N] [CRATE ..]
                                       after the crates' libraries were built, as by rt all check: tries what is not recorded,
-                                      and all others, or the tenth N, 0 to 9, of them; writes the record of what passed
-       .ci/edits.py --behind LOG [--record]
+                                      and all others, or the tenth N, 0 to 9, of them; writes the record of what passed.
+                                      With --sources nothing has to be built: the libraries are taken as sources, and that
+                                      the crates themselves are proved is left to the gate
+       .ci/edits.py --beside LOG [--record]
                                       beside the rt ci that writes LOG: the edits of a crate begin once the libraries that
                                       it stands on are proved, and fail where it is not proved itself. A line 'ended' in
                                       LOG says that no more comes. The tenth is the one that the commit's name chooses,
@@ -41,8 +43,9 @@ def asked():
     which = parser.add_mutually_exclusive_group()
     which.add_argument("--all", action="store_true")
     which.add_argument("--tenth", type=int, choices=range(10))
-    which.add_argument("--behind")
+    which.add_argument("--beside")
     parser.add_argument("--record", action="store_true")
+    parser.add_argument("--sources", action="store_true")
     parser.add_argument("--jobs", type=int, default=len(os.sched_getaffinity(0)))
     parser.add_argument("crates", nargs="*")
     return parser.parse_args()
@@ -52,9 +55,10 @@ class Run:
     """One run over the edits of some crates."""
 
     def __init__(self, words):
-        self.cores, self.records = words.jobs, words.record or not words.behind
-        self.log = Log(words.behind) if words.behind else None
-        tenth = record.tenth_of_commit() if words.behind else words.tenth
+        self.cores, self.records = words.jobs, words.record or not words.beside
+        self.log = Log(words.beside) if words.beside else None
+        self.sources = words.sources
+        tenth = record.tenth_of_commit() if words.beside else words.tenth
         names = [name for name in crates() if not words.crates or name in words.crates]
         self.choices = {name: Choice(name, tenth, words.all) for name in names}
         self.left = [name for name in names if self.choices[name].edits]
@@ -77,10 +81,10 @@ class Run:
 
     def begin(self, name, libraries, kept):
         crate = Crate(name, libraries, kept, self.jobs)
-        if not self.log and os.path.isdir(f"{crate.folder}/out/incremental"):
+        if not self.log and not self.sources and os.path.isdir(f"{crate.folder}/out/incremental"):
             shutil.copytree(f"{crate.folder}/out/incremental", kept)
         self.tries[name] = its = Tries(crate, self.choices[name], self.records)
-        if self.log or its.is_proved():
+        if self.log or self.sources or its.is_proved():
             its.first()
             for group in its.groups:
                 self.lanes.add(len(group["edits"]), name, functools.partial(its.one, group))
@@ -101,6 +105,7 @@ class Run:
     def try_all(self):
         with tempfile.TemporaryDirectory(prefix="edits-libraries-") as room:
             libraries = (lambda _: room) if self.log else (lambda it: f"{ROOT}/crates/{it}/out/rlib")
+            libraries = None if self.sources else libraries
             while self.left or self.lanes.are_used() or (self.log and not self.log.has_ended):
                 if self.log:
                     self.look(room)

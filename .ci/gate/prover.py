@@ -20,7 +20,8 @@ def guard():
 
 
 class Crate:
-    """A crate, where the libraries below it stand, where what checks of it proved is kept, and how many jobs one may use."""
+    """A crate, where the libraries below it stand (None: as sources), where what checks of it proved is kept, and how many jobs
+    one may use."""
 
     guard = None
 
@@ -31,19 +32,30 @@ class Crate:
 
     def words(self):
         """The call of a check, but for what it is asked to prove."""
-        own, needs = crates(), crates()[self.name]
         words = [f"{kit()}/bin/rattle", "check", "--crate-name", self.name]
         words += ["src/main.rt" if os.path.isfile(f"{self.folder}/src/main.rt") else "src/lib.rt"]
-        for it in ["std", *[it for it in needs if it not in own]]:
-            words += ["--extern", f"{it}={kit()}/rlibs/{it}.rlib"]
-        words += ["-L", f"dependency={kit()}/rlibs"]
+        words += self.words_below() if self.libraries else self.words_of_sources()
+        words += ["--antt-project", f"{kit()}/rattle/logic/antt-project.json", "--logic-built", f"{kit()}/logic_built"]
+        return [*words, "--links", f"{self.name}=", "--jobs", str(self.jobs())]
+
+    def words_below(self):
+        """Where the libraries below stand, which were built."""
+        own, needs = crates(), crates()[self.name]
+        words = kit_libraries(it for it in needs if it not in own)
         for it in needs:
             if it in own:
                 words += ["--extern", f"{it}={self.libraries(it)}/{it}.rlib"]
         for it in below(self.name):
             words += ["-L", f"dependency={self.libraries(it)}"]
-        words += ["--antt-project", f"{kit()}/rattle/logic/antt-project.json", "--logic-built", f"{kit()}/logic_built"]
-        return [*words, "--links", f"{self.name}=", "--jobs", str(self.jobs())]
+        return words
+
+    def words_of_sources(self):
+        """The sources of the libraries below, none of which has to be built."""
+        own, its = crates(), below(self.name)
+        words = kit_libraries(dict.fromkeys(it for name in [*its, self.name] for it in own[name] if it not in own))
+        for it in (it for it in own if it in its):
+            words += ["--lib", f"{it}:{','.join(['std', *own[it]])}={ROOT}/crates/{it}/src/lib.rt"]
+        return words
 
     def copied(self, room, texts):
         """Copies the crate's text to a folder, with these texts in place of its own."""
@@ -75,6 +87,13 @@ class Crate:
                 keep(f"{room}/kept", self.kept)
         # (a message that is long goes on in lines that are set in)
         return ran.returncode, re.sub(r"(\.antt:\d+:\d+: error: [^\n]*)\n  (?=\S)", r"\1 ", ran.stdout)
+
+
+def kit_libraries(names):
+    words = []
+    for it in ["std", *names]:
+        words += ["--extern", f"{it}={kit()}/rlibs/{it}.rlib"]
+    return [*words, "-L", f"dependency={kit()}/rlibs"]
 
 
 def leave_holes(name, proofs, edits):

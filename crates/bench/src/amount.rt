@@ -1,4 +1,5 @@
 //! What a row adds to a sum of rows.
+use columnar_variants::cases::{Last, Nth};
 
 /// A row that is a number, or is made of such.
 pub trait Amount {
@@ -45,6 +46,21 @@ impl<T: Amount + Copy, E: Amount + Copy> Amount for Result<T, E> {
             Ok(value) => value.amount(),
             Err(error) => error.amount(),
         }
+    }
+}
+
+impl<A: Amount + Copy, B: Amount + Copy> Amount for Nth<A, B> {
+    fn amount(self) -> u64 {
+        match self {
+            Nth::This(value) => value.amount(),
+            Nth::Next(other) => other.amount(),
+        }
+    }
+}
+
+impl<C: Amount> Amount for Last<C> {
+    fn amount(self) -> u64 {
+        self.0.amount()
     }
 }
 

@@ -2,6 +2,7 @@
 ghost use Rattle.std.specs.Prelude.{◌<◌};
 
 use crate::clock::Random;
+use columnar_variants::cases::{Last, Nth};
 use std::alloc::Global;
 
 pub fn rows(alloc: Global, count: usize, random: &mut Random) -> Option<Vec<(u64, Option<u64>)>> {
@@ -115,6 +116,24 @@ pub fn results(alloc: Global, count: usize, random: &mut Random) -> Option<Vec<R
         results.push(result).ok()?;
     }
     Some(results)
+}
+
+/// A value of one of three variants.
+pub type Kind = Nth<u64, Nth<u32, Last<u32>>>;
+
+/// Values of each variant, of one as many as of another.
+pub fn kinds(alloc: Global, count: usize, random: &mut Random) -> Option<Vec<Kind>> {
+    let mut kinds = Vec::new(alloc);
+    for _kind in 0..count {
+        let word = random.next();
+        let kind = match word % 3 {
+            0 => Nth::This(word),
+            1 => Nth::Next(Nth::This((word >> 32) as u32)),
+            _ => Nth::Next(Nth::Next(Last((word >> 32) as u32))),
+        };
+        kinds.push(kind).ok()?;
+    }
+    Some(kinds)
 }
 
 /// The variants 0, 1 and 2.

@@ -6,16 +6,21 @@ mod amount;
 mod bits;
 mod cells;
 mod clock;
+mod commands;
 mod input;
 mod kinds;
 mod lists;
 mod numbers;
+mod opened;
 mod plain;
 mod repeated;
 mod rows;
+mod sorts;
 mod strings;
 mod times;
+mod trees;
 mod unary;
+mod variants;
 mod work;
 
 use crate::times::Times;
@@ -33,8 +38,13 @@ fn all<R: Clock, O: Write>(times: &mut Times<'_, R, O>) -> Option<()> {
         unary::measure(times)?;
         strings::measure(times)?;
         kinds::measure(times)?;
+        variants::measure(times)?;
         repeated::measure(times)?;
         cells::measure(times)?;
+        trees::measure(times)?;
+        opened::measure(times)?;
+        sorts::measure(times)?;
+        commands::measure(times)?;
     }
     Some(())
 }

@@ -1,7 +1,7 @@
 //! Numbers alone.
 use crate::clock::Random;
-use crate::input;
 use crate::times::Times;
+use crate::{input, work};
 use columnar_base::traits::PushRef;
 use columnar_base::view::View;
 use columnar_bytes::indexed::validate;
@@ -18,9 +18,7 @@ const N: usize = 1_000_000;
 pub fn measure<R: Clock, O: Write>(times: &mut Times<'_, R, O>) -> Option<()> {
     let mut random = Random::new(11);
     let words = input::words(times.alloc, N, &mut random)?;
-    let start = times.start();
-    let _column = sliced(times.alloc, words.as_slice())?;
-    times.end("push_slice_u64", start, N)?;
+    pushed(times, words.as_slice())?;
     let bytes = typed(times, words.as_slice())?;
     let start = times.start();
     let sum = validated(bytes.as_slice());
@@ -28,8 +26,22 @@ pub fn measure<R: Clock, O: Write>(times: &mut Times<'_, R, O>) -> Option<()> {
     opened(times, bytes)
 }
 
+// Each column is dropped before the next is made, so that all are made in the same memory.
+fn pushed<R: Clock, O: Write>(times: &mut Times<'_, R, O>, words: &[u64]) -> Option<()> {
+    let start = times.start();
+    let column = work::push_refs::<u64, Vec<u64>>(times.alloc, words).ok()?;
+    times.end("push_u64", start, N)?;
+    drop(column);
+    let start = times.start();
+    let column = sliced(times.alloc, words)?;
+    times.end("push_slice_u64", start, N)?;
+    drop(column);
+    Some(())
+}
+
 fn typed<R: Clock, O: Write>(times: &mut Times<'_, R, O>, words: &[u64]) -> Option<Vec<u8>> {
-    let stash = Numbers::Typed(times.refs::<u64, Vec<u64>>("push_u64", words)?);
+    let column = work::push_refs::<u64, Vec<u64>>(times.alloc, words).ok()?;
+    let stash = Numbers::Typed(column);
     let view = stash.borrow();
     times.copy::<View<'_, u64>, Vec<u64>>("copy_u64", view, 0, N)?;
     times.sum("sum_u64_typed", &view)?;

@@ -1,7 +1,8 @@
 //! Items that may be pushed whatever they are.
-ghost use Rattle.bench.specs.Valid.{option_always, result_always};
+ghost use Rattle.bench.specs.Valid.{option_always, result_always, nth_always};
 
 use columnar_base::traits::Item;
+use columnar_variants::cases::{Cases, Last, Nth};
 
 /// An item that holds no view, so that each value of it is valid.
 pub trait Plain: Item {
@@ -34,6 +35,14 @@ impl<T: Plain> Plain for Option<T> {
 
 impl<T: Plain, E: Plain> Plain for Result<T, E> {
     ghost always_valid = { result_always T.valid E.valid T.always_valid E.always_valid };
+}
+
+impl<A: Plain, B: Plain + Cases> Plain for Nth<A, B> {
+    ghost always_valid = { nth_always A.valid B.valid A.always_valid B.always_valid };
+}
+
+impl<C: Plain> Plain for Last<C> {
+    ghost always_valid = { λ x. C.always_valid x.0 };
 }
 
 impl<P: Plain, Q: Plain> Plain for (P, Q) {

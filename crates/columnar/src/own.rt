@@ -1,4 +1,5 @@
 //! Values of one's own as rows.
 
-pub use columnar_own::push::PushParts;
+pub use columnar_own::push::{LendRow, PushParts};
 pub use columnar_own::rows::{MakeRow, OwnRow, OwnRows};
+pub use columnar_own::same::SameParts;

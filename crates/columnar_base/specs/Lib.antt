@@ -35,3 +35,5 @@ pub mod WordViewLaws
 pub mod OptionRows
 pub mod ResultRows
 pub mod Texts
+pub mod May
+pub mod MayLaws

@@ -3,3 +3,4 @@ pub mod BitLaws
 pub mod BoolColumns
 pub mod BoolLaws
 pub mod BoolBytes
+pub mod MayBitLaws

@@ -43,4 +43,6 @@ pub use Rattle.columnar_base.specs.ResultRows
 pub use Rattle.columnar_base.specs.WordViews
 pub use Rattle.columnar_base.specs.WordViewLaws
 pub use Rattle.columnar_base.specs.Texts
+pub use Rattle.columnar_base.specs.May
+pub use Rattle.columnar_base.specs.MayLaws
 pub mod LentLaws

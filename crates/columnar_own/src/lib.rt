@@ -5,3 +5,5 @@ pub mod bytes;
 pub mod grow;
 pub mod push;
 pub mod rows;
+pub mod same;
+pub mod set;

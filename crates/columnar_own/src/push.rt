@@ -1,5 +1,5 @@
 //! Values and rows of one's own that are pushed: by value, by reference, and as rows that were read.
-ghost use Rattle.std.specs.Prelude.{[], ◌∷◌, OnOk, IfErr};
+ghost use Rattle.std.specs.Prelude.{◌≡◌, [], ◌∷◌, OnOk, IfErr};
 ghost use Rattle.columnar_base.specs.Format.{IsSound};
 ghost use Rattle.columnar_base.specs.Change.{Took, Refused};
 
@@ -15,6 +15,30 @@ pub trait PushParts<P: Column>: Item {
         requires valid { Self.valid self.now }
         ensures ok { OnOk result (Took P.format (P.content parts.old) (P.content parts.new) (Self.meaning self.now ∷ [])) }
         ensures err { IfErr result (λ e. Refused P.format (P.content parts.old) (P.content parts.new) (Self.meaning self.now ∷ []) e) };
+}
+
+/// A value that lends what it is made of, as a row.
+pub trait LendRow<'x>: Item {
+    /// The row: of an enum, one of the same variants.
+    type Lent: Copy + Item;
+
+    /// The row, which means the same as the value.
+    fn lend_row(&'x self) -> Self::Lent
+        requires { Self.valid self.now }
+        ensures row { Self.Lent.meaning result ≡ Self.meaning self.now }
+        ensures valid { Self.Lent.valid result };
+
+    /// Pushes that row: what `push_parts` of such a value does.
+    final fn push_lent<P: Column>(&'x self, parts: &mut P) -> Result<(), GrowError>
+    where
+        Self::Lent: PushParts<P>,
+        requires sound { IsSound P.format (P.content parts.old) }
+        requires valid { Self.valid self.now }
+        ensures ok { OnOk result (Took P.format (P.content parts.old) (P.content parts.new) (Self.meaning self.now ∷ [])) }
+        ensures err { IfErr result (λ e. Refused P.format (P.content parts.old) (P.content parts.new) (Self.meaning self.now ∷ []) e) }
+    {
+        self.lend_row().push_parts(parts)
+    }
 }
 
 impl<'x, T: PushParts<P>, P: Column> PushParts<P> for &'x T {

@@ -2,6 +2,7 @@
 ghost use Rattle.std.specs.Prelude.{◌≡◌};
 
 use columnar_base::traits::{Column, Index, Item, Len};
+use std::fmt::{self, Debug, Formatter, Write};
 use std::marker::PhantomData;
 
 /// How a type whose values are kept shows rows of what they are made of, which are read as `R`.
@@ -53,6 +54,13 @@ impl<R: Item, K> Item for OwnRow<R, K> {
     ghost meaning = { λ r. R.meaning r.parts };
 
     ghost valid = { λ r. R.valid r.parts };
+}
+
+/// Prints the parts.
+impl<R: Debug, K> Debug for OwnRow<R, K> {
+    fn fmt<W: Write>(&self, f: &mut Formatter<W>) -> fmt::Result {
+        self.parts.fmt(f)
+    }
 }
 
 /// A column of values of one's own, of the type `K`, or a view of one: it is kept in a column of what they are made of, with

@@ -19,3 +19,5 @@ pub mod StrideLaws
 pub mod StrideCopies
 pub mod Tried
 pub mod TriedLaws
+pub mod MayMultiples
+pub mod MayValueLaws

@@ -26,3 +26,5 @@ pub mod UnaryBits
 pub mod UnaryRanges
 pub mod UnaryChanges
 pub mod EarlierSums
+pub mod MaySums
+pub mod MaySumLaws

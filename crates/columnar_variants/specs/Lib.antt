@@ -25,3 +25,5 @@ pub mod BankBytes
 pub mod BankCopyLaws
 pub mod BankEarlier
 pub mod FrontLaws
+pub mod MayVariants
+pub mod MayVariantLaws

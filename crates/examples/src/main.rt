@@ -1,4 +1,4 @@
-//! Examples of programs that use columns: a log of events, which is written, opened, read in place and changed.
+//! Examples of programs that use columns: a first column, a report, a log of events, spans, levels, and rows of one's own.
 #![tactic(auto)]
 
 mod first;
@@ -10,9 +10,9 @@ mod visit;
 
 use columnar::bytes::stash::{Command, Stash};
 use columnar::fault::GrowError;
-use columnar::{Borrow, Index, Push, Storage};
+use columnar::{Borrow, Index, Push, SliceNames, Storage};
 use level::{Level, Levels};
-use log::Log;
+use log::{Columns, Log};
 use report::Report;
 use spans::{Span, Spans};
 use std::alloc::{AllocError, Global};
@@ -158,8 +158,9 @@ fn events<O: Write>(alloc: Global, out: &mut O) -> Result<(), Failure> {
     changed(alloc, &log, out)
 }
 
-// The bytes of the log, spoilt in three ways, and why each is refused.
+// The bytes of the log, spoilt in three ways, why each is refused, and the name of the slice that breaks a rule.
 fn refused<O: Write>(alloc: Global, log: &Log, out: &mut O) -> Result<(), Failure> {
+    let names = Columns::slice_names(alloc)?;
     for (at, byte) in [(0u64, 1u8), (8, 0), (88, 9)] {
         let Some(mut bytes) = log.written(alloc) else {
             return Err(Failure::Growth);
@@ -169,7 +170,12 @@ fn refused<O: Write>(alloc: Global, log: &Log, out: &mut O) -> Result<(), Failur
         }
         match Log::open(alloc, bytes) {
             Ok(_) => writeln!(out, "byte {at} is {byte}: accepted")?,
-            Err(fault) => writeln!(out, "byte {at} is {byte}: {fault}")?,
+            // A rule of the whole store, and not of a slice
+            Err(fault) if fault.number() <= 5 => writeln!(out, "byte {at} is {byte}: {fault}")?,
+            Err(fault) => {
+                let name = names.get(fault.slice()).map_or("", |name| name.as_str());
+                writeln!(out, "byte {at} is {byte}: {fault} ({name})")?
+            }
         }
     }
     Ok(())

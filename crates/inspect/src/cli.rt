@@ -2,7 +2,7 @@
 use crate::table::{framed, write_table};
 use columnar::fault::StoreFault;
 use std::fs;
-use std::io::{self, Write};
+use std::io::{self, ErrorKind, Write};
 use std::rt::Files;
 
 const USAGE: &str = "usage: inspect PATH";
@@ -18,6 +18,7 @@ pub fn run_words<R: Files + AllocGlobal, O: Write, E: Write>(
     match words {
         [path] => match fs::read(rt, path.as_str()) {
             Ok(bytes) => shown(bytes.as_slice(), out, err),
+            Err(error) if error.kind() == ErrorKind::OutOfMemory => no_memory(err),
             Err(_) => say(err, "failed: cannot read", 1),
         },
         _ => say(err, USAGE, 2),

@@ -1,3 +1,4 @@
+-- Rows that are the same where a digit of theirs is: that this is a sameness, for a test of lists over such rows.
 use Rattle.std.proofs.Common.{◌≡◌, ℕ, Bool, true, List, ap}
 use Rattle.columnar_base.specs.Row.{Row, row_eq}
 use Rattle.columnar_base.specs.RowLaws.{row_eq-is}

@@ -9,6 +9,10 @@ mod claims;
 #[cfg(test)]
 mod depth;
 #[cfg(test)]
+mod entries;
+#[cfg(test)]
+mod folders;
+#[cfg(test)]
 mod nests;
 #[cfg(test)]
 mod options;

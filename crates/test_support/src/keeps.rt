@@ -1,5 +1,5 @@
 //! Calls that take memory, with whatever request for it refused: each is done, or nothing has changed.
-ghost use Rattle.std.specs.Prelude.{IsTrue};
+ghost use Rattle.std.specs.Prelude.{All, IfSome, IsTrue};
 ghost use Rattle.columnar_base.specs.Format.{IsSound, representable};
 ghost use Rattle.columnar_bytes.specs.Stashes.{stash_content};
 
@@ -64,7 +64,91 @@ pub fn push_ref_keeps<T: Item, C: ContainerBytes + Storage + PushRef<T>>(
     variant(stash) == 0 && writes(stash, after)
 }
 
-/// The same of a copy of the first rows of a view.
+// Extends a stash by one item.
+fn extend<T: Item + Copy, C: ContainerBytes + Storage + Push<T>>(
+    stash: &mut Stash<C, Vec<u8>>,
+    item: T,
+) -> Result<(), GrowError>
+    requires sound { IsSound C.format (stash_content stash.old) }
+    requires valid { T.valid item }
+    ensures { IsSound C.format (stash_content stash.new) }
+{
+    stash.extend(once(item))
+}
+
+/// An extension is done, or stopped at the item that is refused, and then done.
+pub fn extension_keeps<T: Item + Copy, C: ContainerBytes + Storage + Push<T>>(
+    stash: &mut Stash<C, Vec<u8>>,
+    item: T,
+    before: &[u64],
+    after: &[u64],
+) -> bool
+    requires representable { IsTrue (representable C.format) }
+    requires sound { IsSound C.format (stash_content stash.old) }
+    requires valid { T.valid item }
+    ensures { IsSound C.format (stash_content stash.new) }
+{
+    let held = variant(stash);
+    match extend(stash, item) {
+        Ok(()) => {}
+        Err(error) => {
+            let kept = variant(stash) == held && writes(stash, before);
+            if error != GrowError::Memory || !kept || extend(stash, item).is_err() {
+                return false;
+            }
+        }
+    }
+    variant(stash) == 0 && writes(stash, after)
+}
+
+/// An item twice.
+pub fn twice<T: Item + Copy>(alloc: Global, item: T) -> Option<Vec<T>>
+    requires { T.valid item }
+    ensures { IfSome result (λ v. All T.valid v.items) }
+{
+    let mut items = Vec::new(alloc);
+    items.push(item).ok()?;
+    items.push(item).ok()?;
+    Some(items)
+}
+
+/// Two items are pushed at once, or neither of them; the second is cut off again. Where the column can't hold both, they are
+/// refused for that.
+pub fn slice_keeps<T: Item, C: ContainerBytes + Storage + PushRef<T>>(
+    stash: &mut Stash<C, Vec<u8>>,
+    items: &[T],
+    before: &[u64],
+    after: &[u64],
+) -> bool
+    requires representable { IsTrue (representable C.format) }
+    requires sound { IsSound C.format (stash_content stash.old) }
+    requires valid { All T.valid items.now }
+    ensures { IsSound C.format (stash_content stash.new) }
+{
+    let held = variant(stash);
+    let rows = stash.len();
+    let mut done = stash.push_slice(items);
+    if done == Err(GrowError::Memory) {
+        if variant(stash) != held || !writes(stash, before) {
+            return false;
+        }
+        done = stash.push_slice(items);
+    }
+    match done {
+        Ok(()) => {
+            let both = stash.len();
+            both.checked_sub(2) == Some(rows)
+                && stash.truncate(both - 1).is_ok()
+                && variant(stash) == 0
+                && writes(stash, after)
+        }
+        Err(error) => {
+            error != GrowError::Memory && variant(stash) == held && writes(stash, before)
+        }
+    }
+}
+
+/// A copy of the first rows of a view is done, or refused and then done.
 pub fn copy_keeps<V: Len + Copy, C: ContainerBytes + Storage + ExtendFrom<V>>(
     stash: &mut Stash<C, Vec<u8>>,
     view: V,
@@ -94,6 +178,30 @@ pub fn copy_keeps<V: Len + Copy, C: ContainerBytes + Storage + ExtendFrom<V>>(
         }
     }
     variant(stash) == 0 && writes(stash, after)
+}
+
+/// The same of a copy whose range is tested, into a column.
+pub fn tested_copy_keeps<V: Len + Copy, C: ContainerBytes + Storage + ExtendFrom<V>>(
+    stash: &mut Stash<C, Vec<u8>>,
+    view: V,
+    count: usize,
+    before: &[u64],
+    after: &[u64],
+) -> bool
+    requires representable { IsTrue (representable C.format) }
+    requires sound { IsSound C.format (stash_content stash.old) }
+    requires view_sound { IsSound V.format (V.content view) }
+    ensures { IsSound C.format (stash_content stash.new) }
+{
+    let done = match stash {
+        Stash::Typed(column) => column.extend_checked(view, 0..count),
+        _ => None,
+    };
+    match done {
+        Some(Ok(())) => writes(stash, after),
+        Some(Err(error)) => error == GrowError::Memory && writes(stash, before),
+        None => false,
+    }
 }
 
 /// Room for a view is made, or not; the rows stay.

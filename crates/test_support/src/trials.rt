@@ -5,8 +5,9 @@ ghost use Rattle.columnar_bytes.specs.Stashes.{stash_content};
 ghost use Rattle.columnar_bytes.specs.Machine.{IsValid};
 
 use crate::keeps::{
-    aligning_keeps, clones_keep, copy_keeps, cut_keeps, encoding_keeps, loading_keeps, push_keeps,
-    push_ref_keeps, room_is_made_or_refused, room_keeps, sizes_keep, turns_keep,
+    aligning_keeps, clones_keep, copy_keeps, cut_keeps, encoding_keeps, extension_keeps,
+    loading_keeps, push_keeps, push_ref_keeps, room_is_made_or_refused, room_keeps, sizes_keep,
+    slice_keeps, tested_copy_keeps, turns_keep, twice,
 };
 use crate::stashes::{opened, variant, writes};
 use crate::stores::bytes_of;
@@ -71,6 +72,37 @@ pub fn pushes_keep<
         && both_pushes_keep::<&'a T, C>(alloc, item, trial)
         && push_ref_keeps(&mut stash, item, trial.before, trial.after)
         && push_ref_keeps(&mut typed, item, trial.before, trial.after)
+        && pushes_of_many_keep::<T, C>(alloc, *item, trial)
+}
+
+/// Extensions of bytes and of a column, and pushes of slices to both.
+pub fn pushes_of_many_keep<T: Item + Copy, C: ContainerBytes + Storage + Push<T> + PushRef<T>>(
+    alloc: Global,
+    item: T,
+    trial: &Trial<'_>,
+) -> bool
+    requires representable { IsTrue (representable C.format) }
+    requires valid { T.valid item }
+{
+    let Some(mut stash) = opened::<C>(alloc, trial.before) else {
+        return true;
+    };
+    let Ok(mut typed) = stash.to_typed(alloc) else {
+        return true;
+    };
+    let Ok(mut other) = stash.to_typed(alloc) else {
+        return true;
+    };
+    let Some(mut bytes) = opened::<C>(alloc, trial.before) else {
+        return true;
+    };
+    let Some(items) = twice(alloc, item) else {
+        return true;
+    };
+    extension_keeps(&mut stash, item, trial.before, trial.after)
+        && extension_keeps(&mut typed, item, trial.before, trial.after)
+        && slice_keeps(&mut other, items.as_slice(), trial.before, trial.after)
+        && slice_keeps(&mut bytes, items.as_slice(), trial.before, trial.after)
 }
 
 /// Copies of rows, and room for them: in bytes, in a column and in an empty one.
@@ -88,12 +120,22 @@ pub fn copies_keep<V: Len + Copy, C: ContainerBytes + Storage + ExtendFrom<V>>(
     let Ok(mut typed) = stash.to_typed(alloc) else {
         return true;
     };
+    let Ok(mut tested) = stash.to_typed(alloc) else {
+        return true;
+    };
     let Some(mut roomy) = opened::<C>(alloc, trial.into) else {
         return true;
     };
     room_is_made_or_refused::<V, C>(alloc, source)
         && room_keeps(&mut roomy, source, trial.into)
         && room_keeps(&mut typed, source, trial.into)
+        && tested_copy_keeps(
+            &mut tested,
+            source,
+            trial.taken,
+            trial.into,
+            trial.with_taken,
+        )
         && copy_keeps(
             &mut stash,
             source,
@@ -205,6 +247,28 @@ where
         Some(stash) => calls_keep::<_, C>(alloc, stash.borrow(), trial),
         None => true,
     }
+}
+
+/// Each call that takes memory: those that copy or make a column, and pushes of an item by value and by reference.
+pub fn each_call_keeps<'a, T: Item + Copy, C>(
+    alloc: Global,
+    item: &'a T,
+    source: &'a mut Option<Stash<C, Vec<u8>>>,
+    trial: &Trial<'_>,
+) -> bool
+where
+    C: Push<T>
+        + Push<&'a T>
+        + PushRef<T>
+        + ContainerBytes
+        + Storage
+        + Clone
+        + Borrow<'a, Borrowed: FromBytes<'a> + AsBytes<'a>>
+        + ExtendFrom<<C as Borrow<'a>>::Borrowed>,
+    requires representable { IsTrue (representable C.format) }
+    requires valid { T.valid item.now }
+{
+    copies_and_turns_keep(alloc, source, trial) && pushes_keep::<T, C>(alloc, item, trial)
 }
 
 /// A run of one command does it, or tells that memory was refused; the stash is as it was then.

@@ -5,7 +5,8 @@ ghost use Rattle.columnar.specs.Format.{representable};
 use columnar::bytes::stash::Stash;
 use columnar::fault::{GrowError, OwnError};
 use columnar::{
-    Borrow, Columnar, ContainerBytes, ContainerOf, FromRow, Index, Item, Len, PushRef, Ref, Storage,
+    Borrow, Columnar, ContainerBytes, ContainerOf, FromRow, Index, Item, Len, PushRef, Ref,
+    SliceNames, Storage,
 };
 use std::alloc::Global;
 
@@ -110,4 +111,30 @@ where
     T::Container: ContainerBytes + PushRef<T>,
 {
     true
+}
+
+/// Are these the names of the type's slices, each with a space after it?
+pub fn has_names<C: SliceNames>(alloc: Global, expected: &str) -> bool {
+    names_or_lack_memory::<C>(alloc, expected) == Outcome::Same
+}
+
+/// As `has_names`, where memory may be refused.
+pub fn names_or_lack_memory<C: SliceNames>(alloc: Global, expected: &str) -> Outcome {
+    let names = match C::slice_names(alloc) {
+        Ok(names) => names,
+        Err(GrowError::Memory) => return Outcome::NoMemory,
+        Err(_) => return Outcome::Other,
+    };
+    let mut rest = expected;
+    for name in names.iter() {
+        match rest.strip_prefix(name.as_str()) {
+            Some(after) => rest = after.strip_prefix(" ").unwrap_or("?"),
+            None => return Outcome::Other,
+        }
+    }
+    if rest.is_empty() {
+        Outcome::Same
+    } else {
+        Outcome::Other
+    }
 }

@@ -5,6 +5,8 @@ pub mod calls;
 #[cfg(test)]
 mod claims;
 #[cfg(test)]
+mod names;
+#[cfg(test)]
 mod owned;
 #[cfg(test)]
 mod refused;

@@ -4,6 +4,10 @@
 #[cfg(test)]
 mod claims;
 #[cfg(test)]
+mod groups;
+#[cfg(test)]
+mod own;
+#[cfg(test)]
 mod refused;
 #[cfg(test)]
 mod three;

@@ -32,16 +32,18 @@ type Owned = Unaries<Vec<u64>, Vec<u64>, [u64; 2]>;
 
 type Viewed<'a> = Unaries<View<'a, u64>, View<'a, u64>, View<'a, u64>>;
 
-// Appends `count` falses and a true, which fill no word.
-fn push_short(values: &mut Bools<Vec<u64>, [u64; 2]>, count: usize)
+// Appends `count` falses and a true, which stand in two words at most; all or none.
+fn push_short(values: &mut Bools<Vec<u64>, [u64; 2]>, count: usize) -> Result<(), GrowError>
     requires sound { IsSound bools_format (owned_content values.old) }
-    requires few { length (owned_bits values.old) % 64 + count < 63 }
-    ensures bits { owned_bits values.new ≡ owned_bits values.old ++ (zeros count ++ true ∷ []) }
+    requires few { count < 64 }
+    ensures ok { OnOk result (owned_bits values.new ≡ owned_bits values.old ++ (zeros count ++ true ∷ [])) }
+    ensures err { OnErr result (owned_content values.new ≡ owned_content values.old) }
     ensures sound { IsSound bools_format (owned_content values.new) }
+    ensures memory { IfErr result (λ e. e ≡ GrowError.Memory) }
 {
     match values.push_bits(1 << count, count + 1) {
-        Ok(()) => {}
-        Err(_) => unreachable!(),
+        Ok(()) => Ok(()),
+        Err(_) => Err(GrowError::Memory),
     }
 }
 
@@ -136,7 +138,7 @@ fn extend_falses(bits: &mut Held, count: usize) -> Result<(), GrowError>
 }
 
 // Appends `count` falses and a true; all or none. Memory for the words is taken before a bit is written, and none where
-// they fill no word.
+// they fill no word. Most runs are short and complete no 1024, and grow by one word at most.
 #[inline]
 fn push_run(bits: &mut Held, count: usize) -> Result<(), GrowError>
     requires sound { IsSound ranks_format (owned_ranks bits.old) }
@@ -146,14 +148,15 @@ fn push_run(bits: &mut Held, count: usize) -> Result<(), GrowError>
     ensures sound { IsSound ranks_format (owned_ranks bits.new) }
     ensures memory { IfErr result (λ e. e ≡ GrowError.Memory) }
 {
-    if bits.values.len() % 64 + count < 63 {
-        push_short(&mut bits.values, count);
+    if count < 64 && bits.values.len() % 1024 + count < 1023 {
+        push_short(&mut bits.values, count)?;
         return Ok(());
     }
     push_long(bits, count)
 }
 
-// As `push_run`, of bits that may fill a word; apart, so that the push of others is a few instructions.
+// As `push_run`, of bits that may complete 1024 or stand in more words; apart, so that the push of others is a few
+// instructions.
 #[cold]
 #[inline(never)]
 fn push_long(bits: &mut Held, count: usize) -> Result<(), GrowError>

@@ -1,6 +1,7 @@
 //! Rows of `Visit`, as `columnar_derive` writes them.
 use super::*;
 use columnar::fault::{GrowError, OwnError};
+use columnar::names::PartNames;
 use columnar::{Columnar, ContainerOf, FromRow, Item, MakeRow, OwnRow, OwnRows, Push, PushParts};
 use std::alloc::Global;
 
@@ -62,6 +63,19 @@ impl<
 > PushParts<P> for VisitReference<A, B, C, D, E> {
     fn push_parts(&self, parts: &mut P) -> Result<(), GrowError> {
         parts.push((self.time, self.user, self.pages, self.level, self.note))
+    }
+}
+
+impl PartNames for Visit {
+    fn part_name(index: usize) -> &'static str {
+        match index {
+            0 => "time",
+            1 => "user",
+            2 => "pages",
+            3 => "level",
+            4 => "note",
+            _ => "",
+        }
     }
 }
 

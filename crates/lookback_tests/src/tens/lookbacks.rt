@@ -5,6 +5,7 @@ ghost use Rattle.columnar_bytes.specs.Stashes.{stash_content};
 use super::Tens;
 use crate::rows::numbers;
 use columnar_bytes::stash::Stash;
+use columnar_core::container::ContainerBytes;
 use columnar_core::traits::Column;
 use columnar_lists::vector::Vecs;
 use columnar_lookback::lookbacks::Lookbacks;
@@ -60,6 +61,17 @@ fn has_both_lists<'a>(stash: &'a Stash<Lists, Vec<u8>>) -> bool
         && item_of(row_of(stash, 1), 1).is_none()
 }
 
+// Makes a stash typed where it is. Its rows are as they were, or memory was refused.
+fn made_typed<C: ContainerBytes + Drop>(stash: &mut Stash<C, Vec<u8>>) -> bool
+    requires { IsSound C.format (stash_content stash.old) }
+    ensures { IsSound C.format (stash_content stash.new) }
+{
+    match stash.make_typed() {
+        Ok(_column) => true,
+        Err(_) => false,
+    }
+}
+
 #[test]
 fn lists_of_digits_are_opened_and_loaded(rt: HostRuntime) -> Result<(), Fail> {
     let stash = opened::<Lists>(rt.alloc(), TWO_LISTS.as_slice()).expect(&rt, "opened");
@@ -68,5 +80,14 @@ fn lists_of_digits_are_opened_and_loaded(rt: HostRuntime) -> Result<(), Fail> {
     let typed = stash.to_typed(rt.alloc())?;
     equal!(rt; variant(&typed), 0);
     holds!(rt; has_both_lists(&typed));
+    Ok(())
+}
+
+#[test]
+fn lists_of_digits_are_made_typed(rt: HostRuntime) -> Result<(), Fail> {
+    let mut stash = opened::<Lists>(rt.alloc(), TWO_LISTS.as_slice()).expect(&rt, "opened");
+    holds!(rt; made_typed(&mut stash));
+    equal!(rt; variant(&stash), 0);
+    holds!(rt; has_both_lists(&stash));
     Ok(())
 }

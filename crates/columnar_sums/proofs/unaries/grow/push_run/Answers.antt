@@ -9,10 +9,10 @@ use Rattle.columnar_sums.specs.UnaryBits.{length-zeros}
 use Rattle.columnar_sums.specs.UnaryChanges.{short_ranked}
 use Rattle.columnar_sums.proofs.unaries.grow.push_run.Goals as goal
 
-pub returns-then-len-count-lt63-clause-sound : goal.returns-then-len-count-lt63-clause-sound
-returns-then-len-count-lt63-clause-sound c =
+pub returns-then-len-count-lt1023-clause-sound : goal.returns-then-len-count-lt1023-clause-sound
+returns-then-len-count-lt1023-clause-sound c =
     let a : List ℕ = le_bytes c.args.bits.now.values.values.items in
     let b : List ℕ = le_bytes c.args.bits.now.values.tail in
     let n : length (zeros c.args.count ++ true ∷ []) ≡ c.args.count + 1 = length-append (zeros c.args.count) (true ∷ []) ∙ omega (arith, length-zeros c.args.count) in
-    let l : (length (bits_in a b) + length (zeros c.args.count ++ true ∷ [])) / 1024 ≡ length (bits_in a b) / 1024 = omega (arith, n, c.len.ensures, length-truths_rows a b, c.if-len-count-lt63.true) in
-    ranks_sound (short_ranked (zeros c.args.count ++ true ∷ []) (ranks_parts c.requires.sound) (bools_parts c.push_short.ensures.sound) c.push_short.ensures.bits l).sound
+    let l : (length (bits_in a b) + length (zeros c.args.count ++ true ∷ [])) / 1024 ≡ length (bits_in a b) / 1024 = omega (arith, n, c.len.ensures, length-truths_rows a b, c.if-len-count-lt1023.true) in
+    ranks_sound (short_ranked (zeros c.args.count ++ true ∷ []) (ranks_parts c.requires.sound) (bools_parts c.push_short.ensures.sound) c.in_ok-push_short.ensures.ok l).sound

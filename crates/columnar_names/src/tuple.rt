@@ -1,0 +1,46 @@
+//! Tuples of one and two.
+use crate::names::{NamedParts, Numbered, PartNames, SliceNames, push_field};
+use columnar_base::fault::GrowError;
+use std::alloc::Global;
+
+pub mod eight;
+pub mod five;
+pub mod four;
+pub mod nine;
+pub mod seven;
+pub mod six;
+pub mod ten;
+pub mod three;
+
+impl<A: SliceNames> NamedParts for (A,) {
+    fn push_parts_names<N: PartNames>(
+        alloc: Global,
+        path: &str,
+        names: &mut Vec<String>,
+    ) -> Result<(), GrowError> {
+        push_field::<A>(alloc, path, N::part_name(0), names)
+    }
+}
+
+impl<A: SliceNames> SliceNames for (A,) {
+    fn push_names(alloc: Global, path: &str, names: &mut Vec<String>) -> Result<(), GrowError> {
+        Self::push_parts_names::<Numbered>(alloc, path, names)
+    }
+}
+
+impl<A: SliceNames, B: SliceNames> NamedParts for (A, B) {
+    fn push_parts_names<N: PartNames>(
+        alloc: Global,
+        path: &str,
+        names: &mut Vec<String>,
+    ) -> Result<(), GrowError> {
+        push_field::<A>(alloc, path, N::part_name(0), names)?;
+        push_field::<B>(alloc, path, N::part_name(1), names)
+    }
+}
+
+impl<A: SliceNames, B: SliceNames> SliceNames for (A, B) {
+    fn push_names(alloc: Global, path: &str, names: &mut Vec<String>) -> Result<(), GrowError> {
+        Self::push_parts_names::<Numbered>(alloc, path, names)
+    }
+}

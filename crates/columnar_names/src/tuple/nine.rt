@@ -1,0 +1,50 @@
+// Made by .ci/widths.py: change .ci/widths/names.template, and not this file.
+//! Tuples of nine.
+use crate::names::{NamedParts, Numbered, PartNames, SliceNames, push_field};
+use columnar_base::fault::GrowError;
+use std::alloc::Global;
+
+impl<
+    A: SliceNames,
+    B: SliceNames,
+    C: SliceNames,
+    D: SliceNames,
+    E: SliceNames,
+    F: SliceNames,
+    G: SliceNames,
+    H: SliceNames,
+    I: SliceNames,
+> NamedParts for (A, B, C, D, E, F, G, H, I) {
+    fn push_parts_names<N: PartNames>(
+        alloc: Global,
+        path: &str,
+        names: &mut Vec<String>,
+    ) -> Result<(), GrowError> {
+        push_field::<A>(alloc, path, N::part_name(0), names)?;
+        push_field::<B>(alloc, path, N::part_name(1), names)?;
+        push_field::<C>(alloc, path, N::part_name(2), names)?;
+        push_field::<D>(alloc, path, N::part_name(3), names)?;
+        push_field::<E>(alloc, path, N::part_name(4), names)?;
+        push_field::<F>(alloc, path, N::part_name(5), names)?;
+        push_field::<G>(alloc, path, N::part_name(6), names)?;
+        push_field::<H>(alloc, path, N::part_name(7), names)?;
+        push_field::<I>(alloc, path, N::part_name(8), names)?;
+        Ok(())
+    }
+}
+
+impl<
+    A: SliceNames,
+    B: SliceNames,
+    C: SliceNames,
+    D: SliceNames,
+    E: SliceNames,
+    F: SliceNames,
+    G: SliceNames,
+    H: SliceNames,
+    I: SliceNames,
+> SliceNames for (A, B, C, D, E, F, G, H, I) {
+    fn push_names(alloc: Global, path: &str, names: &mut Vec<String>) -> Result<(), GrowError> {
+        Self::push_parts_names::<Numbered>(alloc, path, names)
+    }
+}

@@ -5,8 +5,8 @@ use Rattle.std.specs.List.{flat_map}
 use Rattle.std.proofs.lemmas.List.{length-replicate, length-take-le, take_at, take_all, take_more_set}
 use Rattle.std.proofs.lemmas.Bool.{cases_lt}
 use Rattle.columnar_base.specs.Row.{Row, list, row_eq}
-use Rattle.columnar_base.specs.Elements.{pieces}
-use Rattle.columnar_base.specs.ElementLaws.{IsElement, length-flat, pieces-flat, map_back, read_more}
+use Rattle.columnar_base.specs.Elements.{pieces, IsElement}
+use Rattle.columnar_base.specs.ElementLaws.{length-flat, pieces-flat, map_back, read_more}
 use Rattle.columnar_base.specs.Arrays.{filled, array_size, array_bytes, array_row_of, array_row}
 
 pub length-filled : (n : ℕ) (bs : List ℕ) → length (filled n bs) ≡ n

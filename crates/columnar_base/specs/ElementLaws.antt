@@ -13,7 +13,7 @@ use Rattle.columnar_base.specs.AlikeLaws.{row_eq_same, alike_all}
 use Rattle.columnar_base.specs.FaultLaws.{unless_true, true_unless}
 use Rattle.columnar_base.specs.Format.{Content, slice, both, part, plain, IsSound, IsLawful, IsStorable, Excess, too_many, misplaced, fault, slices_of, lengths, first, moved}
 use Rattle.columnar_base.specs.Change.{Keeps, Grew, WasCut, Took, Copied}
-use Rattle.columnar_base.specs.Elements.{pieces, past_count, elements_broken, elements_rows, elements_format, elements, first_slice, word_row, word_row_of}
+use Rattle.columnar_base.specs.Elements.{pieces, past_count, elements_broken, elements_rows, elements_format, elements, first_slice, word_row, word_row_of, IsElement}
 
 -- what breaks no rule of elements is a slice
 pub elements_form : (size : ℕ) (c : Content) → elements_broken size c ≡ [] → (bs : List ℕ) × (c ≡ slice bs)
@@ -44,12 +44,6 @@ pieces-flat size bytes h (x ∷ xs) =
     let t : take size (bytes x ++ flat_map bytes xs) ≡ bytes x = rw (← (h x)) (take-append_seam (bytes x) (flat_map bytes xs)) in
     let d : drop size (bytes x ++ flat_map bytes xs) ≡ flat_map bytes xs = rw (← (h x)) (drop-append_seam (bytes x) (flat_map bytes xs)) in
     rw (t, d, pieces-flat size bytes h xs) refl
-
--- how an element is kept: a size, its bytes, and the row that they read as
-pub record IsElement {T : Type 0} (size : ℕ) (bytes : T → List ℕ) (row_of : List ℕ → Row) (meaning : T → Row) : Type 0 where
-  pub positive : 1 ≤ size
-  pub sized : (x : T) → length (bytes x) ≡ size
-  pub read_back : (x : T) → row_of (bytes x) ≡ meaning x
 
 count_of : (size n : ℕ) → 1 ≤ size → size * n / size ≡ n
 count_of size n l = mul-div_cancel_left n {n = size} (omega arith)

@@ -4,6 +4,7 @@ use Rattle.std.specs.List.{flat_map}
 use Rattle.std.specs.Int.{from_le_bytes, w64}
 use Rattle.columnar_base.specs.Row.{Row, number, row_eq}
 use Rattle.columnar_base.specs.Format.{Format, Content, slice, both, part, plain, Fault, fault, unless, misfit, Excess, too_many, misplaced}
+use Rattle.std.proofs.Common.{◌≡◌, ℕ, ◌-◌, ◌≤◌, List, length}
 
 -- n pieces of `size` bytes, one after the other
 abbrev pub pieces : ℕ → ℕ → List ℕ → List (List ℕ)
@@ -61,3 +62,9 @@ word_row_of bs = number (from_le_bytes w64 bs)
 -- one slice of 64-bit words
 abbrev pub words_format : Format
 words_format = elements_format 8 8 word_row_of
+
+-- how an element is kept: a size, its bytes, and the row that they read as
+pub record IsElement {T : Type 0} (size : ℕ) (bytes : T → List ℕ) (row_of : List ℕ → Row) (meaning : T → Row) : Type 0 where
+  pub positive : 1 ≤ size
+  pub sized : (x : T) → length (bytes x) ≡ size
+  pub read_back : (x : T) → row_of (bytes x) ≡ meaning x

@@ -6,6 +6,7 @@ pub mod PartLaws
 pub mod HeldLaws
 pub mod AlikeLaws
 pub mod TwoParts
+pub mod TwoPartsLaws
 pub mod Change
 pub mod ChangeLaws
 pub mod Faults
@@ -20,6 +21,7 @@ pub mod NumberLaws
 pub mod Arrays
 pub mod ArrayLaws
 pub mod SameRows
+pub mod SameRowsLaws
 pub mod Views
 pub mod ViewLaws
 pub mod Tuples

@@ -5,7 +5,8 @@ use Rattle.columnar_base.specs.Row.{Row}
 use Rattle.columnar_base.specs.Format.{Format, Content, slice, both, part, plain, Fault, two_broken, IsSound, IsLawful, IsStorable, Fits}
 use Rattle.columnar_base.specs.Change.{Keeps, Stayed, WasCut, Took, Copied, Refused}
 use Rattle.columnar_base.specs.ChangeLaws.{true_from, unchanged}
-use Rattle.columnar_base.specs.TwoParts.{TwoParts, two_parts, two_sound}
+use Rattle.columnar_base.specs.TwoParts.{TwoParts}
+use Rattle.columnar_base.specs.TwoPartsLaws.{two_parts, two_sound}
 use Rattle.columnar_base.specs.declared.fault.GrowError.{GrowError}
 use Rattle.columnar_base.specs.Tuples.{tuples, pair_format}
 use Rattle.columnar_base.specs.TupleLaws.{pair_parts, pair_sound, pair_stayed, pair_cut, length-tuples}

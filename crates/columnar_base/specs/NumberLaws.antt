@@ -2,7 +2,7 @@
 use Rattle.std.proofs.Common.{◌≡◌, ℕ, ◌-◌, ◌≤◌, List, length, refl, ap, arith}
 use Rattle.std.specs.Int.{Width, w8, w16, w32, w64, w128, byte_len, to_le_bytes, from_le_bytes, cast_signed, cast_unsigned}
 use Rattle.columnar_base.specs.Row.{Row, number, integer}
-use Rattle.columnar_base.specs.ElementLaws.{IsElement}
+use Rattle.columnar_base.specs.Elements.{IsElement}
 use Rattle.columnar_base.specs.Numbers.{wrapped, unsigned_row, unsigned_row_of, signed_bytes, signed_row, signed_row_of}
 
 -- the bytes of a number read as what the width holds of it

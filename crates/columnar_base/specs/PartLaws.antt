@@ -3,8 +3,8 @@ use Rattle.std.proofs.Common.{ℕ, ◌≤◌, ◌&&◌, List, length, arith}
 use Rattle.std.specs.Prelude.{nat_le}
 use Rattle.std.proofs.lemmas.Bool.{and_parts, and_from, leb-true, le-leb}
 use Rattle.columnar_base.specs.Row.{Row}
-use Rattle.columnar_base.specs.Elements.{elements, elements_format}
-use Rattle.columnar_base.specs.ElementLaws.{IsElement, length-typed}
+use Rattle.columnar_base.specs.Elements.{elements, elements_format, IsElement}
+use Rattle.columnar_base.specs.ElementLaws.{length-typed}
 use Rattle.columnar_base.specs.Format.{Format, Content, part, part_format, IsSound, unless, fault}
 use Rattle.columnar_base.specs.FaultLaws.{nothing_left, nothing_both, unless_true, true_unless}
 

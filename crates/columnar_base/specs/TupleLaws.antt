@@ -8,7 +8,8 @@ use Rattle.columnar_base.specs.AlikeLaws.{alike_length, same_pulled, same_both, 
 use Rattle.columnar_base.specs.Format.{Format, Content, slice, both, part, plain, IsSound, IsLawful, IsStorable, IsSame, IsExact, Fits, lengths, all_alike, Excess, refuses_more}
 use Rattle.columnar_base.specs.Change.{Keeps, Grew, Stayed, WasCut, Took, Copied, Refused}
 use Rattle.columnar_base.specs.ChangeLaws.{true_from}
-use Rattle.columnar_base.specs.TwoParts.{TwoParts, two_parts, two_sound, two_storable}
+use Rattle.columnar_base.specs.TwoParts.{TwoParts}
+use Rattle.columnar_base.specs.TwoPartsLaws.{two_parts, two_sound, two_storable}
 use Rattle.columnar_base.specs.declared.fault.GrowError.{GrowError}
 use Rattle.columnar_base.specs.Tuples.{tuples, firsts, seconds, pair_level, pair_alike, pair_refuses, pair_format}
 

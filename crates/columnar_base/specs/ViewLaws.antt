@@ -4,8 +4,8 @@ use Rattle.std.proofs.Math.Nat.{mul-div-le, mul-le-mul_left, mul-mod_right, mul-
 use Rattle.std.proofs.lemmas.Bool.{eq-eqb}
 use Rattle.std.proofs.lemmas.List.{drop-drop, drop-take, take-take, take-map, drop-map, length-take-le}
 use Rattle.columnar_base.specs.Row.{Row}
-use Rattle.columnar_base.specs.Elements.{pieces, elements, elements_rows, elements_format}
-use Rattle.columnar_base.specs.ElementLaws.{IsElement, length-elements, rows_typed}
+use Rattle.columnar_base.specs.Elements.{pieces, elements, elements_rows, elements_format, IsElement}
+use Rattle.columnar_base.specs.ElementLaws.{length-elements, rows_typed}
 use Rattle.columnar_base.specs.FaultLaws.{true_unless}
 use Rattle.columnar_base.specs.declared.view.Items.{Items}
 use Rattle.columnar_base.specs.declared.view.Items.TheVariants.{Typed, Bytes}

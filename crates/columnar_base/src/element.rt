@@ -1,7 +1,7 @@
 //! What the elements of a `Vec` are: values of one size, each kept in its little-endian bytes.
 ghost use Rattle.std.specs.Prelude.{◌≡◌, ℕ, ◌<◌, ◌≤◌, ◌-◌, ◌^◌, List, length, min, slice_index};
 ghost use Rattle.columnar_base.specs.Row.{Row, row_eq};
-ghost use Rattle.columnar_base.specs.ElementLaws.{IsElement};
+ghost use Rattle.columnar_base.specs.Elements.{IsElement};
 
 use crate::traits::Item;
 

@@ -2,7 +2,8 @@
 ghost use Rattle.std.specs.Prelude.{◌≡◌, ℕ, ◌+◌, ◌-◌, ◌*◌, ◌/◌, ◌<◌, ◌≤◌, length, refl, take, drop, slice_get, Some};
 ghost use Rattle.columnar_base.specs.Format.{slice, IsSound};
 ghost use Rattle.columnar_base.specs.Elements.{elements_format, elements_rows, elements};
-ghost use Rattle.columnar_base.specs.SameRows.{same_rows, same_rows_law};
+ghost use Rattle.columnar_base.specs.SameRows.{same_rows};
+ghost use Rattle.columnar_base.specs.SameRowsLaws.{same_rows_law};
 ghost use Rattle.columnar_base.specs.Views.{items_content};
 
 use crate::element::Element;

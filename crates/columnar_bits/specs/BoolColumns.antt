@@ -9,6 +9,7 @@ use Rattle.columnar_bits.specs.Bits.{bits_of}
 use Rattle.columnar_core.specs.declared.fault.GrowError.{GrowError}
 use Rattle.columnar_core.specs.declared.fault.GrowError.TheVariants.{Memory, Length, Offset, Format as FormatError}
 use Rattle.columnar_bits.specs.declared.bools.Bools.{Bools}
+use Rattle.std.proofs.Common.{◌≡◌, ℕ, ◌-◌, ◌%◌, ◌^◌, ◌<◌, List, length}
 
 -- the last bits that a tail holds, and how many of them count
 abbrev pub last_word : List ℕ → ℕ
@@ -90,3 +91,24 @@ IsOfGrowth Memory = Unit {0}
 IsOfGrowth Length = Unit {0}
 IsOfGrowth Offset = ⊥
 IsOfGrowth FormatError = ⊥
+
+-- what the soundness of a column of bits is made of
+pub record SoundBools (values tail : List ℕ) : Type 0 where
+  pub whole : length values % 8 ≡ 0
+  pub two : length tail ≡ 16
+  pub few : last_count tail < 64
+  pub clear : last_word tail < 2 ^ last_count tail
+  pub short : bit_count values tail < 2 ^ 64
+
+-- a sound content is of two slices
+pub record TwoSlices (c : Content) : Type 0 where
+  pub values : List ℕ
+  pub tail : List ℕ
+  pub is : c ≡ both (slice values) (slice tail)
+
+-- tails by their two words
+
+pub record Tail (b : List ℕ) (w c : ℕ) : Type 0 where
+  pub two : length b ≡ 16
+  pub word : last_word b ≡ w
+  pub count : last_count b ≡ c

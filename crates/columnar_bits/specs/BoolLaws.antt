@@ -9,7 +9,7 @@ use Rattle.columnar_core.specs.FaultLaws.{nothing_left, nothing_both, nothing_mo
 use Rattle.columnar_core.specs.AlikeLaws.{alike_all, row_eq_same}
 use Rattle.columnar_core.specs.Change.{Keeps, Grew, Stayed, WasCut, Took, Copied, Refused}
 use Rattle.columnar_core.specs.ChangeLaws.{unchanged}
-use Rattle.columnar_core.specs.Appended.{map_drop}
+use Rattle.columnar_core.specs.AppendedLaws.{map_drop}
 use Rattle.columnar_core.specs.declared.fault.GrowError.{GrowError}
 use Rattle.columnar_core.specs.declared.fault.GrowError.TheVariants.{Memory, Length, Offset, Format as FormatError}
 use Rattle.columnar_core.specs.Elements.{elements_broken, past_count}
@@ -18,15 +18,7 @@ use Rattle.columnar_core.specs.WordViews.{words_in, bit_words, le_bytes}
 use Rattle.columnar_core.specs.WordViewLaws.{length-words_in, length-le_bytes, word_of_words, words_pushed, words_cut}
 use Rattle.columnar_bits.specs.Bits.{bit, truths}
 use Rattle.columnar_bits.specs.BitLaws.{length-bits_of, get_or-bits_of, bit_in_word, bit_shown, bit_shr, bits_of_more, bits_of_spill, bits_of_cut}
-use Rattle.columnar_bits.specs.BoolColumns.{IsOfGrowth, last_word, last_count, bit_count, bits_in, is_tail, tail_broken, bools_format}
-
--- what the soundness of a column of bits is made of
-pub record SoundBools (values tail : List ℕ) : Type 0 where
-  pub whole : length values % 8 ≡ 0
-  pub two : length tail ≡ 16
-  pub few : last_count tail < 64
-  pub clear : last_word tail < 2 ^ last_count tail
-  pub short : bit_count values tail < 2 ^ 64
+use Rattle.columnar_bits.specs.BoolColumns.{IsOfGrowth, last_word, last_count, bit_count, bits_in, is_tail, tail_broken, bools_format, SoundBools, TwoSlices, Tail}
 
 pub bits_length : (a b : List ℕ) → length (bits_in a b) ≡ bit_count a b
 bits_length a b = length-bits_of (words_in a) (last_word b) (last_count b)
@@ -59,12 +51,6 @@ bools_sound {a} {b} s = record {
       (true_unless (is_tail (last_word b) (last_count b)) (fault 13 0) (and_from _ _ (lt-ltb _ _ s.few) (lt-ltb _ _ s.clear)))
       (true_unless (nat_lt (bit_count a b) (2 ^ 64)) (fault 19 0) (lt-ltb _ _ s.short))));
 }
-
--- a sound content is of two slices
-pub record TwoSlices (c : Content) : Type 0 where
-  pub values : List ℕ
-  pub tail : List ℕ
-  pub is : c ≡ both (slice values) (slice tail)
 
 right_form : (y : Content) (rest : List Fault) → moved 1 (tail_broken y) ++ rest ≡ [] → (b : List ℕ) × (y ≡ slice b)
 right_form (slice b) rest h = (b, refl)
@@ -184,13 +170,6 @@ bits_from_rows (x ∷ xs) (y ∷ ys) h =
     let g : x ≡ y = cc in
     let k = bits_from_rows xs ys f in
     rw (g, k) refl
-
--- tails by their two words
-
-pub record Tail (b : List ℕ) (w c : ℕ) : Type 0 where
-  pub two : length b ≡ 16
-  pub word : last_word b ≡ w
-  pub count : last_count b ≡ c
 
 -- more bits in the tail
 pub tail_more : {a b b' : List ℕ} {w c u n : ℕ} (g m : ℕ) → SoundBools a b → Tail b w c → Tail b' u n → n ≡ c + m → n < 64 → u < 2 ^ n → ((j : ℕ) → j < c → bit u j ≡ bit w j) → ((j : ℕ) → c ≤ j → j < 64 → bit u j ≡ bit g (j - c)) → Added a b a b' (truths (bit g) m)

@@ -5,8 +5,8 @@ ghost use Rattle.columnar_core.specs.Format.{IsSound};
 ghost use Rattle.columnar_core.specs.Change.{Stayed, Took, Refused};
 ghost use Rattle.columnar_core.specs.WordViews.{le_bytes, view_bytes};
 ghost use Rattle.columnar_bits.specs.Bits.{bit as bit_of, truths, number_of_bits};
-ghost use Rattle.columnar_bits.specs.BoolColumns.{bools_format, bools_content, IsOfGrowth, bits_held, bits_in, owned_content, owned_bits, last_word, last_count};
-ghost use Rattle.columnar_bits.specs.BoolLaws.{SoundBools, Tail, bools_lawful};
+ghost use Rattle.columnar_bits.specs.BoolColumns.{bools_format, bools_content, IsOfGrowth, bits_held, bits_in, owned_content, owned_bits, last_word, last_count, SoundBools, Tail};
+ghost use Rattle.columnar_bits.specs.BoolLaws.{bools_lawful};
 
 use columnar_core::container::{
     Borrow, Container, ExtendFrom, Reborrow, Reserve, Storage, Truncate,

@@ -9,6 +9,7 @@ pub mod AcceptedLaws
 pub mod AlignedBytes
 pub mod Stashes
 pub mod FramedContent
+pub mod FramedContentLaws
 pub mod StashLaws
 pub mod StashLends
 pub mod Either

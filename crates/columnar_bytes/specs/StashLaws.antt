@@ -12,7 +12,7 @@ use Rattle.columnar_core.specs.declared.fault.WriteFault.TheVariants.{Length, Wr
 use Rattle.columnar_bytes.specs.Accepted.{Accepts, Accepted}
 use Rattle.columnar_bytes.specs.AcceptedLaws.{accepts_from}
 use Rattle.columnar_bytes.specs.Written.{IsLeftBy, IsLeftOf}
-use Rattle.columnar_bytes.specs.FramedContent.{framed_slices_are}
+use Rattle.columnar_bytes.specs.FramedContentLaws.{framed_slices_are}
 use Rattle.columnar_bytes.specs.Stashes.{stash_content, checked_bytes, written_bytes, variant_of, typed, bytes, aligned, HoldsBytes}
 use Rattle.columnar_bytes.specs.States.{state_of}
 use Rattle.columnar_bytes.specs.Machine.{IsHeld}

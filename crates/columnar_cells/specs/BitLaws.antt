@@ -13,13 +13,9 @@ use Rattle.columnar_core.specs.WordViews.{words_in, le_bytes, bit_words}
 use Rattle.columnar_core.specs.WordViewLaws.{length-words_in, length-le_bytes, words_back, word_back, word_of_words}
 use Rattle.columnar_bits.specs.Bits.{bit, bit_in, truths, bits_of}
 use Rattle.columnar_bits.specs.BitLaws.{length-truths, get_or-truths, bit_in_word, bit_set}
-use Rattle.columnar_bits.specs.BoolColumns.{bools_format, bits_in, last_word, last_count}
-use Rattle.columnar_bits.specs.BoolLaws.{SoundBools, bits_length, length-bools, bools_parts, bools_sound}
-use Rattle.columnar_cells.specs.Wrote.{Wrote}
-
--- u is the word w, but with this truth value for bit k
-abbrev pub HasBit : ℕ → ℕ → ℕ → Bool → Type 0
-HasBit u w k v = (bit u k ≡ v) × ((j : ℕ) → j < 64 → (j ≡ k → ⊥) → bit u j ≡ bit w j)
+use Rattle.columnar_bits.specs.BoolColumns.{bools_format, bits_in, last_word, last_count, SoundBools}
+use Rattle.columnar_bits.specs.BoolLaws.{bits_length, length-bools, bools_parts, bools_sound}
+use Rattle.columnar_cells.specs.Wrote.{Wrote, HasBit}
 
 pub set_true : (w k : ℕ) → k < 64 → HasBit (bit_or w (1 * 2 ^ k % 2 ^ 64)) w k true
 unfolding bit
@@ -40,13 +36,11 @@ bit_after ws i u v n k l m h s = ⊎_elim (λ e. same e) (λ e. other e) (cases_
     same e =
         let f : i < length (truths (bit_in ws) n) = omega (arith, m, length-truths (bit_in ws) n) in
         rw e (get_or-set_same (truths (bit_in ws) n) i v false f ∙ (sym s.0 ∙ sym (bit_in_word (slice_set ws (i / 64) u) (i / 64) (i % 64) i (omega arith) (omega arith) ∙ ap (λ (x : ℕ). bit x (i % 64)) (get_or-set_same ws (i / 64) u 0 l))))
-
     elsewhere : (k ≡ i → ⊥) → bit_in ws k ≡ bit_in (slice_set ws (i / 64) u) k
     elsewhere e = ⊎_elim
         (λ q. bit_in_word ws (i / 64) (k % 64) k (omega arith) (omega (arith, q)) ∙ (sym (s.1 (k % 64) (omega arith) (λ r. e (omega (arith, q, r)))) ∙ sym (bit_in_word (slice_set ws (i / 64) u) (i / 64) (k % 64) k (omega arith) (omega (arith, q)) ∙ ap (λ (x : ℕ). bit x (k % 64)) (get_or-set_same ws (i / 64) u 0 l))))
         (λ q. bit_in_word ws (k / 64) (k % 64) k (omega arith) (omega arith) ∙ sym (bit_in_word (slice_set ws (i / 64) u) (k / 64) (k % 64) k (omega arith) (omega arith) ∙ ap (λ (x : ℕ). bit x (k % 64)) (get_or-set_other ws (i / 64) (k / 64) u 0 q)))
         (cases_eq (k / 64) (i / 64))
-
     other : (k ≡ i → ⊥) → get_or (slice_set (truths (bit_in ws) n) i v) k false ≡ bit_in (slice_set ws (i / 64) u) k
     other e = get_or-set_other (truths (bit_in ws) n) i k v false e ∙ (get_or-truths (bit_in ws) n k false h ∙ elsewhere e)
 

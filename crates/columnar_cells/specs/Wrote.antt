@@ -2,6 +2,9 @@
 use Rattle.std.specs.Prelude.{ℕ, ◌≡◌, ◌<◌, List, length, slice_get, slice_set, Option, Some, None, Result, Ok, Err}
 use Rattle.columnar_base.specs.Row.{Row, unit, none, some, ok, err, list, items_of}
 use Rattle.columnar_base.specs.Format.{Format, Content, IsSound, lengths}
+use Rattle.std.proofs.Common.{ℕ, ◌≡◌, ◌<◌, ◌-◌, Bool}
+use Rattle.columnar_core.specs.Row.{truth}
+use Rattle.columnar_bits.specs.Bits.{bit}
 
 -- Row i is r, and all else is as before, the lengths of all parts too.
 pub record Wrote (f : Format) (old new : Content) (i : ℕ) (r : Row) : Type 0 where
@@ -42,3 +45,7 @@ item_fits fits r k v = (k < length (items_of r)) × fits (row_at (items_of r) k)
 abbrev pub in_some : (Row → Row) → Row → Row
 in_some to (some r) = some (to r)
 in_some to r = r
+
+-- u is the word w, but with this truth value for bit k
+abbrev pub HasBit : ℕ → ℕ → ℕ → Bool → Type 0
+HasBit u w k v = (bit u k ≡ v) × ((j : ℕ) → j < 64 → (j ≡ k → ⊥) → bit u j ≡ bit w j)

@@ -6,8 +6,8 @@ use Rattle.std.proofs.lemmas.List.{map-set, length-set, drop-set-add}
 use Rattle.std.proofs.lemmas.Bool.{and_parts, and_from}
 use Rattle.columnar_base.specs.Row.{Row, tuple, solo, duration, number_of}
 use Rattle.columnar_base.specs.Format.{Format, Content, both, slice, Fault, IsSound, lengths}
-use Rattle.columnar_base.specs.Elements.{elements_format, elements}
-use Rattle.columnar_base.specs.ElementLaws.{IsElement, rows_typed, elements_sound, length-flat}
+use Rattle.columnar_base.specs.Elements.{elements_format, elements, IsElement}
+use Rattle.columnar_base.specs.ElementLaws.{rows_typed, elements_sound, length-flat}
 use Rattle.columnar_base.specs.Tuples.{tuples, pair_format}
 use Rattle.columnar_base.specs.TupleLaws.{pair_parts, pair_sound}
 use Rattle.columnar_base.specs.LongTuples.{under, nested, tuple_format, PartOf}

@@ -1,6 +1,6 @@
 //! Columns of truth values, of which one bit is written.
 ghost use Rattle.std.specs.Prelude.{⊤, ◌≡◌, ◌<◌, ◌≤◌, ◌^◌, ℕ};
-ghost use Rattle.columnar_cells.specs.BitLaws.{HasBit};
+ghost use Rattle.columnar_cells.specs.Wrote.{HasBit};
 
 use crate::set::{SetAny, SetRow};
 use columnar_bits::bools::Bools;

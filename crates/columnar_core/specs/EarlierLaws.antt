@@ -7,7 +7,7 @@ use Rattle.columnar_base.specs.Format.{Format, Content, both, IsSound}
 use Rattle.columnar_base.specs.ChangeLaws.{true_from}
 use Rattle.columnar_base.specs.Tuples.{tuples, pair_format}
 use Rattle.columnar_base.specs.TupleLaws.{pair_two, pair_parts, pair_sound, length-pair, same_pair, pair_refuses_left, pair_refuses_right}
-use Rattle.columnar_base.specs.TwoParts.{two_form}
+use Rattle.columnar_base.specs.TwoPartsLaws.{two_form}
 use Rattle.columnar_base.specs.Solos.{solos, solo_format}
 use Rattle.columnar_base.specs.SoloLaws.{solo_sound, solo_part, solo_length, onlies-solos, same_solo}
 use Rattle.columnar_base.specs.LongTuples.{nested, tuple_format}

@@ -9,6 +9,7 @@ pub mod SentLaws
 pub mod SliceBytes
 pub mod NumberSlices
 pub mod ArraySlices
+pub mod ArraySliceLaws
 pub mod Slices
 pub mod Store
 pub mod Column
@@ -17,6 +18,7 @@ pub mod Bounds
 pub mod BoundLaws
 pub mod StoreLaws
 pub mod Appended
+pub mod AppendedLaws
 pub mod SidesLaws
 pub mod Earlier
 pub mod EarlierLaws
@@ -25,6 +27,7 @@ pub use Rattle.columnar_base.specs.Format
 pub use Rattle.columnar_base.specs.FaultLaws
 pub use Rattle.columnar_base.specs.AlikeLaws
 pub use Rattle.columnar_base.specs.TwoParts
+pub use Rattle.columnar_base.specs.TwoPartsLaws
 pub use Rattle.columnar_base.specs.Tuples
 pub use Rattle.columnar_base.specs.TupleLaws
 pub use Rattle.columnar_base.specs.LongTuples

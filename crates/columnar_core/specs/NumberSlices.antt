@@ -6,7 +6,8 @@ use Rattle.std.specs.Int.{Width, w8, byte_len, to_le_bytes, bytes_low_first, byt
 use Rattle.std.specs.declared.num.Wrapping.{Wrapping}
 use Rattle.std.proofs.lemmas.List.{get_or-append_right, get_or_append_left, get_or_past}
 use Rattle.std.proofs.Math.Nat.{mod-lt, div-add-mod, mul-le-mul_left}
-use Rattle.columnar_base.specs.ElementLaws.{IsElement, length-flat}
+use Rattle.columnar_base.specs.ElementLaws.{length-flat}
+use Rattle.columnar_base.specs.Elements.{IsElement}
 use Rattle.columnar_base.specs.Row.{Row}
 use Rattle.columnar_base.specs.NumberLaws.{length-number}
 use Rattle.columnar_core.specs.Bytes.{AreBytes}

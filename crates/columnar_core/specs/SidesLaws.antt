@@ -5,7 +5,8 @@ use Rattle.std.specs.Prelude.{Option, Some, None, nat_eq}
 use Rattle.std.proofs.lemmas.Bool.{eq-eqb}
 use Rattle.std.proofs.Math.Nat.{mul-le-mul_right}
 use Rattle.columnar_base.specs.Format.{Format, Content, both, Fault, fault, first, moved, bytes_held}
-use Rattle.columnar_base.specs.TwoParts.{TwoParts, two_built, two_moved, both_broken, both_right, judged_part, judged_own, judged_fine}
+use Rattle.columnar_base.specs.TwoParts.{TwoParts, both_broken}
+use Rattle.columnar_base.specs.TwoPartsLaws.{two_built, two_moved, both_right, judged_part, judged_own, judged_fine}
 use Rattle.columnar_base.specs.LongTuples.{sides, are_level}
 use Rattle.columnar_base.specs.LongTupleLaws.{sides_two}
 

@@ -1,7 +1,7 @@
 //! Tuples of containers, side by side: a container of tuples.
 ghost use Rattle.std.specs.Prelude.{◌≡◌};
 ghost use Rattle.columnar_base.specs.Format.{slices_of};
-ghost use Rattle.columnar_base.specs.TwoParts.{two_counted};
+ghost use Rattle.columnar_base.specs.TwoPartsLaws.{two_counted};
 ghost use Rattle.columnar_base.specs.TupleLaws.{pair_storable, same_pair};
 ghost use Rattle.columnar_base.specs.Entries.{HasPiece, piece};
 

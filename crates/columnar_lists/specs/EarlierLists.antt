@@ -6,7 +6,7 @@ use Rattle.std.proofs.lemmas.Bool.{eqb-true, or_left, or_right}
 use Rattle.columnar_base.specs.Row.{Row, number}
 use Rattle.columnar_base.specs.Format.{Format, Content, both, IsSound, Excess, refuses_more}
 use Rattle.columnar_base.specs.ChangeLaws.{true_from}
-use Rattle.columnar_base.specs.TwoParts.{two_form}
+use Rattle.columnar_base.specs.TwoPartsLaws.{two_form}
 use Rattle.columnar_base.specs.declared.fault.GrowError.{GrowError}
 use Rattle.columnar_core.specs.Bounds.{rises, numbers, shifted, AreNumbers}
 use Rattle.columnar_core.specs.Earlier.{IsEarlier, IsTrueOfNew, IsMadeOf}

@@ -3,7 +3,7 @@ pub mod CutLaws
 pub mod ListLaws
 pub mod ListPushes
 pub mod Cut
-pub mod CutIs
+pub mod PieceLaws
 pub mod EarlierLists
 pub mod Walks
 pub mod WalksLeft

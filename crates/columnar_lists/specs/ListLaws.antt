@@ -12,7 +12,8 @@ use Rattle.columnar_base.specs.AlikeLaws.{alike_length}
 use Rattle.columnar_base.specs.Format.{Format, Content, slice, both, part, plain, part_format, IsSound, IsLawful, IsStorable, lengths, Excess, refuses_more}
 use Rattle.columnar_base.specs.Change.{Keeps, Grew, Stayed, WasCut, Took, Copied, Refused}
 use Rattle.columnar_base.specs.ChangeLaws.{grew_exactly, true_from}
-use Rattle.columnar_base.specs.TwoParts.{TwoParts, two_parts, two_sound, two_storable}
+use Rattle.columnar_base.specs.TwoParts.{TwoParts}
+use Rattle.columnar_base.specs.TwoPartsLaws.{two_parts, two_sound, two_storable}
 use Rattle.columnar_base.specs.declared.fault.GrowError.{GrowError}
 use Rattle.columnar_core.specs.Bounds.{rises, numbers, last_or, shifted, IsBounds}
 use Rattle.columnar_core.specs.BoundLaws.{last_at, number_get}

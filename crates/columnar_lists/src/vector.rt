@@ -2,7 +2,7 @@
 ghost use Rattle.std.specs.Prelude.{◌≡◌, ◌∷◌, ◌<◌, length, slice_get, Some};
 ghost use Rattle.columnar_base.specs.Row.{number};
 ghost use Rattle.columnar_base.specs.Format.{both, IsSound};
-ghost use Rattle.columnar_base.specs.TwoParts.{two_counted};
+ghost use Rattle.columnar_base.specs.TwoPartsLaws.{two_counted};
 ghost use Rattle.columnar_core.specs.Bounds.{numbers};
 ghost use Rattle.columnar_lists.specs.Lists.{lists_format};
 ghost use Rattle.columnar_lists.specs.ListLaws.{same_lists, lists_lawful, lists_storable};

@@ -4,10 +4,10 @@ pub mod LatestLaws
 pub mod SameLaws
 pub mod Repeats
 pub mod RepeatLaws
-pub mod RepeatChanges
+pub mod RepeatChangeLaws
 pub mod Lookbacks
 pub mod LookbackLaws
-pub mod LookbackBytes
+pub mod LookbackByteLaws
 pub mod KeptLaws
 pub mod MayRecall
 pub mod MayRecallLaws

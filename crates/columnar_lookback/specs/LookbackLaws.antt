@@ -20,7 +20,7 @@ use Rattle.columnar_sums.specs.Options.{value_of, inner_of, bare_option, option_
 use Rattle.columnar_sums.specs.Results.{turned, zeros, weave_results, ok_part, err_part, bare_result, oks, errs, result_alike, results_refuses, results_format}
 use Rattle.columnar_sums.specs.ResultLaws.{results_parts, results_oks, results_errs, results_clear, results_clear_of, results_ok_value, results_err_value, results_ok, results_err, results_ok_top, results_err_top, results_lawful, results_storable}
 use Rattle.columnar_sums.specs.WeaveLaws.{ones_nil, ones_taken}
-use Rattle.columnar_sums.specs.WeaveBoth.{zeros_taken, length-weave_results, weave_results-take, oks-append, errs-append}
+use Rattle.columnar_sums.specs.WeaveBothLaws.{zeros_taken, length-weave_results, weave_results-take, oks-append, errs-append}
 use Rattle.columnar_lookback.specs.Recall.{recent, latest, recall, reaches}
 use Rattle.columnar_lookback.specs.RecallLaws.{IsCode, IsStoring, ReadsAlike, Each, each_taken, each_dropped, range_recalled, recall_parts, recall_lawful, recall_storable, recall_took, recall_took_as, recall_refused, recall_refused_as, recall_front, recall_at, reaches_at, reaches-take, length-recall, recall-take}
 use Rattle.columnar_lookback.specs.LatestLaws.{onto, length-onto, recent_onto, taken_at}

@@ -5,7 +5,8 @@ use Rattle.std.proofs.lemmas.List.{drop-drop}
 use Rattle.std.proofs.Math.Nat.{mul-le-mul_right}
 use Rattle.columnar_base.specs.Format.{Format, Content, slice, both, IsSound, IsStorable, Fits, Fault, fault, moved, first, unless, bytes_held}
 use Rattle.columnar_base.specs.FaultLaws.{first_found, first_none}
-use Rattle.columnar_base.specs.TwoParts.{two_moved, both_broken, two_fits_left, two_fits_right}
+use Rattle.columnar_base.specs.TwoParts.{both_broken}
+use Rattle.columnar_base.specs.TwoPartsLaws.{two_moved, two_fits_left, two_fits_right}
 use Rattle.columnar_base.specs.Elements.{words_format, first_slice}
 use Rattle.columnar_base.specs.WordViews.{words_in}
 use Rattle.columnar_base.specs.WordViewLaws.{length-words_in}

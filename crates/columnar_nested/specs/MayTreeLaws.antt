@@ -4,12 +4,12 @@ use Rattle.std.proofs.lemmas.Bool.{or_cases, false≢true}
 use Rattle.std.proofs.lemmas.List.{map-append}
 use Rattle.columnar_base.specs.Row.{Row}
 use Rattle.columnar_base.specs.Format.{Format, Content, slice, both, part, plain, IsSound, Excess, refuses_more}
-use Rattle.columnar_base.specs.TwoParts.{two_parts, two_form}
+use Rattle.columnar_base.specs.TwoPartsLaws.{two_parts, two_form}
 use Rattle.columnar_base.specs.Elements.{past_count}
 use Rattle.columnar_base.specs.May.{Limit, IsLimited}
 use Rattle.columnar_nested.specs.Forest.{Forest, no_trees, tree_and, level_order}
 use Rattle.columnar_nested.specs.Layout.{IsLayout, nodes, values_of}
-use Rattle.columnar_nested.specs.Layouts.{passed_layout, rule_passed}
+use Rattle.columnar_nested.specs.LayoutLaws.{passed_layout, rule_passed}
 use Rattle.columnar_nested.specs.MayTrees.{nodes_limit, trees_limit}
 use Rattle.columnar_nested.specs.Reading.{trees_of}
 use Rattle.columnar_nested.specs.TreeRows.{tree_rows, level_values}

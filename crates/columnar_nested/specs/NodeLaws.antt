@@ -7,8 +7,9 @@ use Rattle.std.proofs.lemmas.List.{length-map, map-append}
 use Rattle.columnar_nested.specs.Forest.{Forest, no_trees, tree_and, Node, width, roots, level_order}
 use Rattle.columnar_nested.specs.Layout.{IsLayout, nodes, values_of, kid_counts, totals, starts, kid_ends, own_places}
 use Rattle.columnar_nested.specs.ForestLaws.{joined}
-use Rattle.columnar_nested.specs.Walk.{walk_nodes-whole, walk_ends-whole}
-use Rattle.columnar_nested.specs.Nodes.{IsTold, told_all, get-after, first_kid, first_kid-after}
+use Rattle.columnar_nested.specs.WalkLaws.{walk_nodes-whole, walk_ends-whole}
+use Rattle.columnar_nested.specs.Nodes.{IsTold, first_kid}
+use Rattle.columnar_nested.specs.ToldLaws.{told_all, get-after, first_kid-after}
 
 -- node i of the trees ts is x: its value, its number of kids, and each kid's number, by the columns
 pub record IsNode {A : Type 0} (ts : Forest A) (bounds : List ℕ) (values : List A) (i : ℕ) (x : Node A) : Type 0 where

@@ -12,9 +12,9 @@ use Rattle.columnar_base.specs.Elements.{past_count}
 use Rattle.columnar_base.specs.WordViews.{words_in, le_bytes}
 use Rattle.columnar_base.specs.WordViewLaws.{words_pushed}
 use Rattle.columnar_base.specs.declared.fault.GrowError.{GrowError}
-use Rattle.columnar_nested.specs.Forest.{width, roots}
-use Rattle.columnar_nested.specs.Nodes.{order-roots, length-roots, below}
-use Rattle.columnar_nested.specs.Forest.{levels}
+use Rattle.columnar_nested.specs.Forest.{width, roots, levels}
+use Rattle.columnar_nested.specs.Nodes.{below}
+use Rattle.columnar_nested.specs.ToldLaws.{order-roots, length-roots}
 use Rattle.columnar_nested.specs.TreeValues.{trees_as_forest, added_values, added_bounds, values_in}
 use Rattle.columnar_nested.specs.Push.{turn_values, turn_bounds, count_values, width-as_forest}
 use Rattle.columnar_nested.specs.PushTurns.{Laid}

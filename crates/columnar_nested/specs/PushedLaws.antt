@@ -11,7 +11,7 @@ use Rattle.columnar_base.specs.WordViewLaws.{words_pushed, words_back, length-wo
 use Rattle.columnar_base.specs.declared.fault.GrowError.{GrowError}
 use Rattle.std.specs.Prelude.{slice_set}
 use Rattle.columnar_nested.specs.Layout.{totals, kid_counts, IsTreeRule}
-use Rattle.columnar_nested.specs.Layouts.{layout_rule}
+use Rattle.columnar_nested.specs.LayoutLaws.{layout_rule}
 use Rattle.columnar_nested.specs.NodeLaws.{layout_none}
 use Rattle.columnar_nested.specs.TreeValues.{node_of, in_order, tree_meaning, added_values, added_bounds}
 use Rattle.columnar_nested.specs.Trees.{trees_format, nodes_format}

@@ -7,8 +7,9 @@ use Rattle.columnar_base.specs.Row.{Row, unit}
 use Rattle.columnar_nested.specs.Forest.{no_trees, Node, width, roots}
 use Rattle.columnar_nested.specs.Layout.{IsLayout, IsTreeRule, nodes, starts, own_places}
 use Rattle.columnar_nested.specs.Reading.{trees_of}
-use Rattle.columnar_nested.specs.Layouts.{passed_layout, rule_passed}
-use Rattle.columnar_nested.specs.Nodes.{first_kid, length-roots, first_kid-after}
+use Rattle.columnar_nested.specs.LayoutLaws.{passed_layout, rule_passed}
+use Rattle.columnar_nested.specs.Nodes.{first_kid}
+use Rattle.columnar_nested.specs.ToldLaws.{length-roots, first_kid-after}
 use Rattle.columnar_nested.specs.NodeLaws.{IsNode, layout_node, layout_root, starts-length, own_bound}
 use Rattle.columnar_nested.specs.Refs.{node_at, IsRef, IsKidOf, IsWalkFrom}
 use Rattle.columnar_nested.specs.TreeRows.{tree_row, kids_of}

@@ -10,7 +10,8 @@ use Rattle.columnar_base.specs.Change.{Keeps, Stayed, Took, Refused, IsTrueOf}
 use Rattle.columnar_base.specs.ChangeLaws.{true_from}
 use Rattle.columnar_base.specs.AlikeLaws.{alike_length}
 use Rattle.columnar_base.specs.TupleLaws.{or_both}
-use Rattle.columnar_base.specs.TwoParts.{TwoParts, two_parts, two_sound, two_storable}
+use Rattle.columnar_base.specs.TwoParts.{TwoParts}
+use Rattle.columnar_base.specs.TwoPartsLaws.{two_parts, two_sound, two_storable}
 use Rattle.columnar_base.specs.Elements.{words_format, word_row_of, past_count}
 use Rattle.columnar_base.specs.ElementLaws.{elements_storable}
 use Rattle.columnar_base.specs.declared.fault.GrowError.{GrowError}
@@ -18,12 +19,12 @@ use Rattle.columnar_nested.specs.Forest.{Forest, no_trees, tree_and, Node, width
 use Rattle.columnar_nested.specs.Layout.{IsLayout, IsTreeRule, nodes, values_of, kid_counts, totals, starts}
 use Rattle.columnar_nested.specs.ForestLaws.{joined}
 use Rattle.columnar_nested.specs.Reading.{trees_of}
-use Rattle.columnar_nested.specs.Layouts.{layout_read, layout_rule, passed_layout, rule_passed}
+use Rattle.columnar_nested.specs.LayoutLaws.{layout_read, layout_rule, passed_layout, rule_passed}
 use Rattle.columnar_nested.specs.NodeLaws.{layout_pushed}
-use Rattle.columnar_nested.specs.Pass.{accepts_rule, rule_accepts}
+use Rattle.columnar_nested.specs.PassLaws.{accepts_rule, rule_accepts}
 use Rattle.columnar_nested.specs.RefLaws.{count_groups, group_within, IsRoot, root_facts}
 use Rattle.columnar_nested.specs.Refs.{node_at, IsRef}
-use Rattle.columnar_nested.specs.Shapes.{Refit, refit}
+use Rattle.columnar_nested.specs.ShapeLaws.{Refit, refit}
 use Rattle.columnar_nested.specs.TreeRows.{tree_rows, tree_row, level_values, bare_tree, tree_alike}
 use Rattle.columnar_nested.specs.TreeRowLaws.{tree_rows-joined, length-tree_rows, level_values-more, level_values-one, tree_rows_get}
 use Rattle.columnar_nested.specs.Trees.{words_of, nodes_format, trees_keep, trees_format, trees_rows, end_of_trees, nodes_refuses}

@@ -8,7 +8,8 @@ use Rattle.columnar_base.specs.Elements.{past_count}
 use Rattle.columnar_base.specs.Change.{Stayed, WasCut, Took, Copied, Refused}
 use Rattle.columnar_base.specs.Tuples.{tuples, firsts, seconds, pair_format, pair_refuses}
 use Rattle.columnar_base.specs.TupleLaws.{SoundPair, pair_parts, length-pair, pair_exact, pair_lawful, pair_storable, pair_two, pair_took, pair_copied_piece, pair_refused_left, pair_refused_right, pair_refused_left_piece, pair_refused_right_piece, pair_stayed, pair_cut, pair_within, pair_top, pair_none, pair_fits, fits_level, same_pair, slice_get-tuples}
-use Rattle.columnar_base.specs.TwoParts.{both_broken, judged_fine}
+use Rattle.columnar_base.specs.TwoParts.{both_broken}
+use Rattle.columnar_base.specs.TwoPartsLaws.{judged_fine}
 use Rattle.columnar_base.specs.declared.fault.GrowError.{GrowError}
 use Rattle.columnar_primitive.specs.Mapped.{all_pass, IsFlat}
 use Rattle.columnar_primitive.specs.MappedLaws.{mapped_parts, mapped_lawful, mapped_storable, mapped_took, mapped_copied, mapped_refused, mapped_stayed, mapped_cut, mapped_none, mapped_piece, mapped_get, mapped_fits, mapped_fine, mapped_own, same_mapped, pass_get, pass_take, pass_drop}

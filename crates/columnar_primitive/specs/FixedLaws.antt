@@ -8,16 +8,16 @@ use Rattle.columnar_core.specs.FaultLaws.{unless_true, true_unless}
 use Rattle.columnar_core.specs.AlikeLaws.{row_eq_same, row_eq_exact, alike_all}
 use Rattle.columnar_core.specs.Change.{Keeps, Grew, WasCut, Took, Copied, IsTrueOf, Refused}
 use Rattle.columnar_core.specs.ChangeLaws.{unchanged}
-use Rattle.columnar_core.specs.Elements.{first_slice}
+use Rattle.columnar_core.specs.Elements.{first_slice, word_row}
 use Rattle.columnar_core.specs.ElementLaws.{first_built}
 use Rattle.columnar_core.specs.Bounds.{IsBounds, AreNumbers, rises, numbers}
 use Rattle.columnar_core.specs.Bytes.{word, le_bytes}
 use Rattle.columnar_core.specs.declared.fault.GrowError.{GrowError}
 use Rattle.columnar_core.specs.declared.fault.GrowError.TheVariants.{Memory, Length, Offset, Format as FormatError}
-use Rattle.columnar_core.specs.Elements.{word_row}
 use Rattle.columnar_primitive.specs.Held.{counted}
 use Rattle.columnar_primitive.specs.HeldLaws.{count-word, word_number}
-use Rattle.columnar_primitive.specs.Multiples.{multiples, multiples_numbers, multiples-none, multiples-more, length-multiples, multiples-append, multiples-take, multiples-piece, multiples_get, multiples-shift, multiples_end}
+use Rattle.columnar_primitive.specs.Multiples.{multiples}
+use Rattle.columnar_primitive.specs.MultipleLaws.{multiples_numbers, multiples-none, multiples-more, length-multiples, multiples-append, multiples-take, multiples-piece, multiples_get, multiples-shift, multiples_end}
 use Rattle.columnar_primitive.specs.Fixed.{fixed_broken, fixed_rows, strays, passes, fixed_refuses, fixed_format, IsCauseOf}
 
 -- what the soundness of a column of multiples is made of

@@ -11,6 +11,7 @@ pub mod Larges
 pub mod LargeLaws
 pub mod Held
 pub mod Multiples
+pub mod MultipleLaws
 pub mod Fixed
 pub mod FixedLaws
 pub mod HeldLaws

@@ -11,7 +11,7 @@ use Rattle.columnar_primitive.specs.Fixed.{fixed_format, fixed_rows, fixed_refus
 use Rattle.columnar_primitive.specs.FixedLaws.{fixed_adds, fixed_bounds}
 use Rattle.columnar_primitive.specs.Mapped.{IsFlat, mapped_format}
 use Rattle.columnar_primitive.specs.MayMultiples.{multiples_limit}
-use Rattle.columnar_primitive.specs.Multiples.{length-multiples}
+use Rattle.columnar_primitive.specs.MultipleLaws.{length-multiples}
 use Rattle.columnar_primitive.specs.Stride.{strides_format}
 use Rattle.columnar_primitive.specs.StrideLaws.{strides_bounds}
 use Rattle.columnar_primitive.specs.Units.{units_format}

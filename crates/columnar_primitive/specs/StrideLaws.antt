@@ -23,7 +23,8 @@ use Rattle.columnar_core.specs.WordViewLaws.{length-le_bytes, front_number}
 use Rattle.columnar_core.specs.declared.fault.GrowError.{GrowError}
 use Rattle.columnar_core.specs.declared.fault.GrowError.TheVariants.{Length}
 use Rattle.columnar_primitive.specs.HeldLaws.{word_number}
-use Rattle.columnar_primitive.specs.Multiples.{multiples, multiples_numbers, multiples-none, multiples-more, length-multiples, multiples-append, multiples-take, multiples_get, multiples-rise}
+use Rattle.columnar_primitive.specs.Multiples.{multiples}
+use Rattle.columnar_primitive.specs.MultipleLaws.{multiples_numbers, multiples-none, multiples-more, length-multiples, multiples-append, multiples-take, multiples_get, multiples-rise}
 use Rattle.columnar_primitive.specs.Stride.{head_broken, stride_of, length_of, bounds_rows, stride_fits, length_fits, strides_broken, strides_rows, strides_extent, strides_format, head_and_bounds, follows, joins, grown, bounds_pushed}
 
 -- what the soundness of a head and bounds is made of

@@ -4,7 +4,7 @@ ghost use Rattle.std.specs.Duration.{as_nanos};
 ghost use Rattle.columnar_base.specs.Row.{duration};
 ghost use Rattle.columnar_base.specs.Format.{both, IsSound, slices_of};
 ghost use Rattle.columnar_base.specs.Change.{Refused, Took};
-ghost use Rattle.columnar_base.specs.TwoParts.{two_counted};
+ghost use Rattle.columnar_base.specs.TwoPartsLaws.{two_counted};
 ghost use Rattle.columnar_primitive.specs.Durations.{durations_format, is_part_second};
 ghost use Rattle.columnar_primitive.specs.DurationLaws.{durations_lawful, durations_storable, same_durations};
 

@@ -9,7 +9,8 @@ use Rattle.std.specs.Cmp.Lexicographic.{slice_cmp, pointwise, lists_total, lists
 use Rattle.std.proofs.lemmas.Bool.{ltb-true, ltb-false}
 use Rattle.columnar_base.specs.Row.{Row, number, integer, character, truth, unit, duration, tuple, none, some, ok, err, empty, more, variant, solo, team, tree, list, truth_eq, row_eq}
 use Rattle.columnar_base.specs.AlikeLaws.{row_eq_same, row_eq_exact, alike_all, alike_is}
-use Rattle.columnar_base.specs.SameRows.{same_rows, same_rows_law}
+use Rattle.columnar_base.specs.SameRows.{same_rows}
+use Rattle.columnar_base.specs.SameRowsLaws.{same_rows_law}
 use Rattle.columnar_base.specs.RowsLeftLaws.{drop_next}
 use Rattle.columnar_rows.specs.RowOrder.{row_cmp, rows_cmp}
 

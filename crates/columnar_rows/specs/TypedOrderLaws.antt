@@ -5,8 +5,8 @@ use Rattle.columnar_base.specs.RowLaws.{items_of-list}
 use Rattle.columnar_rows.specs.RowOrder.{row_cmp, rows_cmp}
 use Rattle.columnar_rows.specs.RowOrderLaws.{list_same, list_cmp}
 use Rattle.columnar_base.specs.SameRows.{same_rows}
-use Rattle.columnar_base.specs.Elements.{elements, elements_rows}
-use Rattle.columnar_base.specs.ElementLaws.{IsElement, rows_typed}
+use Rattle.columnar_base.specs.Elements.{elements, elements_rows, IsElement}
+use Rattle.columnar_base.specs.ElementLaws.{rows_typed}
 use Rattle.columnar_base.specs.Arrays.{array_row}
 use Rattle.columnar_base.specs.ArrayLaws.{array_row_is}
 

@@ -6,7 +6,8 @@ ghost use Rattle.std.specs.Range.Bound.{start_index, end_index};
 ghost use Rattle.columnar_base.specs.Row.{list, items_of};
 ghost use Rattle.columnar_rows.specs.RowOrder.{rows_cmp};
 ghost use Rattle.columnar_rows.specs.RowOrderLaws.{rows_cmp_total, rows_order, rows_ties, same_rows_equivalence, same_rows_feed};
-ghost use Rattle.columnar_base.specs.SameRows.{same_rows, same_rows_law};
+ghost use Rattle.columnar_base.specs.SameRows.{same_rows};
+ghost use Rattle.columnar_base.specs.SameRowsLaws.{same_rows_law};
 ghost use Rattle.columnar_base.specs.Format.{part, part_format, part_rows, IsSound};
 
 use crate::ordered::{OrderedRow, compare_rows_of, hash_rows_of, same_rows_as, same_rows_of};

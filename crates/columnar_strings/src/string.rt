@@ -7,7 +7,7 @@ ghost use Rattle.columnar_base.specs.Format.{both, IsSound};
 ghost use Rattle.columnar_base.specs.Change.{Copied, Refused};
 ghost use Rattle.columnar_base.specs.Elements.{elements, words_format};
 ghost use Rattle.columnar_base.specs.Texts.{bytes_of, text_row};
-ghost use Rattle.columnar_base.specs.TwoParts.{two_counted};
+ghost use Rattle.columnar_base.specs.TwoPartsLaws.{two_counted};
 ghost use Rattle.columnar_lists.specs.Lists.{lists_format};
 ghost use Rattle.columnar_lists.specs.ListLaws.{same_lists, lists_lawful, lists_storable};
 ghost use Rattle.columnar_strings.specs.Strings.{bytes_format, strings_format};

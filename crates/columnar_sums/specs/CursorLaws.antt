@@ -5,21 +5,14 @@ use Rattle.std.proofs.lemmas.Bool.{cases_lt}
 use Rattle.columnar_core.specs.Format.{slice, both, IsSound}
 use Rattle.columnar_core.specs.WordViews.{bit_words}
 use Rattle.columnar_bits.specs.Bits.{bit_in}
-use Rattle.columnar_bits.specs.BoolColumns.{bits_in}
-use Rattle.columnar_bits.specs.BoolLaws.{SoundBools, bits_length}
+use Rattle.columnar_bits.specs.BoolColumns.{bits_in, SoundBools}
+use Rattle.columnar_bits.specs.BoolLaws.{bits_length}
 use Rattle.columnar_sums.specs.Counting.{ones, ones_below, place}
 use Rattle.columnar_sums.specs.CountLaws.{ones_le, ones_more, ones_zero}
-use Rattle.columnar_sums.specs.CountsKept.{place_found}
+use Rattle.columnar_sums.specs.CountsKeptLaws.{place_found}
 use Rattle.columnar_sums.specs.RankColumns.{ranks_format, IsAt, AreClear, IsNextTrue, AreFalseFrom}
 use Rattle.columnar_sums.specs.RankLaws.{ranks_parts, words_length, last_clear, next_bit, no_bit, ones_next, ones_none, ones_bits, bit_is, words_few}
-
--- where a cursor over the counts c, words a and tail b stands
-pub record Stands (c a b : List ℕ) (index rest pos count : ℕ) : Type 0 where
-  pub ranked : IsSound ranks_format (both (slice c) (both (slice a) (slice b)))
-  pub inside : pos ≤ length (bits_in a b)
-  pub floor : 64 * index ≤ pos
-  pub at : IsAt (bit_words a b) index rest pos
-  pub rank : count ≡ ones (bits_in a b) pos
+use Rattle.columnar_sums.specs.Cursors.{Stands}
 
 bools_of : {c a b : List ℕ} {i r p k : ℕ} → Stands c a b i r p k → SoundBools a b
 bools_of s = (ranks_parts s.ranked).bools

@@ -15,7 +15,8 @@ use Rattle.columnar_core.specs.AlikeLaws.{row_eq_same}
 use Rattle.columnar_base.specs.RowLaws.{row_eq-refl}
 use Rattle.columnar_core.specs.Change.{Took, WasCut, Refused}
 use Rattle.columnar_core.specs.ChangeLaws.{unchanged}
-use Rattle.columnar_core.specs.TwoParts.{TwoParts, two_form, two_parts, two_sound, two_storable}
+use Rattle.columnar_core.specs.TwoParts.{TwoParts}
+use Rattle.columnar_core.specs.TwoPartsLaws.{two_form, two_parts, two_sound, two_storable}
 use Rattle.columnar_core.specs.Elements.{word_row, word_row_of, words_format, past_count}
 use Rattle.columnar_core.specs.ElementLaws.{elements_form, elements_storable}
 use Rattle.columnar_base.specs.Numbers.{unsigned_row, unsigned_row_of}

@@ -9,7 +9,7 @@ use Rattle.columnar_core.specs.Format.{Format, Content, both, IsSound, IsLawful,
 use Rattle.columnar_core.specs.Change.{Took, IsTrueOf}
 use Rattle.columnar_core.specs.ChangeLaws.{refused_more, true_from, unchanged, grew_exactly}
 use Rattle.columnar_core.specs.AlikeLaws.{row_eq_exact}
-use Rattle.columnar_core.specs.TwoParts.{two_form}
+use Rattle.columnar_core.specs.TwoPartsLaws.{two_form}
 use Rattle.columnar_core.specs.Elements.{words_format, word_row, past_count}
 use Rattle.columnar_core.specs.Bounds.{numbers, last_or}
 use Rattle.columnar_core.specs.BoundLaws.{word_is}

@@ -1,5 +1,5 @@
 -- A value and its bit, of which a push takes both or neither.
-use Rattle.std.specs.Prelude.{List, ◌⊎◌, Result, Ok, Err, OnOk}
+use Rattle.std.specs.Prelude.{List, ◌⊎◌}
 use Rattle.columnar_core.specs.Row.{Row}
 use Rattle.columnar_core.specs.Format.{Format, Content}
 use Rattle.columnar_core.specs.Change.{Stayed, Refused}
@@ -8,7 +8,3 @@ use Rattle.columnar_core.specs.declared.fault.GrowError.{GrowError}
 -- One of two columns refused its rows, and the other is as it was.
 abbrev pub NeitherTook : (f g : Format) (x x' y y' : Content) (rs ss : List Row) → GrowError → Type 0
 NeitherTook f g x x' y y' rs ss error = (Refused f x x' rs error × Stayed g y y') ⊎ (Stayed f x x' × Refused g y y' ss error)
-
-pub on_ok_both : {T E P Q R : Type 0} (r : Result T E) → (P → Q → R) → OnOk r P → OnOk r Q → OnOk r R
-on_ok_both (Ok x) f p q = f p q
-on_ok_both (Err e) f p q = tt

@@ -20,9 +20,9 @@ use Rattle.columnar_sums.specs.Unary.{bits_of, ends_of, falses, runs, falls, is_
 use Rattle.columnar_sums.specs.UnaryColumns.{unaries_format}
 use Rattle.columnar_sums.specs.UnaryLaws.{unary_parts, unary_refuse_more, unary_bounds}
 use Rattle.columnar_sums.specs.UnaryLists.{set_truths, last-falses, runs-append, falls-append}
-use Rattle.columnar_sums.specs.UnaryRanges.{runs_back}
+use Rattle.columnar_sums.specs.UnaryRangeLaws.{runs_back}
 use Rattle.columnar_sums.specs.WeaveLaws.{somes-append, somes-weave}
-use Rattle.columnar_sums.specs.WeaveBoth.{oks-append, errs-append, oks-woven, errs-woven}
+use Rattle.columnar_sums.specs.WeaveBothLaws.{oks-append, errs-append, oks-woven, errs-woven}
 
 pub ranks_limited : IsLimited ranks_format count_limit
 ranks_limited = count_limited {f = ranks_format} (λ e c s n rs. refl)

@@ -8,7 +8,8 @@ use Rattle.columnar_core.specs.Format.{Format, Content, slice, both, part, plain
 use Rattle.columnar_core.specs.AlikeLaws.{alike_length, same_pulled, same_both, row_eq_same, row_eq_exact}
 use Rattle.columnar_core.specs.Change.{Keeps, Grew, Stayed, WasCut, Took, Copied, Refused}
 use Rattle.columnar_core.specs.ChangeLaws.{true_from, grew_exactly, took_none, unchanged}
-use Rattle.columnar_core.specs.TwoParts.{TwoParts, two_parts, two_sound, two_storable}
+use Rattle.columnar_core.specs.TwoParts.{TwoParts}
+use Rattle.columnar_core.specs.TwoPartsLaws.{two_parts, two_sound, two_storable}
 use Rattle.columnar_base.specs.TupleLaws.{or_both}
 use Rattle.columnar_core.specs.Elements.{past_count}
 use Rattle.columnar_core.specs.declared.fault.GrowError.{GrowError}

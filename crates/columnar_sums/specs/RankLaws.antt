@@ -11,13 +11,14 @@ use Rattle.columnar_core.specs.FaultLaws.{unless_true, true_unless}
 use Rattle.columnar_core.specs.AlikeLaws.{row_eq_same}
 use Rattle.columnar_core.specs.Elements.{word_row_of, words_format}
 use Rattle.columnar_base.specs.ElementLaws.{elements_form, elements_storable}
-use Rattle.columnar_core.specs.TwoParts.{TwoParts, two_form, two_parts, two_sound, two_storable}
+use Rattle.columnar_core.specs.TwoParts.{TwoParts}
+use Rattle.columnar_core.specs.TwoPartsLaws.{two_form, two_parts, two_sound, two_storable}
 use Rattle.columnar_core.specs.WordViews.{words_in, bit_words}
 use Rattle.columnar_core.specs.WordViewLaws.{length-words_in}
 use Rattle.columnar_bits.specs.Bits.{bit_in, bits_of}
 use Rattle.columnar_bits.specs.BitLaws.{get_or-bits_of, bit_in_tail, bit_above, length-truths}
-use Rattle.columnar_bits.specs.BoolColumns.{last_word, last_count, bit_count, bits_in, bools_format}
-use Rattle.columnar_bits.specs.BoolLaws.{SoundBools, bools_parts, bools_sound, bools_form, bools_lawful, bools_storable, bits_length, words_of_bits}
+use Rattle.columnar_bits.specs.BoolColumns.{last_word, last_count, bit_count, bits_in, bools_format, SoundBools}
+use Rattle.columnar_bits.specs.BoolLaws.{bools_parts, bools_sound, bools_form, bools_lawful, bools_storable, bits_length, words_of_bits}
 use Rattle.columnar_sums.specs.Counting.{ones, place, ones_below, counts_of, AreCounts, CountWords}
 use Rattle.columnar_sums.specs.CountLaws.{ones_truths, ones_below_mono, ones_yes, ones_no, place_some, place_none, inside}
 use Rattle.columnar_sums.specs.RankColumns.{counts_match, ranks_format, IsNextTrue, AreFalseFrom, AreClear}

@@ -7,7 +7,8 @@ use Rattle.columnar_core.specs.Format.{Format, Content, slice, both, part, plain
 use Rattle.columnar_core.specs.AlikeLaws.{alike_length, same_pulled, same_both, row_eq_same, row_eq_exact}
 use Rattle.columnar_core.specs.Change.{Keeps, Grew, Stayed, WasCut, Took, Copied, Refused}
 use Rattle.columnar_core.specs.ChangeLaws.{true_from, grew_exactly, took_none, unchanged}
-use Rattle.columnar_core.specs.TwoParts.{TwoParts, two_form, two_parts, two_sound, two_storable, two_turns, representable_left, representable_right, two_fits_left, two_fits_right}
+use Rattle.columnar_core.specs.TwoParts.{TwoParts}
+use Rattle.columnar_core.specs.TwoPartsLaws.{two_form, two_parts, two_sound, two_storable, two_turns, representable_left, representable_right, two_fits_left, two_fits_right}
 use Rattle.columnar_base.specs.TupleLaws.{or_both}
 use Rattle.columnar_core.specs.Elements.{past_count}
 use Rattle.columnar_core.specs.declared.fault.GrowError.{GrowError}
@@ -19,7 +20,7 @@ use Rattle.columnar_sums.specs.RankLaws.{ranks_lawful, ranks_storable}
 use Rattle.columnar_sums.specs.Options.{option_alike}
 use Rattle.columnar_sums.specs.Results.{turned, zeros, weave_results, ok_part, err_part, bare_result, oks, errs, beside_format, results_level, result_alike, results_refuses, results_format, AreOks, AreErrs}
 use Rattle.columnar_sums.specs.WeaveLaws.{ones_nil, ones_first, ones_cut, ones_most, ones_range, ones_both, ones_taken, ones_before, bit_of_row, ones_of_true, ones_of_false}
-use Rattle.columnar_sums.specs.WeaveBoth.{ones_zeros, zeros_all, zeros_both, zeros_taken, zeros_first, zeros_cut, zeros_range, length-weave_results, weave_results-append, weave_results-take, weave_results-range, oks-woven, errs-woven, oks-append, errs-append, turned_at, weave_ok, weave_err, weave_results_alike, weave_all_ok, weave_all_err, errs-oks, oks-errs}
+use Rattle.columnar_sums.specs.WeaveBothLaws.{ones_zeros, zeros_all, zeros_both, zeros_taken, zeros_first, zeros_cut, zeros_range, length-weave_results, weave_results-append, weave_results-take, weave_results-range, oks-woven, errs-woven, oks-append, errs-append, turned_at, weave_ok, weave_err, weave_results_alike, weave_all_ok, weave_all_err, errs-oks, oks-errs}
 use Rattle.columnar_sums.specs.OptionLaws.{values_keep, option_same, options_related, bits_grew, bits_range, no_values}
 use Rattle.columnar_sums.specs.Marked.{NeitherTook}
 

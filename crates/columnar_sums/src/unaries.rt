@@ -8,7 +8,7 @@ ghost use Rattle.columnar_sums.specs.Counting.{ones};
 ghost use Rattle.columnar_sums.specs.RankColumns.{ranks_format, ranks_content, bits_ranked};
 ghost use Rattle.columnar_sums.specs.Unary.{upto};
 ghost use Rattle.columnar_sums.specs.UnaryLaws.{unary_bounds};
-ghost use Rattle.columnar_sums.specs.UnaryBits.{four};
+ghost use Rattle.columnar_sums.specs.UnaryBitLaws.{four};
 ghost use Rattle.columnar_sums.specs.UnaryColumns.{unaries_format, unaries_content, all_falses};
 
 mod bytes;

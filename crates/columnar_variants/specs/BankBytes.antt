@@ -5,7 +5,8 @@ use Rattle.std.proofs.lemmas.Bool.{eq-eqb, ne_eqb}
 use Rattle.columnar_core.specs.Format.{Format, Content, slice, both, part, plain, fault, first, moved, two_broken}
 use Rattle.columnar_core.specs.TwoParts.{TwoParts}
 use Rattle.columnar_variants.specs.Variants.{Bank, join, beside}
-use Rattle.columnar_variants.specs.VariantBytes.{beside_built, own_broken}
+use Rattle.columnar_variants.specs.VariantBytes.{own_broken}
+use Rattle.columnar_variants.specs.VariantByteLaws.{beside_built}
 use Rattle.columnar_variants.specs.BankChanges.{told_as}
 
 -- two parts of any numbers of rows

@@ -1,7 +1,7 @@
 use Rattle.std.proofs.Common.{◌≡◌, ℕ, ◌+◌, List, ◌++◌, length, true, refl}
 use Rattle.columnar_core.specs.Format.{Format, Content, IsSound, Fits, IsLawful, IsStorable, representable, slices_of}
-use Rattle.columnar_core.specs.TwoParts.{two_counted, representable_left, representable_right}
-use Rattle.columnar_variants.specs.VariantBytes.{sides_representable, sides_fit, beside_first, beside_second}
+use Rattle.columnar_core.specs.TwoPartsLaws.{two_counted, representable_left, representable_right}
+use Rattle.columnar_variants.specs.VariantByteLaws.{sides_representable, sides_fit, beside_first, beside_second}
 use Rattle.columnar_sums.specs.DiscriminantLaws.{discriminant_lawful, discriminant_storable}
 use Rattle.columnar_variants.specs.Variants.{leaf, IsBank}
 use Rattle.columnar_variants.specs.VariantLaws.{leaf_bank, join_bank, beside_two, beside_parts, variants_parts, variants_stayed, first_stayed, later_stayed, leaf_stayed}

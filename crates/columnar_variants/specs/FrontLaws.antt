@@ -5,7 +5,7 @@ use Rattle.std.proofs.lemmas.Bool.{and_parts, and_from, ltb-true, lt-ltb, cases_
 use Rattle.std.proofs.lemmas.List.{get_or-set_same, get_or-set_other}
 use Rattle.columnar_sums.specs.Discriminants.{times}
 use Rattle.columnar_variants.specs.Variants.{are_below}
-use Rattle.columnar_variants.specs.VariantLists.{none_beyond, below-take}
+use Rattle.columnar_variants.specs.VariantListLaws.{none_beyond, below-take}
 use Rattle.columnar_variants.specs.VariantCounts.{EachCounted}
 
 pub zeros_at : (m v : ℕ) → slice_index (replicate m 0) v ≡ 0

@@ -5,13 +5,14 @@ use Rattle.columnar_core.specs.Row.{Row, tuple, row_eq, first_of, second_of, num
 use Rattle.columnar_base.specs.RowLaws.{row_eq-refl, row_eq-is, is-row_eq}
 use Rattle.columnar_core.specs.Format.{Format, Content, slice, both, part, plain, IsSound, IsLawful, IsStorable, IsSame, Excess, lengths, two_broken}
 use Rattle.columnar_core.specs.FaultLaws.{nothing_left}
-use Rattle.columnar_core.specs.TwoParts.{IsBoth, two_form, two_storable}
+use Rattle.columnar_core.specs.TwoParts.{IsBoth}
+use Rattle.columnar_core.specs.TwoPartsLaws.{two_form, two_storable}
 use Rattle.columnar_core.specs.TupleLaws.{or_both}
 use Rattle.columnar_core.specs.Elements.{past_count}
 use Rattle.columnar_sums.specs.Discriminants.{times, variants_of, discriminant_format, form_lengths, variant_rows}
 use Rattle.columnar_variants.specs.Variants.{Bank, IsBank, IsLawfulBank, leaf, join, join_table, by_variant, beside, variants_format, variants_alike, variants_rows, variants_refuses, variants_extent, bare_case, of_case, chosen, is_below, level_broken}
 use Rattle.columnar_variants.specs.VariantLaws.{variants_parts, variants_len, length-chosen, beside_parts, beside_two, inner, inner_two}
-use Rattle.columnar_variants.specs.VariantLists.{of_case-append}
+use Rattle.columnar_variants.specs.VariantListLaws.{of_case-append}
 
 pub leaf_lawful : (a : Format) → IsLawful a → IsLawfulBank (leaf a)
 leaf_lawful a law = record {

@@ -4,16 +4,16 @@ use Rattle.std.proofs.Math.Seq.{take-length}
 use Rattle.std.proofs.lemmas.Bool.{or_cases, false≢true}
 use Rattle.columnar_core.specs.Row.{Row}
 use Rattle.columnar_core.specs.Format.{Format, Content, slice, both, part, plain, IsSound, Excess, refuses_more}
-use Rattle.columnar_core.specs.TwoParts.{two_parts}
+use Rattle.columnar_core.specs.TwoPartsLaws.{two_parts}
 use Rattle.columnar_core.specs.Elements.{past_count}
 use Rattle.columnar_core.specs.May.{Limit, IsLimited, no_limit}
 use Rattle.columnar_core.specs.MayLaws.{nothing_limited}
 use Rattle.columnar_sums.specs.Discriminants.{times, variants_of}
 use Rattle.columnar_variants.specs.Duals.{dual_format}
 use Rattle.columnar_variants.specs.MayVariants.{BankLimit, IsLimitedBank, leaf_limit, join_limit, variants_limit}
-use Rattle.columnar_variants.specs.VariantCopies.{of_chosen}
+use Rattle.columnar_variants.specs.VariantCopyLaws.{of_chosen}
 use Rattle.columnar_variants.specs.VariantLaws.{variants_parts, variants_count, variants_number, beside_two, leaf_bank, join_bank}
-use Rattle.columnar_variants.specs.VariantLists.{times_of_all, of_case-append}
+use Rattle.columnar_variants.specs.VariantListLaws.{times_of_all, of_case-append}
 use Rattle.columnar_variants.specs.Variants.{Bank, IsBank, leaf, join, join_table, beside, chosen, of_case, variants_format, variants_rows}
 
 -- it has no rows of its own

@@ -5,7 +5,8 @@ use Rattle.columnar_core.specs.Row.{Row, unit, tuple, number, row_eq}
 use Rattle.columnar_core.specs.Format.{Format, Content, slice, both, part, plain, IsSound, fault, two_broken, all_alike, Excess, lengths}
 use Rattle.columnar_core.specs.FaultLaws.{nothing_left, nothing_both, unless_true, true_unless}
 use Rattle.columnar_base.specs.RowLaws.{row_eq-refl}
-use Rattle.columnar_core.specs.TwoParts.{TwoParts, two_parts, two_sound}
+use Rattle.columnar_core.specs.TwoParts.{TwoParts}
+use Rattle.columnar_core.specs.TwoPartsLaws.{two_parts, two_sound}
 use Rattle.columnar_core.specs.LongTuples.{under}
 use Rattle.columnar_core.specs.Change.{Stayed, Took, Refused, IsTrueOf}
 use Rattle.columnar_core.specs.ChangeLaws.{true_from}
@@ -16,7 +17,7 @@ use Rattle.columnar_core.specs.Elements.{past_count}
 use Rattle.columnar_base.specs.declared.fault.GrowError.{GrowError}
 use Rattle.columnar_sums.specs.Discriminants.{times, variants_of, discriminant_format, form_lengths, variant_rows}
 use Rattle.columnar_variants.specs.Variants.{case, cell, chosen, beside, Bank, leaf, join, leaf_table, join_table, variants_format, is_below, are_below, level_broken, of_case, IsBank, BankTook, BankStayed, BankRefused}
-use Rattle.columnar_variants.specs.VariantLists.{times_before, times_within, times_last, times_other_last, below_get, below-append, index_read, index_last, index_front, of_case_here, of_case_other}
+use Rattle.columnar_variants.specs.VariantListLaws.{times_before, times_within, times_last, times_other_last, below_get, below-append, index_read, index_last, index_front, of_case_here, of_case_other}
 use Rattle.columnar_sums.specs.DiscriminantLaws.{times-append, length-variant_rows}
 
 -- numbers and lists alone

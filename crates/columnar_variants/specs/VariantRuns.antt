@@ -9,7 +9,7 @@ use Rattle.columnar_sums.specs.Discriminants.{discriminant_format, owned_forms, 
 use Rattle.columnar_sums.specs.DiscriminantLaws.{times-append, times_all, times_one, times_absent, same_replicate, forms_parts}
 use Rattle.columnar_sums.specs.FormLaws.{two_words_of, holds_counted, mixed_where}
 use Rattle.columnar_variants.specs.Variants.{are_below}
-use Rattle.columnar_variants.specs.VariantLists.{below_get}
+use Rattle.columnar_variants.specs.VariantListLaws.{below_get}
 
 -- no row of another variant
 pub alone_from : (v : ℕ) (vs : List ℕ) → times v vs ≡ length vs → is_mixed vs ≡ false

@@ -5,7 +5,7 @@ ghost use Rattle.columnar.specs.Row.{tuple};
 ghost use Rattle.columnar.specs.Format.{both, slices_of};
 ghost use Rattle.columnar.specs.Tuples.{pair_format};
 ghost use Rattle.columnar.specs.TupleLaws.{pair_lawful, pair_storable, same_pair};
-ghost use Rattle.columnar.specs.TwoParts.{two_counted};
+ghost use Rattle.columnar.specs.TwoPartsLaws.{two_counted};
 
 use columnar::bytes::ByteSlice;
 use columnar::bytes::indexed::DecodedStore;

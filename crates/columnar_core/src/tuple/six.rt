@@ -3,7 +3,7 @@
 ghost use Rattle.std.specs.Prelude.{◌≡◌, List, [], ◌∷◌};
 ghost use Rattle.std.proofs.Common.{ap};
 ghost use Rattle.columnar_base.specs.Format.{both, slices_of};
-ghost use Rattle.columnar_base.specs.TwoParts.{two_counted};
+ghost use Rattle.columnar_base.specs.TwoPartsLaws.{two_counted};
 ghost use Rattle.columnar_base.specs.TupleLaws.{pair_storable};
 ghost use Rattle.columnar_base.specs.LongTuples.{nested};
 ghost use Rattle.columnar_base.specs.LongTupleLaws.{same_parts, same_tuple, tuple_storable};

@@ -2,7 +2,7 @@
 ghost use Rattle.std.specs.Prelude.{◌≡◌, ◌+◌, ◌≤◌, ◌++◌, [], List, length, refl};
 ghost use Rattle.columnar_base.specs.Row.{Row};
 ghost use Rattle.columnar_base.specs.Format.{IsSound, slices_of};
-ghost use Rattle.columnar_base.specs.TwoParts.{two_counted};
+ghost use Rattle.columnar_base.specs.TwoPartsLaws.{two_counted};
 ghost use Rattle.columnar_sums.specs.Counting.{ones};
 ghost use Rattle.columnar_sums.specs.RankColumns.{ranks_bits, ranks_content, ranks_format};
 ghost use Rattle.columnar_sums.specs.Results.{weave_results, zeros};

@@ -1,7 +1,7 @@
 //! Columns that keep a run of rows once, in slices of bytes.
 ghost use Rattle.std.specs.Prelude.{◌≡◌, drop, refl};
 ghost use Rattle.columnar_base.specs.Format.{Fits, IsSound, slices_of};
-ghost use Rattle.columnar_base.specs.TwoParts.{two_counted};
+ghost use Rattle.columnar_base.specs.TwoPartsLaws.{two_counted};
 ghost use Rattle.columnar_core.specs.Store.{slices_in};
 ghost use Rattle.columnar_sums.specs.RankColumns.{ranks_bits, ranks_content, ranks_format};
 ghost use Rattle.columnar_lookback.specs.Repeats.{starts};

@@ -1,7 +1,7 @@
 //! Columns of rows that may be absent, in slices of bytes.
 ghost use Rattle.std.specs.Prelude.{refl};
 ghost use Rattle.columnar_core.specs.Format.{slices_of};
-ghost use Rattle.columnar_core.specs.TwoParts.{two_counted};
+ghost use Rattle.columnar_core.specs.TwoPartsLaws.{two_counted};
 ghost use Rattle.columnar_sums.specs.RankColumns.{ranks_content};
 ghost use Rattle.columnar_sums.specs.OptionLaws.{options_storable};
 

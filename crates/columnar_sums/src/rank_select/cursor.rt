@@ -172,7 +172,7 @@ impl<'a, CC: Words, VC: Words, WC: Words> Model for Cursor<'a, CC, VC, WC> {
     ghost use Rattle.std.specs.Prelude.{length};
     ghost use Rattle.columnar_core.specs.WordViews.{words_in};
     ghost use Rattle.columnar_sums.specs.RankColumns.{bits_ranked, Standing};
-    ghost use Rattle.columnar_sums.specs.CursorLaws.{Stands};
+    ghost use Rattle.columnar_sums.specs.Cursors.{Stands};
 
     ghost Value = { Standing };
 

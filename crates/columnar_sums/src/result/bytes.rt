@@ -3,7 +3,7 @@ ghost use Rattle.std.specs.Prelude.{◌≡◌, ◌+◌, ◌*◌, ◌^◌, ◌<�
 ghost use Rattle.columnar_core.specs.Faults.{verdict};
 ghost use Rattle.columnar_core.specs.Format.{both, bytes_held, first, moved, representable, slices_of};
 ghost use Rattle.columnar_core.specs.Store.{slices_in};
-ghost use Rattle.columnar_core.specs.TwoParts.{two_counted};
+ghost use Rattle.columnar_core.specs.TwoPartsLaws.{two_counted};
 ghost use Rattle.columnar_sums.specs.RankColumns.{ranks_content, ranks_format};
 ghost use Rattle.columnar_sums.specs.Results.{results_format};
 ghost use Rattle.columnar_sums.specs.ResultLaws.{results_storable};

@@ -4,7 +4,7 @@ ghost use Rattle.columnar_core.specs.Format.{Content, Fits, IsSound, IsStorable,
 ghost use Rattle.columnar_core.specs.Faults.{verdict};
 ghost use Rattle.columnar_core.specs.Slices.{bytes_in, alignment};
 ghost use Rattle.columnar_core.specs.Store.{slices_in};
-ghost use Rattle.columnar_core.specs.TwoParts.{two_counted};
+ghost use Rattle.columnar_core.specs.TwoPartsLaws.{two_counted};
 ghost use Rattle.columnar_variants.specs.LawfulVariants.{join_storable};
 
 use super::{ColumnBank, LenBank};

@@ -2,7 +2,8 @@
 ghost use Rattle.std.specs.Prelude.{◌≡◌, IfOk, IfErr, refl};
 ghost use Rattle.columnar_core.specs.Format.{IsSound};
 ghost use Rattle.columnar_variants.specs.BankLaws.{same_size};
-ghost use Rattle.columnar_variants.specs.BankEarlier.{IsEarlierBank, IsBankMadeOf, IsTrueOfBare, earlier_leaf, earlier_join};
+ghost use Rattle.columnar_variants.specs.BankEarlier.{IsEarlierBank, IsBankMadeOf, IsTrueOfBare};
+ghost use Rattle.columnar_variants.specs.BankEarlierLaws.{earlier_leaf, earlier_join};
 
 use super::ColumnBank;
 use super::bytes::BytesBank;

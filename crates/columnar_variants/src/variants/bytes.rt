@@ -1,7 +1,7 @@
 //! The bytes of a column of any number of variants: the slices of the columns, and then those of the variants.
 ghost use Rattle.std.specs.Prelude.{refl};
 ghost use Rattle.columnar_core.specs.Format.{slices_of};
-ghost use Rattle.columnar_core.specs.TwoParts.{two_counted};
+ghost use Rattle.columnar_core.specs.TwoPartsLaws.{two_counted};
 ghost use Rattle.columnar_sums.specs.Discriminants.{forms_content};
 ghost use Rattle.columnar_sums.specs.DiscriminantLaws.{discriminant_storable};
 ghost use Rattle.columnar_variants.specs.LawfulVariants.{variants_storable};

@@ -1,5 +1,5 @@
 //! A column of any number of variants that is made of an earlier form.
-ghost use Rattle.columnar_variants.specs.BankEarlier.{earlier_variants};
+ghost use Rattle.columnar_variants.specs.BankEarlierLaws.{earlier_variants};
 
 use super::Variants;
 use crate::bank::earlier::EarlierBank;

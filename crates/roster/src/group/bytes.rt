@@ -1,7 +1,7 @@
 //! Groups in slices of bytes: those of the solos, of the teams, and of the variants.
 ghost use Rattle.std.specs.Prelude.{◌++◌, refl};
 ghost use Rattle.columnar.specs.Discriminants.{forms_content};
-ghost use Rattle.columnar.specs.DualEarlier.{earlier_dual};
+ghost use Rattle.columnar.specs.DualEarlierLaws.{earlier_dual};
 ghost use Rattle.columnar.specs.DualLaws.{dual_storable, dual_counted};
 
 use super::GroupContainer;

@@ -3,7 +3,7 @@ use Rattle.columnar_base.specs.Faults.{fault_of}
 use Rattle.columnar_base.specs.FaultLaws.{sound_from}
 use Rattle.columnar_base.specs.ChangeLaws.{passed_on}
 use Rattle.columnar_base.specs.Format.{both}
-use Rattle.columnar_base.specs.TwoParts.{two_parts}
+use Rattle.columnar_base.specs.TwoPartsLaws.{two_parts}
 use Rattle.columnar_base.specs.LongTuples.{sides}
 use Rattle.columnar_base.specs.LongTupleLaws.{sides_two, tuple_two}
 use Rattle.columnar_core.specs.SidesLaws.{checked_parts, checked_level, checked_uneven}

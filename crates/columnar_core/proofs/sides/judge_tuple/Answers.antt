@@ -2,7 +2,7 @@ use Rattle.std.proofs.Common.{sym, ◌∙◌, ◌∷◌}
 use Rattle.columnar_base.specs.Faults.{fault_of}
 use Rattle.columnar_base.specs.FaultLaws.{fits_from}
 use Rattle.columnar_base.specs.ChangeLaws.{passed_on}
-use Rattle.columnar_base.specs.TwoParts.{representable_left, representable_right, two_fits_left, two_fits_right}
+use Rattle.columnar_base.specs.TwoPartsLaws.{representable_left, representable_right, two_fits_left, two_fits_right}
 use Rattle.columnar_base.specs.LongTuples.{sides}
 use Rattle.columnar_base.specs.LongTupleLaws.{sides_two, tuple_two}
 use Rattle.columnar_core.specs.Store.{slices_in}

@@ -1,5 +1,5 @@
 use Rattle.std.proofs.Common.{◌-◌, arith}
-use Rattle.columnar_base.specs.TwoParts.{flat_right, align_right}
+use Rattle.columnar_base.specs.TwoPartsLaws.{flat_right, align_right}
 use Rattle.columnar_base.specs.Format.{slices_of}
 use Rattle.columnar_core.specs.Slices.{bytes_in}
 use Rattle.columnar_core.proofs.two.slice_of_two.Goals as goal

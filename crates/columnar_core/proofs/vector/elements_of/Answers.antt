@@ -1,4 +1,4 @@
-use Rattle.columnar_core.specs.Appended.{appended_all}
+use Rattle.columnar_core.specs.AppendedLaws.{appended_all}
 use Rattle.columnar_core.proofs.vector.elements_of.Goals as goal
 
 pub returns-clause-elements : goal.returns-clause-elements

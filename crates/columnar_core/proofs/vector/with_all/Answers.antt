@@ -1,5 +1,5 @@
 use Rattle.std.proofs.Common.{arith, refl}
-use Rattle.columnar_core.specs.Appended.{appended_none, appended_more}
+use Rattle.columnar_core.specs.AppendedLaws.{appended_none, appended_more}
 use Rattle.columnar_core.proofs.vector.with_all.Goals as goal
 
 pub loop-i-init : goal.loop-i-init

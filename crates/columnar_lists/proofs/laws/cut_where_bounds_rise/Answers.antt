@@ -1,4 +1,4 @@
-use Rattle.columnar_lists.specs.CutIs.{rises_exactly}
+use Rattle.columnar_lists.specs.PieceLaws.{rises_exactly}
 use Rattle.columnar_lists.proofs.laws.cut_where_bounds_rise.Goals as goal
 
 pub returns : goal.returns

@@ -1,4 +1,4 @@
-use Rattle.columnar_lists.specs.CutIs.{rows_cut}
+use Rattle.columnar_lists.specs.PieceLaws.{rows_cut}
 use Rattle.columnar_lists.proofs.laws.rows_are_the_cut.Goals as goal
 
 pub returns : goal.returns

@@ -1,5 +1,5 @@
 use Rattle.std.proofs.Common.{◌∙◌, sym}
-use Rattle.columnar_base.specs.TwoParts.{representable_left, representable_right, judged_part, judged_fine, judged_own}
+use Rattle.columnar_base.specs.TwoPartsLaws.{representable_left, representable_right, judged_part, judged_fine, judged_own}
 use Rattle.columnar_base.specs.Faults.{fault_of}
 use Rattle.columnar_lists.specs.ListLaws.{lists_two}
 use Rattle.columnar_base.specs.ChangeLaws.{passed_on}

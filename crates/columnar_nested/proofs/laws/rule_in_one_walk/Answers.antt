@@ -1,4 +1,4 @@
-use Rattle.columnar_nested.specs.Pass.{accepts_rule, rule_accepts}
+use Rattle.columnar_nested.specs.PassLaws.{accepts_rule, rule_accepts}
 use Rattle.columnar_nested.proofs.laws.rule_in_one_walk.Goals as goal
 
 pub returns : goal.returns

@@ -1,4 +1,4 @@
-use Rattle.columnar_nested.specs.Layouts.{rule_one, one_rule}
+use Rattle.columnar_nested.specs.LayoutLaws.{rule_one, one_rule}
 use Rattle.columnar_nested.proofs.laws.rule_of_one_forest.Goals as goal
 
 pub returns : goal.returns

@@ -1,7 +1,7 @@
 use Rattle.std.proofs.Common.{◌∙◌, rules, map}
 use Rattle.std.proofs.lemmas.List.{length-map}
 use Rattle.columnar_base.specs.ExtendLaws.{row_at}
-use Rattle.columnar_base.specs.SameRows.{rest_more, rest_differs, other_length}
+use Rattle.columnar_base.specs.SameRowsLaws.{rest_more, rest_differs, other_length}
 use Rattle.columnar_rows.proofs.ordered.same_rows_as.Goals as goal
 
 pub returns-then-count-items : goal.returns-then-count-items

@@ -1,5 +1,5 @@
 use Rattle.std.proofs.Common.{◌∙◌, sym, rules}
-use Rattle.columnar_base.specs.SameRows.{rest_more, rest_differs, other_length}
+use Rattle.columnar_base.specs.SameRowsLaws.{rest_more, rest_differs, other_length}
 use Rattle.columnar_rows.proofs.ordered.same_rows_of.Goals as goal
 
 pub returns-then-count-len : goal.returns-then-count-len

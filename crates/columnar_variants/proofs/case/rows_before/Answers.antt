@@ -2,7 +2,7 @@ use Rattle.std.proofs.Common.{arith, ◌≡◌, ◌∙◌, sym, length}
 use Rattle.columnar_sums.specs.Discriminants.{forms_content, variants_of}
 use Rattle.columnar_sums.specs.DiscriminantLaws.{length-variant_rows}
 use Rattle.columnar_variants.specs.VariantCountLaws.{front_sole, front_other}
-use Rattle.columnar_variants.specs.VariantLists.{times_more, times_of_all}
+use Rattle.columnar_variants.specs.VariantListLaws.{times_more, times_of_all}
 use Rattle.columnar_variants.proofs.case.rows_before.Goals as goal
 
 pub loop-index-preserved : goal.loop-index-preserved

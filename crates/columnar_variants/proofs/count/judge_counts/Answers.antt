@@ -1,6 +1,6 @@
 use Rattle.std.proofs.Common.{◌≡◌, ◌∙◌, sym, arith, length}
 use Rattle.columnar_sums.specs.Discriminants.{forms_content, variants_of, times}
-use Rattle.columnar_variants.specs.VariantBytes.{own_parts, own_fine}
+use Rattle.columnar_variants.specs.VariantByteLaws.{own_parts, own_fine}
 use Rattle.columnar_variants.specs.VariantCountLaws.{told_same}
 use Rattle.columnar_variants.proofs.count.judge_counts.Goals as goal
 

@@ -4,7 +4,7 @@ use Rattle.std.proofs.Math.Seq.{take-append_seam}
 use Rattle.columnar_core.specs.ChangeLaws.{took_none, took_twice, undone, grew_stayed}
 use Rattle.columnar_sums.specs.Discriminants.{owned_forms, variants_of, times}
 use Rattle.columnar_sums.specs.DiscriminantLaws.{discriminant_lawful, length-variant_rows, times-append, times-replicate}
-use Rattle.columnar_variants.specs.VariantCopies.{variants_cause}
+use Rattle.columnar_variants.specs.VariantCopyLaws.{variants_cause}
 use Rattle.columnar_variants.proofs.run.push_each.Goals as goal
 
 pub loop-at-init : goal.loop-at-init

@@ -1,6 +1,6 @@
 use Rattle.std.proofs.Common.{◌∙◌, sym, rules}
 use Rattle.columnar_base.specs.Elements.{elements_rows}
-use Rattle.columnar_base.specs.SameRows.{rest_more, rest_differs, other_length}
+use Rattle.columnar_base.specs.SameRowsLaws.{rest_more, rest_differs, other_length}
 use Rattle.columnar_base.specs.Views.{items_content}
 use Rattle.columnar_base.proofs.view.ViewPartialEq.eq.Goals as goal
 

@@ -2,7 +2,7 @@ use Rattle.std.proofs.Common.{◌-◌, w8}
 use Rattle.std.proofs.lemmas.Result.{on_ok_weaker}
 use Rattle.columnar_base.specs.ElementLaws.{length-typed, elements_copied}
 use Rattle.columnar_base.specs.NumberLaws.{unsigned_element}
-use Rattle.columnar_core.specs.Appended.{piece_means}
+use Rattle.columnar_core.specs.AppendedLaws.{piece_means}
 use Rattle.columnar_core.proofs.byte_column.VecU8ExtendFromRefSliceU8.extend_from_self.Goals as goal
 
 pub elements_between-requires-clause-in_range : goal.elements_between-requires-clause-in_range

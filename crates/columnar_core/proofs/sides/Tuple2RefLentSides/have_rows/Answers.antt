@@ -1,4 +1,4 @@
-use Rattle.columnar_base.specs.TwoParts.{two_parts}
+use Rattle.columnar_base.specs.TwoPartsLaws.{two_parts}
 use Rattle.columnar_base.specs.LongTupleLaws.{sides_two}
 use Rattle.columnar_core.proofs.sides.Tuple2RefLentSides.have_rows.Goals as goal
 

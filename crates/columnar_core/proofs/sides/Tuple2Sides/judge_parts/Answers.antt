@@ -1,6 +1,6 @@
 use Rattle.std.proofs.Common.{arith}
 use Rattle.columnar_base.specs.Faults.{verdict}
-use Rattle.columnar_base.specs.TwoParts.{representable_left, representable_right}
+use Rattle.columnar_base.specs.TwoPartsLaws.{representable_left, representable_right}
 use Rattle.columnar_base.specs.LongTupleLaws.{sides_two}
 use Rattle.columnar_core.specs.Store.{slices_in}
 use Rattle.columnar_core.specs.SidesLaws.{judged_others, turns_others}

@@ -1,5 +1,5 @@
 use Rattle.std.proofs.Common.{◌∙◌}
-use Rattle.columnar_base.specs.TwoParts.{representable_left, representable_right, two_fits_left, two_fits_right}
+use Rattle.columnar_base.specs.TwoPartsLaws.{representable_left, representable_right, two_fits_left, two_fits_right}
 use Rattle.columnar_base.specs.LongTupleLaws.{sides_two}
 use Rattle.columnar_core.specs.Store.{slices_in}
 use Rattle.columnar_core.specs.SidesLaws.{level_others}

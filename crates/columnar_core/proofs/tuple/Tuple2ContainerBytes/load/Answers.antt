@@ -1,4 +1,4 @@
-use Rattle.columnar_base.specs.TwoParts.{representable_left, representable_right, two_fits_left, two_fits_right}
+use Rattle.columnar_base.specs.TwoPartsLaws.{representable_left, representable_right, two_fits_left, two_fits_right}
 use Rattle.columnar_base.specs.TupleLaws.{pair_two}
 use Rattle.columnar_core.specs.Store.{slices_in}
 use Rattle.columnar_core.proofs.tuple.Tuple2ContainerBytes.load.Goals as goal

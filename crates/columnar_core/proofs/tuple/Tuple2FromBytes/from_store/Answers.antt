@@ -1,5 +1,5 @@
 use Rattle.std.proofs.Common.{refl, arith}
-use Rattle.columnar_base.specs.TwoParts.{representable_left, representable_right}
+use Rattle.columnar_base.specs.TwoPartsLaws.{representable_left, representable_right}
 use Rattle.columnar_base.specs.TupleLaws.{pair_two}
 use Rattle.columnar_core.proofs.tuple.Tuple2FromBytes.from_store.Goals as goal
 

@@ -1,4 +1,4 @@
-use Rattle.columnar_base.specs.TwoParts.{representable_left, representable_right, judged_part_at}
+use Rattle.columnar_base.specs.TwoPartsLaws.{representable_left, representable_right, judged_part_at}
 use Rattle.columnar_base.specs.TupleLaws.{pair_two}
 use Rattle.columnar_base.specs.Faults.{fault_of}
 use Rattle.columnar_base.specs.ChangeLaws.{passed_on}

@@ -1,5 +1,5 @@
 use Rattle.std.proofs.Common.{sym, ◌∙◌}
-use Rattle.columnar_base.specs.TwoParts.{representable_left}
+use Rattle.columnar_base.specs.TwoPartsLaws.{representable_left}
 use Rattle.columnar_base.specs.TupleLaws.{pair_two, pair_fits, fits_level}
 use Rattle.columnar_core.specs.Store.{slices_in}
 use Rattle.columnar_core.proofs.tuple.Tuple2Stored.rows_in.Goals as goal

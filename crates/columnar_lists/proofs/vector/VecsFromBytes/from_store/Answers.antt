@@ -1,5 +1,5 @@
 use Rattle.std.proofs.Common.{arith, refl}
-use Rattle.columnar_base.specs.TwoParts.{representable_left, representable_right}
+use Rattle.columnar_base.specs.TwoPartsLaws.{representable_left, representable_right}
 use Rattle.columnar_lists.specs.ListLaws.{lists_two}
 use Rattle.columnar_lists.proofs.vector.VecsFromBytes.from_store.Goals as goal
 

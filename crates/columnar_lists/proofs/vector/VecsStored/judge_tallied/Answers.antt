@@ -1,5 +1,5 @@
 use Rattle.std.proofs.Common.{◌∙◌, sym}
-use Rattle.columnar_base.specs.TwoParts.{representable_left, representable_right, judged_part_at, judged_fine_at, judged_own_at}
+use Rattle.columnar_base.specs.TwoPartsLaws.{representable_left, representable_right, judged_part_at, judged_fine_at, judged_own_at}
 use Rattle.columnar_base.specs.Faults.{fault_of}
 use Rattle.columnar_core.specs.Store.{slices_in}
 use Rattle.columnar_lists.specs.ListLaws.{lists_two}

@@ -1,5 +1,5 @@
 use Rattle.std.proofs.Common.{◌∙◌, sym, drop}
-use Rattle.columnar_base.specs.TwoParts.{representable_left, two_fits_left}
+use Rattle.columnar_base.specs.TwoPartsLaws.{representable_left, two_fits_left}
 use Rattle.columnar_core.specs.Store.{slices_in}
 use Rattle.columnar_lists.specs.ListLaws.{lists_two, length-lists}
 use Rattle.columnar_lists.proofs.vector.VecsStored.rows_in.Goals as goal

@@ -5,11 +5,11 @@ use Rattle.columnar_base.specs.Row.{truth}
 use Rattle.columnar_sums.specs.CountLaws.{ones_zero, ones_le}
 use Rattle.columnar_sums.specs.RankColumns.{ranks_bits, ranks_content}
 use Rattle.columnar_sums.specs.Results.{weave_results}
-use Rattle.columnar_sums.specs.WeaveBoth.{length-weave_results}
+use Rattle.columnar_sums.specs.WeaveBothLaws.{length-weave_results}
 use Rattle.columnar_lookback.specs.Recall.{reaches}
 use Rattle.columnar_lookback.specs.RepeatLaws.{ones_set, ones_clear}
 use Rattle.columnar_lookback.specs.Lookbacks.{lookbacks_code}
-use Rattle.columnar_lookback.specs.LookbackBytes.{distance_there, reach_set, reach_clear, reach_stops}
+use Rattle.columnar_lookback.specs.LookbackByteLaws.{distance_there, reach_set, reach_clear, reach_stops}
 use Rattle.columnar_lookback.proofs.lookbacks.bytes.all_reach.Goals as goal
 use Rattle.columnar_lookback.proofs.lookbacks.bytes.all_reach.Goals.{then-get, else-get+else-index_as-values}
 

@@ -1,7 +1,8 @@
 use Rattle.std.proofs.Common.{◌≡◌, ◌-◌, ◌<◌, ◌+◌, suc, length, ◌∙◌, ap, arith, sym, nat_eq}
 use Rattle.std.proofs.lemmas.Bool.{eqb-true}
 use Rattle.columnar_base.specs.WordViews.{view_words}
-use Rattle.columnar_nested.specs.Pass.{met_one, met_none, met_all, follow}
+use Rattle.columnar_nested.specs.Pass.{follow}
+use Rattle.columnar_nested.specs.PassLaws.{met_one, met_none, met_all}
 use Rattle.std.proofs.Common.{drop}
 use Rattle.columnar_nested.proofs.trees.bytes.keep_rule.Goals as goal
 use Rattle.columnar_nested.proofs.trees.bytes.keep_rule.Goals.{then-bound-j-2+else-met-trees+else-word_at-bound, else-bound-j-2, then-last-nodes, else-last-nodes}

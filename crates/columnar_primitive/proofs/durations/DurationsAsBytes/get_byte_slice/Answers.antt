@@ -1,5 +1,5 @@
 use Rattle.std.proofs.Common.{refl}
-use Rattle.columnar_base.specs.TwoParts.{representable_left, representable_right}
+use Rattle.columnar_base.specs.TwoPartsLaws.{representable_left, representable_right}
 use Rattle.columnar_base.specs.TupleLaws.{pair_two}
 use Rattle.columnar_primitive.proofs.durations.DurationsAsBytes.get_byte_slice.Goals as goal
 

@@ -1,4 +1,4 @@
-use Rattle.columnar_base.specs.TwoParts.{representable_left, representable_right}
+use Rattle.columnar_base.specs.TwoPartsLaws.{representable_left, representable_right}
 use Rattle.columnar_base.specs.TupleLaws.{pair_two}
 use Rattle.columnar_primitive.specs.DurationLaws.{durations_fits}
 use Rattle.columnar_core.specs.Store.{slices_in}

@@ -1,5 +1,5 @@
 use Rattle.std.proofs.Common.{sym, ◌∙◌}
-use Rattle.columnar_base.specs.TwoParts.{representable_left}
+use Rattle.columnar_base.specs.TwoPartsLaws.{representable_left}
 use Rattle.columnar_base.specs.TupleLaws.{pair_two}
 use Rattle.columnar_primitive.specs.DurationLaws.{durations_fits, durations_level}
 use Rattle.columnar_core.specs.Store.{slices_in}

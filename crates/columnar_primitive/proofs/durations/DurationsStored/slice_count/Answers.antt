@@ -1,4 +1,4 @@
-use Rattle.columnar_base.specs.TwoParts.{representable_left, representable_right}
+use Rattle.columnar_base.specs.TwoPartsLaws.{representable_left, representable_right}
 use Rattle.columnar_base.specs.TupleLaws.{pair_two}
 use Rattle.columnar_primitive.proofs.durations.DurationsStored.slice_count.Goals as goal
 

@@ -1,4 +1,4 @@
-use Rattle.columnar_base.specs.TwoParts.{representable_left, representable_right}
+use Rattle.columnar_base.specs.TwoPartsLaws.{representable_left, representable_right}
 use Rattle.columnar_lists.specs.ListLaws.{lists_two}
 use Rattle.columnar_strings.proofs.string.StringsContainerBytes.byte_slice.Goals as goal
 

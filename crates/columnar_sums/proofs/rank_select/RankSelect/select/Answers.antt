@@ -1,4 +1,4 @@
-use Rattle.columnar_sums.specs.CountsKept.{found_set, found_none, found_past}
+use Rattle.columnar_sums.specs.CountsKeptLaws.{found_set, found_none, found_past}
 use Rattle.columnar_sums.proofs.rank_select.RankSelect.select.Goals as goal
 
 pub returns-clause-set : goal.returns-clause-set

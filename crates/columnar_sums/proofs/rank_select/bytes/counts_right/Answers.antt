@@ -3,8 +3,8 @@ use Rattle.std.specs.Prelude.{count_ones}
 use Rattle.columnar_core.specs.WordViews.{bit_words, view_bytes, view_words}
 use Rattle.columnar_bits.specs.BoolLaws.{two_words}
 use Rattle.columnar_sums.specs.Counting.{ones_below}
-use Rattle.columnar_sums.specs.RankChanges.{sum_more, sum_fits, words_short}
-use Rattle.columnar_sums.specs.RankBytes.{right_more, right_all, wrong_number, wrong_count}
+use Rattle.columnar_sums.specs.RankChangeLaws.{sum_more, sum_fits, words_short}
+use Rattle.columnar_sums.specs.RankByteLaws.{right_more, right_all, wrong_number, wrong_count}
 use Rattle.columnar_sums.proofs.rank_select.bytes.counts_right.Goals as goal
 
 pub returns-then-word_count-total-clause-value : goal.returns-then-word_count-total-clause-value

@@ -5,7 +5,7 @@ use Rattle.columnar_core.specs.WordViews.{bit_words, view_bytes, le_bytes, words
 use Rattle.columnar_bits.specs.Bits.{bit_in}
 use Rattle.columnar_bits.specs.BoolLaws.{length_words_back}
 use Rattle.columnar_sums.specs.Counting.{ones_below}
-use Rattle.columnar_sums.specs.RankChanges.{counted_end, counted_within, sum_more, sum_fits, sum_start}
+use Rattle.columnar_sums.specs.RankChangeLaws.{counted_end, counted_within, sum_more, sum_fits, sum_start}
 use Rattle.columnar_sums.proofs.rank_select.grow.count_on.Goals as goal
 use Rattle.columnar_sums.proofs.rank_select.grow.count_on.Goals.{then-at-eq15+in-Ok, else-at-eq15}
 

@@ -2,7 +2,7 @@ use Rattle.std.proofs.Common.{◌≡◌, ◌+◌, ◌*◌, ◌≤◌}
 use Rattle.columnar_core.specs.WordViews.{bit_words, view_bytes}
 use Rattle.columnar_bits.specs.Bits.{bit_in}
 use Rattle.columnar_sums.specs.Counting.{ones_below}
-use Rattle.columnar_sums.specs.RankChanges.{CountedTo}
+use Rattle.columnar_sums.specs.RankChangeLaws.{CountedTo}
 use Rattle.columnar_sums.proofs.rank_select.grow.count_on.Given as goal
 
 abbrev pub invariant-loop-at : goal.invariant-loop-at

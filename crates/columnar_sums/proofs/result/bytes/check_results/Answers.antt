@@ -5,7 +5,7 @@ use Rattle.columnar_base.specs.FaultLaws.{sound_from}
 use Rattle.columnar_core.specs.Faults.{fault_of}
 use Rattle.columnar_core.specs.Format.{both, bytes_held}
 use Rattle.columnar_core.specs.Row.{truth}
-use Rattle.columnar_core.specs.TwoParts.{two_right, two_fine, two_own, judged_part, judged_fine}
+use Rattle.columnar_core.specs.TwoPartsLaws.{two_right, two_fine, two_own, judged_part, judged_fine}
 use Rattle.columnar_sums.specs.CountLaws.{ones_le}
 use Rattle.columnar_sums.specs.OptionLaws.{ranks_bytes}
 use Rattle.columnar_sums.specs.RankColumns.{ranks_format, ranks_content, ranks_bits}

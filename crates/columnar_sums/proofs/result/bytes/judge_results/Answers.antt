@@ -6,7 +6,7 @@ use Rattle.columnar_core.specs.Format.{bytes_held}
 use Rattle.columnar_core.specs.Row.{truth}
 use Rattle.columnar_core.specs.Store.{slices_in}
 use Rattle.columnar_base.specs.FaultLaws.{sound_from}
-use Rattle.columnar_core.specs.TwoParts.{two_right_at, two_fine_at, two_own_at, judged_part_at, judged_fine_at}
+use Rattle.columnar_core.specs.TwoPartsLaws.{two_right_at, two_fine_at, two_own_at, judged_part_at, judged_fine_at}
 use Rattle.columnar_sums.specs.CountLaws.{ones_le}
 use Rattle.columnar_sums.specs.OptionLaws.{ranks_bytes}
 use Rattle.columnar_sums.specs.RankColumns.{ranks_format, ranks_bits}

@@ -4,7 +4,7 @@ use Rattle.columnar_sums.specs.CountLaws.{inside}
 use Rattle.columnar_sums.specs.RankColumns.{bits_ranked}
 use Rattle.columnar_sums.specs.RankLaws.{ranks_parts}
 use Rattle.columnar_sums.specs.Unary.{upto}
-use Rattle.columnar_sums.specs.UnaryChanges.{unaries_ranked, cut_place}
+use Rattle.columnar_sums.specs.UnaryChangeLaws.{unaries_ranked, cut_place}
 use Rattle.columnar_sums.proofs.unaries.Unaries.cut_end.Goals as goal
 
 pub overflow_add-result : goal.overflow_add-result

@@ -1,6 +1,6 @@
 use Rattle.std.proofs.Common.{sym, ◌∙◌, ap, List, ℕ}
 use Rattle.columnar_sums.specs.Unary.{ends_left}
-use Rattle.columnar_sums.specs.UnaryChanges.{ends_are}
+use Rattle.columnar_sums.specs.UnaryChangeLaws.{ends_are}
 use Rattle.columnar_sums.proofs.unaries.Unaries.ends_tallied.Goals as goal
 
 pub returns-clause-stands : goal.returns-clause-stands

@@ -1,7 +1,7 @@
 use Rattle.std.proofs.Common.{◌≡◌, ◌≤◌, ◌<◌, length, arith}
 use Rattle.columnar_sums.specs.Counting.{ones}
 use Rattle.columnar_sums.specs.RankColumns.{bits_ranked}
-use Rattle.columnar_sums.specs.UnaryChanges.{content_length}
+use Rattle.columnar_sums.specs.UnaryChangeLaws.{content_length}
 use Rattle.columnar_sums.specs.UnaryColumns.{unaries_content}
 use Rattle.columnar_sums.proofs.unaries.Unaries.place_of.Goals as goal
 

@@ -1,5 +1,5 @@
 use Rattle.std.proofs.Common.{arith}
-use Rattle.columnar_sums.specs.UnaryChanges.{unaries_row, unaries_word}
+use Rattle.columnar_sums.specs.UnaryChangeLaws.{unaries_row, unaries_word}
 use Rattle.columnar_sums.proofs.unaries.UnariesIndex.get.Goals as goal
 
 pub overflow_sub-result : goal.overflow_sub-result

@@ -3,7 +3,7 @@ use Rattle.std.proofs.lemmas.List.{length-map}
 use Rattle.columnar_core.specs.Row.{truth}
 use Rattle.columnar_sums.specs.Counting.{ones}
 use Rattle.columnar_sums.specs.RankColumns.{bits_ranked}
-use Rattle.columnar_sums.specs.UnaryChanges.{content_length}
+use Rattle.columnar_sums.specs.UnaryChangeLaws.{content_length}
 use Rattle.columnar_sums.specs.UnaryColumns.{unaries_content}
 use Rattle.columnar_sums.proofs.unaries.UnariesLen.len.Goals as goal
 

@@ -1,5 +1,5 @@
 use Rattle.std.proofs.Common.{◌+◌, ◌<◌, ◌≤◌, ◌^◌, arith}
-use Rattle.columnar_sums.specs.UnaryChanges.{place_after, place_fits, row_after, none_after}
+use Rattle.columnar_sums.specs.UnaryChangeLaws.{place_after, place_fits, row_after, none_after}
 use Rattle.columnar_sums.proofs.unaries.UnariesOffsets.offset_after.Goals as goal
 
 pub overflow_add-before : goal.overflow_add-before

@@ -1,5 +1,5 @@
 use Rattle.std.proofs.Common.{sym, ◌∙◌}
-use Rattle.columnar_sums.specs.UnaryChanges.{content_rises}
+use Rattle.columnar_sums.specs.UnaryChangeLaws.{content_rises}
 use Rattle.columnar_sums.specs.UnaryColumns.{unaries_content}
 use Rattle.columnar_sums.proofs.unaries.UnariesOffsets.rises_to_tallied.Goals as goal
 

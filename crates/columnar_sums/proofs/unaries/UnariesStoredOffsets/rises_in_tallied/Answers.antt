@@ -1,7 +1,7 @@
 use Rattle.std.proofs.Common.{sym, ◌∙◌, drop}
 use Rattle.columnar_core.specs.Store.{slices_in}
 use Rattle.columnar_sums.specs.RankColumns.{ranks_format}
-use Rattle.columnar_sums.specs.UnaryChanges.{content_rises, bits_fit}
+use Rattle.columnar_sums.specs.UnaryChangeLaws.{content_rises, bits_fit}
 use Rattle.columnar_sums.proofs.unaries.UnariesStoredOffsets.rises_in_tallied.Goals as goal
 
 pub ends_in-requires : goal.ends_in-requires

@@ -2,7 +2,7 @@ use Rattle.std.proofs.Common.{◌≡◌, ◌<◌, ◌-◌, ◌∙◌, ap, sym, t
 use Rattle.std.proofs.lemmas.List.{length-map}
 use Rattle.columnar_core.specs.Row.{truth}
 use Rattle.columnar_sums.specs.RankColumns.{bits_ranked}
-use Rattle.columnar_sums.specs.UnaryBits.{last_read}
+use Rattle.columnar_sums.specs.UnaryBitLaws.{last_read}
 use Rattle.columnar_sums.proofs.unaries.bytes.is_ended.Goals as goal
 
 pub returns-else-len-eq0 : goal.returns-else-len-eq0

@@ -1,7 +1,7 @@
 use Rattle.std.proofs.Common.{◌≡◌, ◌+◌, ◌-◌, ◌<◌, ◌^◌, ◌∙◌, ◌∷◌, [], ap, sym, length, take, append-nil, arith}
 use Rattle.std.proofs.lemmas.List.{take_all, length_push, take-append-le}
 use Rattle.columnar_core.specs.WordViews.{words_in, le_bytes}
-use Rattle.columnar_sums.specs.UnaryBits.{counted_more}
+use Rattle.columnar_sums.specs.UnaryBitLaws.{counted_more}
 use Rattle.columnar_sums.proofs.unaries.grow.count_run.Goals as goal
 
 pub loop-at-init : goal.loop-at-init

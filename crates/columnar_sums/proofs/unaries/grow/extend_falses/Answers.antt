@@ -6,9 +6,9 @@ use Rattle.columnar_bits.specs.BoolColumns.{bits_in}
 use Rattle.columnar_bits.specs.BoolLaws.{bools_lawful, bools_parts, bools_sound, bools_grew, length_words_back}
 use Rattle.columnar_sums.specs.Counting.{ones}
 use Rattle.columnar_sums.specs.RankLaws.{ranks_parts, ranks_sound}
-use Rattle.columnar_sums.specs.RankChanges.{ranks_stayed, counts_many, length-truths_rows}
-use Rattle.columnar_sums.specs.UnaryBits.{repeated_same}
-use Rattle.columnar_sums.specs.UnaryChanges.{falses_ranked}
+use Rattle.columnar_sums.specs.RankChangeLaws.{ranks_stayed, counts_many, length-truths_rows}
+use Rattle.columnar_sums.specs.UnaryBitLaws.{repeated_same}
+use Rattle.columnar_sums.specs.UnaryChangeLaws.{falses_ranked}
 use Rattle.columnar_sums.specs.UnaryColumns.{repeated}
 use Rattle.columnar_sums.proofs.unaries.grow.extend_falses.Goals as goal
 

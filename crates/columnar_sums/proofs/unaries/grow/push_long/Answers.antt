@@ -2,9 +2,9 @@ use Rattle.std.proofs.Common.{map}
 use Rattle.columnar_core.specs.Row.{truth}
 use Rattle.columnar_sums.specs.RankColumns.{owned_ranks}
 use Rattle.columnar_sums.specs.RankLaws.{ranks_parts}
-use Rattle.columnar_sums.specs.RankChanges.{ranks_grew}
+use Rattle.columnar_sums.specs.RankChangeLaws.{ranks_grew}
 use Rattle.columnar_sums.specs.Unary.{zeros}
-use Rattle.columnar_sums.specs.UnaryChanges.{run_undone}
+use Rattle.columnar_sums.specs.UnaryChangeLaws.{run_undone}
 use Rattle.columnar_sums.proofs.unaries.grow.push_long.Goals as goal
 use Rattle.columnar_sums.proofs.unaries.grow.push_long.Goals.{in-Ok, in-Err}
 

@@ -3,10 +3,10 @@ use Rattle.columnar_core.specs.WordViews.{le_bytes}
 use Rattle.columnar_bits.specs.BoolColumns.{bits_in}
 use Rattle.columnar_bits.specs.BoolLaws.{bools_parts}
 use Rattle.columnar_sums.specs.RankLaws.{ranks_parts, ranks_sound}
-use Rattle.columnar_sums.specs.RankChanges.{length-truths_rows}
+use Rattle.columnar_sums.specs.RankChangeLaws.{length-truths_rows}
 use Rattle.columnar_sums.specs.Unary.{zeros}
-use Rattle.columnar_sums.specs.UnaryBits.{length-zeros}
-use Rattle.columnar_sums.specs.UnaryChanges.{short_ranked}
+use Rattle.columnar_sums.specs.UnaryBitLaws.{length-zeros}
+use Rattle.columnar_sums.specs.UnaryChangeLaws.{short_ranked}
 use Rattle.columnar_sums.proofs.unaries.grow.push_run.Goals as goal
 
 pub returns-then-len-count-lt1023-clause-sound : goal.returns-then-len-count-lt1023-clause-sound

@@ -1,6 +1,6 @@
 use Rattle.std.proofs.Common.{◌+◌, ◌<◌, ◌≤◌, ◌∙◌, ◌++◌, ap, List, Bool, arith}
 use Rattle.columnar_bits.specs.BoolColumns.{owned_bits}
-use Rattle.columnar_sums.specs.UnaryBits.{truths_run, run_below}
+use Rattle.columnar_sums.specs.UnaryBitLaws.{truths_run, run_below}
 use Rattle.columnar_sums.proofs.unaries.grow.push_short.Goals as goal
 
 pub push_bits-requires-clause-below : goal.push_bits-requires-clause-below

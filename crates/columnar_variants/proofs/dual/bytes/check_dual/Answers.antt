@@ -3,7 +3,7 @@ use Rattle.columnar_core.specs.Faults.{fault_of}
 use Rattle.columnar_core.specs.Format.{both}
 use Rattle.columnar_sums.specs.Discriminants.{forms_content}
 use Rattle.columnar_variants.specs.Duals.{dual_bank}
-use Rattle.columnar_variants.specs.VariantBytes.{variants_sides, beside_fault}
+use Rattle.columnar_variants.specs.VariantByteLaws.{variants_sides, beside_fault}
 use Rattle.columnar_variants.specs.DualLaws.{firsts_representable, seconds_representable}
 use Rattle.columnar_variants.proofs.dual.bytes.check_dual.Goals as goal
 

@@ -6,7 +6,7 @@ use Rattle.columnar_sums.specs.Discriminants.{forms_content, variants_of, times}
 use Rattle.columnar_core.specs.WordViews.{view_bytes}
 use Rattle.columnar_variants.specs.Variants.{leaf}
 use Rattle.columnar_variants.specs.Duals.{dual_bank, slice_bytes}
-use Rattle.columnar_variants.specs.VariantBytes.{variants_sides_at, variants_forms_at, variants_own_at, beside_fault_at, beside_fine_at, join_told_at, leaf_told}
+use Rattle.columnar_variants.specs.VariantByteLaws.{variants_sides_at, variants_forms_at, variants_own_at, beside_fault_at, beside_fine_at, join_told_at, leaf_told}
 use Rattle.columnar_variants.specs.DualLaws.{firsts_representable, seconds_representable}
 use Rattle.columnar_variants.proofs.dual.bytes.judge_dual.Goals as goal
 

@@ -1,9 +1,8 @@
 use Rattle.std.proofs.Common.{◌≡◌, ◌+◌, refl, ap, arith}
 use Rattle.columnar_core.specs.Store.{slices_in}
 use Rattle.columnar_variants.specs.Duals.{dual_bank}
-use Rattle.columnar_variants.specs.DualLaws.{firsts_fit, seconds_fit}
-use Rattle.columnar_variants.specs.VariantBytes.{forms_fit, variants_content, beside_content}
-use Rattle.columnar_variants.specs.DualLaws.{firsts_representable, seconds_representable}
+use Rattle.columnar_variants.specs.DualLaws.{firsts_fit, seconds_fit, firsts_representable, seconds_representable}
+use Rattle.columnar_variants.specs.VariantByteLaws.{forms_fit, variants_content, beside_content}
 use Rattle.columnar_variants.proofs.dual.bytes.load_dual.Goals as goal
 
 pub load_two-requires-clause-left : goal.load_two-requires-clause-left

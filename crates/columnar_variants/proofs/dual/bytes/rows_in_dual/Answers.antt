@@ -1,7 +1,7 @@
 use Rattle.std.proofs.Common.{◌≡◌, ◌∙◌, ◌+◌, ap, arith}
 use Rattle.columnar_core.specs.Store.{slices_in}
 use Rattle.columnar_variants.specs.Duals.{dual_bank}
-use Rattle.columnar_variants.specs.VariantBytes.{forms_fit, variants_rows_at}
+use Rattle.columnar_variants.specs.VariantByteLaws.{forms_fit, variants_rows_at}
 use Rattle.columnar_variants.specs.DualLaws.{firsts_representable, seconds_representable}
 use Rattle.columnar_variants.proofs.dual.bytes.rows_in_dual.Goals as goal
 

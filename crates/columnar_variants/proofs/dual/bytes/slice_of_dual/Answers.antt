@@ -1,5 +1,5 @@
 use Rattle.std.proofs.Common.{◌-◌, ◌+◌, ◌++◌, ◌∷◌, [], refl, arith, length-append}
-use Rattle.columnar_base.specs.TwoParts.{two_counted, flat_left, flat_right, align_left, align_right}
+use Rattle.columnar_base.specs.TwoPartsLaws.{two_counted, flat_left, flat_right, align_left, align_right}
 use Rattle.columnar_core.specs.Format.{slices_of}
 use Rattle.columnar_core.specs.Slices.{bytes_in}
 use Rattle.columnar_core.specs.WordViews.{view_bytes}

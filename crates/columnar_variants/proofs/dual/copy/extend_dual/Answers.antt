@@ -5,9 +5,9 @@ use Rattle.columnar_sums.specs.Discriminants.{forms_content, owned_forms, varian
 use Rattle.columnar_variants.specs.Duals.{dual_bank}
 use Rattle.columnar_variants.specs.DualLaws.{dual_law, firsts_sound, seconds_sound, forms_sound}
 use Rattle.columnar_variants.specs.VariantLaws.{variants_count, variants_number, variants_parts}
-use Rattle.columnar_variants.specs.VariantCopies.{has_range}
-use Rattle.columnar_variants.specs.DualCopies.{same_range, copied_as, refused_as, dual_copied, dual_refused_firsts, dual_refused_seconds, dual_refused_forms, two_at}
-use Rattle.columnar_variants.specs.VariantLists.{times_range, range_length}
+use Rattle.columnar_variants.specs.VariantCopyLaws.{has_range}
+use Rattle.columnar_variants.specs.DualCopyLaws.{same_range, copied_as, refused_as, dual_copied, dual_refused_firsts, dual_refused_seconds, dual_refused_forms, two_at}
+use Rattle.columnar_variants.specs.VariantListLaws.{times_range, range_length}
 use Rattle.columnar_variants.proofs.dual.copy.extend_dual.Goals as goal
 
 pub len-firsts_before-requires : goal.len-firsts_before-requires

@@ -1,6 +1,6 @@
 use Rattle.columnar_base.specs.ChangeLaws.{passed_on}
 use Rattle.columnar_variants.specs.DualLaws.{firsts_sound, seconds_sound}
-use Rattle.columnar_variants.specs.DualEarlier.{dual_made, dual_not_firsts, dual_not_seconds}
+use Rattle.columnar_variants.specs.DualEarlierLaws.{dual_made, dual_not_firsts, dual_not_seconds}
 use Rattle.columnar_variants.proofs.dual.earlier.from_old_dual.Goals as goal
 
 pub from_old-requires : goal.from_old-requires

@@ -1,4 +1,4 @@
-use Rattle.columnar_bytes.specs.FramedContent.{byte_fits}
+use Rattle.columnar_bytes.specs.FramedContentLaws.{byte_fits}
 use Rattle.columnar_core.specs.Store.{slices_in}
 use Rattle.columnar_bytes.proofs.stash.framed.FramedStored.rows_in.Goals as goal
 

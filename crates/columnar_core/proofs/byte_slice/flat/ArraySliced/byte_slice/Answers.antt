@@ -1,6 +1,6 @@
 use Rattle.std.proofs.Common.{◌∙◌, ap}
 use Rattle.std.specs.List.{flat_map}
-use Rattle.columnar_core.specs.ArraySlices.{has_items, arrays_flat}
+use Rattle.columnar_core.specs.ArraySliceLaws.{has_items, arrays_flat}
 use Rattle.columnar_core.proofs.byte_slice.flat.ArraySliced.byte_slice.Goals as goal
 
 pub returns-clause-bytes : goal.returns-clause-bytes

@@ -6,7 +6,7 @@ use Rattle.columnar_base.specs.Format.{both, bytes_held}
 use Rattle.columnar_sums.specs.RankColumns.{ranks_bits, ranks_content}
 use Rattle.columnar_sums.specs.Results.{results_format}
 use Rattle.columnar_sums.specs.ResultLaws.{results_parts, results_spread}
-use Rattle.columnar_lookback.specs.LookbackBytes.{lookbacks_fine, lookbacks_fault, lookbacks_own, lookbacks_turns, rows_of_bytes}
+use Rattle.columnar_lookback.specs.LookbackByteLaws.{lookbacks_fine, lookbacks_fault, lookbacks_own, lookbacks_turns, rows_of_bytes}
 use Rattle.columnar_lookback.proofs.lookbacks.bytes.LookbacksCheck.check_from_tallied.Goals as goal
 
 pub all_reach-requires-clause-bits : goal.all_reach-requires-clause-bits

@@ -5,7 +5,7 @@ use Rattle.columnar_base.specs.Format.{bytes_held}
 use Rattle.columnar_core.specs.Store.{slices_in}
 use Rattle.columnar_sums.specs.RankColumns.{ranks_bits, ranks_format}
 use Rattle.columnar_sums.specs.ResultLaws.{results_parts, results_spread, oks_representable, errs_representable, errs_fit}
-use Rattle.columnar_lookback.specs.LookbackBytes.{lookbacks_fine, lookbacks_fault, lookbacks_own, lookbacks_turns, rows_of_bytes, results_judged, distances_at, held_at, level_at, reached_at, turns_at}
+use Rattle.columnar_lookback.specs.LookbackByteLaws.{lookbacks_fine, lookbacks_fault, lookbacks_own, lookbacks_turns, rows_of_bytes, results_judged, distances_at, held_at, level_at, reached_at, turns_at}
 use Rattle.columnar_lookback.proofs.lookbacks.bytes.LookbacksStored.judge_tallied.Goals as goal
 
 pub slice_count-requires : goal.slice_count-requires

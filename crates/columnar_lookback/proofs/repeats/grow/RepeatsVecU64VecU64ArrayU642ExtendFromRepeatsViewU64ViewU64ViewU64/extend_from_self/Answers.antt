@@ -3,14 +3,13 @@ use Rattle.std.proofs.lemmas.Result.{on_ok_weaker, IfErr-weaker}
 use Rattle.columnar_base.specs.Format.{both}
 use Rattle.columnar_base.specs.ChangeLaws.{passed_on}
 use Rattle.columnar_base.specs.WordViews.{view_bytes}
-use Rattle.columnar_sums.specs.Options.{weave}
+use Rattle.columnar_sums.specs.Options.{weave, options_format}
 use Rattle.columnar_sums.specs.RankColumns.{ranks_bits, ranks_content, owned_ranks}
 use Rattle.columnar_lookback.specs.Recall.{recall}
 use Rattle.columnar_lookback.specs.RecallLaws.{length-recall}
-use Rattle.columnar_sums.specs.Options.{options_format}
 use Rattle.columnar_lookback.specs.Repeats.{repeats_code, viewed_repeats}
 use Rattle.columnar_lookback.specs.RepeatLaws.{repeats_options}
-use Rattle.columnar_lookback.specs.RepeatChanges.{values_stored, values_copied, copied_nothing, repeats_copied_front, repeats_copied_rest, repeats_refused_range, repeats_refused_first, repeats_refused_rest, repeats_taken_back, repeats_nothing, repeats_something}
+use Rattle.columnar_lookback.specs.RepeatChangeLaws.{values_stored, values_copied, copied_nothing, repeats_copied_front, repeats_copied_rest, repeats_refused_range, repeats_refused_first, repeats_refused_rest, repeats_taken_back, repeats_nothing, repeats_something}
 use Rattle.columnar_lookback.proofs.repeats.grow.RepeatsVecU64VecU64ArrayU642ExtendFromRepeatsViewU64ViewU64ViewU64.extend_from_self.Goals as goal
 use Rattle.columnar_lookback.proofs.repeats.grow.RepeatsVecU64VecU64ArrayU642ExtendFromRepeatsViewU64ViewU64ViewU64.extend_from_self.Goals.{else-before-eq0-via-then-before-eq0+else-start-eq0, else-before-eq0-via-else-before-eq0}
 

@@ -2,7 +2,7 @@ use Rattle.std.proofs.Common.{sym, ◌∙◌}
 use Rattle.std.proofs.lemmas.Result.{on_ok_weaker, IfErr-weaker}
 use Rattle.columnar_base.specs.Row.{none, some}
 use Rattle.columnar_lookback.specs.RepeatLaws.{repeats_options}
-use Rattle.columnar_lookback.specs.RepeatChanges.{values_pushed, repeats_took_none, repeats_took_value, repeats_refused_none, repeats_refused_value}
+use Rattle.columnar_lookback.specs.RepeatChangeLaws.{values_pushed, repeats_took_none, repeats_took_value, repeats_refused_none, repeats_refused_value}
 use Rattle.columnar_lookback.proofs.repeats.grow.RepeatsVecU64VecU64ArrayU642Push.push.Goals as goal
 
 pub returns-then-is_repeated-clause-ok : goal.returns-then-is_repeated-clause-ok

@@ -1,10 +1,10 @@
 use Rattle.std.proofs.Common.{sym, ◌∙◌}
 use Rattle.std.proofs.lemmas.Result.{on_ok_weaker, IfErr-weaker}
 use Rattle.columnar_base.specs.Row.{none, some}
-use Rattle.columnar_sums.specs.Marked.{on_ok_both}
+use Rattle.columnar_sums.specs.MarkedLaws.{on_ok_both}
 use Rattle.columnar_sums.specs.OptionLaws.{options_took_some, options_took_none, options_refused_some, options_refused_false}
 use Rattle.columnar_lookback.specs.RepeatLaws.{repeats_options, repeats_values}
-use Rattle.columnar_lookback.specs.RepeatChanges.{values_pushed, repeats_took_none, repeats_took_value, repeats_refused_none, repeats_refused_value}
+use Rattle.columnar_lookback.specs.RepeatChangeLaws.{values_pushed, repeats_took_none, repeats_took_value, repeats_refused_none, repeats_refused_value}
 use Rattle.columnar_lookback.proofs.repeats.grow.RepeatsVecU64VecU64ArrayU642PushRef.push_ref.Goals as goal
 
 pub push_ref_marked-requires-clause-values : goal.push_ref_marked-requires-clause-values

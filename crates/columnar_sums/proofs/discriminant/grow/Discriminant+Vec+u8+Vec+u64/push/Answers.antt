@@ -4,7 +4,7 @@ use Rattle.columnar_core.specs.WordViewLaws.{length-le_bytes}
 use Rattle.columnar_sums.specs.Discriminants.{owned_forms, variants_of}
 use Rattle.columnar_sums.specs.DiscriminantLaws.{length-variant_rows}
 use Rattle.columnar_sums.specs.FormLaws.{holds_first, holds_more, holds_same, holds_other, took_held, sole_of_two, two_words_of}
-use Rattle.columnar_sums.specs.Marked.{on_ok_both}
+use Rattle.columnar_sums.specs.MarkedLaws.{on_ok_both}
 use Rattle.columnar_sums.proofs.discriminant.grow.Discriminant+Vec+u8+Vec+u64.push.Goals as goal
 
 pub returns-then-rows-clause-no_memory : goal.returns-then-rows-clause-no_memory

@@ -2,7 +2,7 @@ use Rattle.std.proofs.Common.{sym, ◌∙◌}
 use Rattle.std.proofs.lemmas.Bool.{eq-eqb, ne_eqb}
 use Rattle.columnar_core.specs.Faults.{fault_of}
 use Rattle.columnar_core.specs.Format.{bytes_held}
-use Rattle.columnar_core.specs.TwoParts.{representable_right, judged_part, judged_fine, judged_own}
+use Rattle.columnar_core.specs.TwoPartsLaws.{representable_right, judged_part, judged_fine, judged_own}
 use Rattle.columnar_sums.specs.OptionLaws.{options_two, options_turns, ranks_bytes}
 use Rattle.columnar_sums.specs.RankColumns.{ranks_content}
 use Rattle.columnar_base.specs.ChangeLaws.{passed_on}

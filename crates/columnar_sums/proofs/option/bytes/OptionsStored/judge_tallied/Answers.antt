@@ -3,7 +3,7 @@ use Rattle.std.proofs.lemmas.Bool.{eq-eqb, ne_eqb}
 use Rattle.columnar_core.specs.Faults.{fault_of}
 use Rattle.columnar_core.specs.Format.{bytes_held}
 use Rattle.columnar_core.specs.Store.{slices_in}
-use Rattle.columnar_core.specs.TwoParts.{representable_right, two_turns, judged_part_at, judged_fine_at, judged_own_at}
+use Rattle.columnar_core.specs.TwoPartsLaws.{representable_right, two_turns, judged_part_at, judged_fine_at, judged_own_at}
 use Rattle.columnar_sums.specs.OptionLaws.{options_two, options_turns, options_held, ranks_bytes}
 use Rattle.columnar_sums.specs.RankColumns.{ranks_format}
 use Rattle.columnar_base.specs.ChangeLaws.{passed_on}

@@ -1,4 +1,4 @@
-use Rattle.columnar_core.specs.TwoParts.{representable_right}
+use Rattle.columnar_core.specs.TwoPartsLaws.{representable_right}
 use Rattle.columnar_sums.specs.OptionLaws.{options_two}
 use Rattle.columnar_sums.proofs.option.bytes.OptionsVecU64VecU64ArrayU642ContainerBytes.byte_slice.Goals as goal
 

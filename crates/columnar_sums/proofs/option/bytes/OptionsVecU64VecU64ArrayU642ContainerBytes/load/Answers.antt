@@ -1,6 +1,6 @@
 use Rattle.std.proofs.Common.{◌+◌, refl}
 use Rattle.columnar_core.specs.Store.{slices_in}
-use Rattle.columnar_core.specs.TwoParts.{representable_right, two_fits_left, two_fits_right}
+use Rattle.columnar_core.specs.TwoPartsLaws.{representable_right, two_fits_left, two_fits_right}
 use Rattle.columnar_sums.specs.OptionLaws.{options_two, options_at}
 use Rattle.columnar_sums.proofs.option.bytes.OptionsVecU64VecU64ArrayU642ContainerBytes.load.Goals as goal
 

@@ -1,5 +1,5 @@
 use Rattle.std.proofs.lemmas.Result.{on_ok_weaker, IfErr-weaker}
-use Rattle.columnar_sums.specs.Marked.{on_ok_both}
+use Rattle.columnar_sums.specs.MarkedLaws.{on_ok_both}
 use Rattle.columnar_sums.specs.OptionLaws.{options_parts, options_took_some, options_took_none, options_refused_some, options_refused_false}
 use Rattle.columnar_sums.proofs.option.grow.OptionsVecU64VecU64ArrayU642PushOption.push.Goals as goal
 

@@ -1,7 +1,7 @@
 use Rattle.std.proofs.Common.{◌∙◌, ap}
 use Rattle.columnar_core.specs.Store.{slices_in}
 use Rattle.columnar_core.specs.WordViews.{bytes_of}
-use Rattle.columnar_sums.specs.RankBytes.{ranks_bools_at, ranks_rows_at}
+use Rattle.columnar_sums.specs.RankByteLaws.{ranks_bools_at, ranks_rows_at}
 use Rattle.columnar_sums.proofs.rank_select.bytes.RankSelectStored.rows_in.Goals as goal
 
 pub count_bits-requires : goal.count_bits-requires

@@ -1,6 +1,6 @@
 use Rattle.columnar_core.specs.Store.{slices_in}
-use Rattle.columnar_core.specs.TwoParts.{two_fits_left, two_fits_right}
-use Rattle.columnar_sums.specs.RankBytes.{ranks_held_at}
+use Rattle.columnar_core.specs.TwoPartsLaws.{two_fits_left, two_fits_right}
+use Rattle.columnar_sums.specs.RankByteLaws.{ranks_held_at}
 use Rattle.columnar_sums.specs.RankLaws.{ranks_two}
 use Rattle.columnar_sums.proofs.rank_select.bytes.RankSelectVecU64VecU64ArrayU642ContainerBytes.load.Goals as goal
 

@@ -4,7 +4,7 @@ use Rattle.columnar_core.specs.WordViews.{le_bytes, words_in}
 use Rattle.columnar_bits.specs.BoolColumns.{bits_in}
 use Rattle.columnar_bits.specs.BoolLaws.{bools_lawful, bools_parts, bools_sound, bools_grew, bits_length, two_words, length_added}
 use Rattle.columnar_sums.specs.RankLaws.{ranks_parts, ranks_sound}
-use Rattle.columnar_sums.specs.RankChanges.{ranks_stayed, ranked_on, counts_so_far, counts_within, counts_many, words_short, turns_fit}
+use Rattle.columnar_sums.specs.RankChangeLaws.{ranks_stayed, ranked_on, counts_so_far, counts_within, counts_many, words_short, turns_fit}
 use Rattle.columnar_sums.proofs.rank_select.grow.Held.extend_ranked_tallied.Goals as goal
 
 pub returns-in_err-extend_bits_from_tallied-clause-err : goal.returns-in_err-extend_bits_from_tallied-clause-err

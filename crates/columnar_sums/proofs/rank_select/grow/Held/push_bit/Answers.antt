@@ -3,7 +3,7 @@ use Rattle.columnar_core.specs.WordViews.{le_bytes}
 use Rattle.columnar_bits.specs.BoolColumns.{bits_in, last_count}
 use Rattle.columnar_bits.specs.BoolLaws.{bools_parts, bits_length, two_words}
 use Rattle.columnar_sums.specs.RankLaws.{ranks_parts, ranks_sound}
-use Rattle.columnar_sums.specs.RankChanges.{ranked_plain}
+use Rattle.columnar_sums.specs.RankChangeLaws.{ranked_plain}
 use Rattle.columnar_sums.proofs.rank_select.grow.Held.push_bit.Goals as goal
 
 pub word_at-requires : goal.word_at-requires

@@ -6,7 +6,7 @@ use Rattle.columnar_bits.specs.BoolColumns.{bits_in}
 use Rattle.columnar_bits.specs.BoolLaws.{bools_parts, words_grown}
 use Rattle.columnar_sums.specs.CountLaws.{ones_le}
 use Rattle.columnar_sums.specs.RankLaws.{ranks_parts, ranks_sound}
-use Rattle.columnar_sums.specs.RankChanges.{ranked_count, ranks_same, items_back, counts_many, length-truths_rows}
+use Rattle.columnar_sums.specs.RankChangeLaws.{ranked_count, ranks_same, items_back, counts_many, length-truths_rows}
 use Rattle.columnar_sums.proofs.rank_select.grow.Held.push_counted.Goals as goal
 
 pub overflow_add-total : goal.overflow_add-total

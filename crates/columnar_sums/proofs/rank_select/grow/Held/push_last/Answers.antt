@@ -3,7 +3,7 @@ use Rattle.columnar_core.specs.WordViews.{le_bytes}
 use Rattle.columnar_bits.specs.BoolColumns.{bits_in}
 use Rattle.columnar_bits.specs.BoolLaws.{bools_parts}
 use Rattle.columnar_sums.specs.RankLaws.{ranks_parts, ranks_sound}
-use Rattle.columnar_sums.specs.RankChanges.{ranked_plain, length-truths_rows}
+use Rattle.columnar_sums.specs.RankChangeLaws.{ranked_plain, length-truths_rows}
 use Rattle.columnar_sums.proofs.rank_select.grow.Held.push_last.Goals as goal
 
 pub returns-then-len-lt1023-clause-sound : goal.returns-then-len-lt1023-clause-sound

@@ -1,4 +1,4 @@
-use Rattle.columnar_sums.specs.RankChanges.{none_ranked}
+use Rattle.columnar_sums.specs.RankChangeLaws.{none_ranked}
 use Rattle.columnar_sums.proofs.rank_select.grow.HeldClear.clear.Goals as goal
 
 pub returns-clause-sound : goal.returns-clause-sound

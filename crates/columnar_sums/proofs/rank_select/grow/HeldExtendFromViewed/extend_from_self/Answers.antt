@@ -3,7 +3,7 @@ use Rattle.columnar_core.specs.WordViews.{view_bytes}
 use Rattle.columnar_bits.specs.BoolColumns.{bits_in}
 use Rattle.columnar_bits.specs.BoolLaws.{rows_between}
 use Rattle.columnar_sums.specs.RankLaws.{ranks_parts}
-use Rattle.columnar_sums.specs.RankChanges.{ranks_copied}
+use Rattle.columnar_sums.specs.RankChangeLaws.{ranks_copied}
 use Rattle.columnar_sums.proofs.rank_select.grow.HeldExtendFromViewed.extend_from_self.Goals as goal
 
 pub returns-clause-ok : goal.returns-clause-ok

@@ -1,6 +1,6 @@
 use Rattle.std.proofs.lemmas.Result.{on_ok_weaker}
 use Rattle.columnar_sums.specs.RankLaws.{ranks_parts}
-use Rattle.columnar_sums.specs.RankChanges.{ranks_took, fills_word}
+use Rattle.columnar_sums.specs.RankChangeLaws.{ranks_took, fills_word}
 use Rattle.columnar_sums.proofs.rank_select.grow.HeldPushBool.push.Goals as goal
 
 pub returns-clause-ok : goal.returns-clause-ok

@@ -1,4 +1,4 @@
-use Rattle.columnar_sums.specs.RankChanges.{held_cut}
+use Rattle.columnar_sums.specs.RankChangeLaws.{held_cut}
 use Rattle.columnar_sums.proofs.rank_select.grow.HeldTruncate.truncate.Goals as goal
 
 pub returns : goal.returns

@@ -1,7 +1,7 @@
 use Rattle.std.proofs.Common.{◌-◌, ◌++◌, arith}
 use Rattle.columnar_core.specs.Format.{slices_of}
 use Rattle.columnar_core.specs.Slices.{bytes_in}
-use Rattle.columnar_core.specs.TwoParts.{flat_right}
+use Rattle.columnar_core.specs.TwoPartsLaws.{flat_right}
 use Rattle.columnar_sums.specs.RankColumns.{owned_ranks}
 use Rattle.columnar_sums.specs.ResultLaws.{oks_representable, errs_representable}
 use Rattle.columnar_sums.proofs.result.bytes.ResultsVecU64VecU64ArrayU642ContainerBytes.byte_slice.Goals as goal

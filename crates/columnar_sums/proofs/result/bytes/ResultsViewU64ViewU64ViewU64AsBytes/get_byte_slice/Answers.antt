@@ -1,7 +1,7 @@
 use Rattle.std.proofs.Common.{◌-◌, ◌++◌, refl, arith}
 use Rattle.columnar_core.specs.Format.{slices_of}
 use Rattle.columnar_core.specs.Slices.{bytes_in}
-use Rattle.columnar_core.specs.TwoParts.{flat_right}
+use Rattle.columnar_core.specs.TwoPartsLaws.{flat_right}
 use Rattle.columnar_core.specs.WordViews.{view_bytes}
 use Rattle.columnar_sums.specs.RankColumns.{ranks_content}
 use Rattle.columnar_sums.specs.ResultLaws.{oks_representable, errs_representable}

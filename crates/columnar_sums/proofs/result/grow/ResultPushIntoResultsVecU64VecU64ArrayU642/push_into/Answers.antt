@@ -1,5 +1,5 @@
 use Rattle.std.proofs.lemmas.Result.{IfErr-weaker}
-use Rattle.columnar_sums.specs.Marked.{on_ok_both}
+use Rattle.columnar_sums.specs.MarkedLaws.{on_ok_both}
 use Rattle.columnar_sums.specs.ResultLaws.{results_parts, results_took_ok, results_took_err, results_refused_ok, results_refused_err}
 use Rattle.columnar_sums.proofs.result.grow.ResultPushIntoResultsVecU64VecU64ArrayU642.push_into.Goals as goal
 

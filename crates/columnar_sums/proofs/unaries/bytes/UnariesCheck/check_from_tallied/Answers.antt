@@ -1,5 +1,5 @@
 use Rattle.std.proofs.Common.{sym, ◌∙◌}
-use Rattle.columnar_sums.specs.UnaryChanges.{judged_true, judged_false}
+use Rattle.columnar_sums.specs.UnaryChangeLaws.{judged_true, judged_false}
 use Rattle.columnar_sums.specs.UnaryColumns.{unaries_content}
 use Rattle.columnar_sums.proofs.unaries.bytes.UnariesCheck.check_from_tallied.Goals as goal
 

@@ -1,7 +1,7 @@
 use Rattle.std.proofs.Common.{sym, ◌∙◌, drop}
 use Rattle.columnar_core.specs.Store.{slices_in}
 use Rattle.columnar_sums.specs.RankColumns.{ranks_format}
-use Rattle.columnar_sums.specs.UnaryChanges.{judged_true, judged_false}
+use Rattle.columnar_sums.specs.UnaryChangeLaws.{judged_true, judged_false}
 use Rattle.columnar_sums.proofs.unaries.bytes.UnariesStored.judge_tallied.Goals as goal
 
 pub returns-then-ended_in-clause-exact : goal.returns-then-ended_in-clause-exact

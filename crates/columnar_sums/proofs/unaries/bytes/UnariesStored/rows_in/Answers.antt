@@ -1,7 +1,7 @@
 use Rattle.std.proofs.Common.{sym, ◌∙◌, drop}
 use Rattle.columnar_core.specs.Store.{slices_in}
 use Rattle.columnar_sums.specs.RankColumns.{ranks_format}
-use Rattle.columnar_sums.specs.UnaryChanges.{content_length, bits_fit}
+use Rattle.columnar_sums.specs.UnaryChangeLaws.{content_length, bits_fit}
 use Rattle.columnar_sums.proofs.unaries.bytes.UnariesStored.rows_in.Goals as goal
 
 pub trues_in-requires : goal.trues_in-requires

@@ -1,4 +1,4 @@
-use Rattle.columnar_sums.specs.UnaryBits.{ends_begin}
+use Rattle.columnar_sums.specs.UnaryBitLaws.{ends_begin}
 use Rattle.columnar_sums.proofs.unaries.ends.UnaryEnds.new.Goals as goal
 
 pub returns-clause-stands : goal.returns-clause-stands

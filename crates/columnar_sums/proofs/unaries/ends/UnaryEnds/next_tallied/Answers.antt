@@ -1,5 +1,5 @@
 use Rattle.std.proofs.Common.{◌≡◌, ◌-◌, ◌≤◌, arith}
-use Rattle.columnar_sums.specs.UnaryBits.{rank_next, ends_next, ends_done}
+use Rattle.columnar_sums.specs.UnaryBitLaws.{rank_next, ends_next, ends_done}
 use Rattle.columnar_sums.proofs.unaries.ends.UnaryEnds.next_tallied.Goals as goal
 use Rattle.columnar_sums.proofs.unaries.ends.UnaryEnds.next_tallied.Goals.{in-Some, in-None}
 

@@ -3,8 +3,8 @@ use Rattle.columnar_core.specs.WordViews.{le_bytes}
 use Rattle.columnar_bits.specs.BoolColumns.{bits_in}
 use Rattle.columnar_sums.specs.Counting.{ones}
 use Rattle.columnar_sums.specs.CountLaws.{ones_le}
-use Rattle.columnar_sums.specs.RankChanges.{length-truths_rows}
-use Rattle.columnar_sums.specs.UnaryChanges.{last_end, last_is_end}
+use Rattle.columnar_sums.specs.RankChangeLaws.{length-truths_rows}
+use Rattle.columnar_sums.specs.UnaryChangeLaws.{last_end, last_is_end}
 use Rattle.columnar_sums.proofs.unaries.grow.Owned.last_end.Goals as goal
 
 pub overflow_sub-result : goal.overflow_sub-result

@@ -6,7 +6,7 @@ use Rattle.columnar_core.specs.WordViews.{view_bytes}
 use Rattle.columnar_sums.specs.RankColumns.{ranks_format}
 use Rattle.columnar_sums.specs.RankLaws.{ranks_lawful}
 use Rattle.columnar_sums.specs.UnaryLaws.{unary_lawful}
-use Rattle.columnar_sums.specs.UnaryChanges.{copied_exactly}
+use Rattle.columnar_sums.specs.UnaryChangeLaws.{copied_exactly}
 use Rattle.columnar_sums.specs.UnaryColumns.{unaries_format, unaries_content, owned_unaries}
 use Rattle.columnar_sums.proofs.unaries.grow.OwnedExtendFromViewed.extend_from_self.Goals as goal
 

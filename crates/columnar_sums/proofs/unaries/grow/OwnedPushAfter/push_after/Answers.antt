@@ -3,8 +3,8 @@ use Rattle.std.proofs.lemmas.Result.{on_ok_weaker}
 use Rattle.columnar_core.specs.WordViews.{le_bytes}
 use Rattle.columnar_bits.specs.BoolColumns.{bits_in}
 use Rattle.columnar_sums.specs.RankLaws.{ranks_parts}
-use Rattle.columnar_sums.specs.RankChanges.{length-truths_rows}
-use Rattle.columnar_sums.specs.UnaryChanges.{last_end, last_is_end, run_took, run_misplaced, run_too_long}
+use Rattle.columnar_sums.specs.RankChangeLaws.{length-truths_rows}
+use Rattle.columnar_sums.specs.UnaryChangeLaws.{last_end, last_is_end, run_took, run_misplaced, run_too_long}
 use Rattle.columnar_sums.proofs.unaries.grow.OwnedPushAfter.push_after.Goals as goal
 
 pub returns-then-offset-last-clause-err : goal.returns-then-offset-last-clause-err

@@ -1,5 +1,5 @@
 use Rattle.columnar_core.specs.WordViews.{le_bytes}
-use Rattle.columnar_sums.specs.UnaryChanges.{unaries_cut, cut_within}
+use Rattle.columnar_sums.specs.UnaryChangeLaws.{unaries_cut, cut_within}
 use Rattle.columnar_sums.proofs.unaries.grow.OwnedTruncate.truncate.Goals as goal
 
 pub truncate-requires-clause-in_range : goal.truncate-requires-clause-in_range

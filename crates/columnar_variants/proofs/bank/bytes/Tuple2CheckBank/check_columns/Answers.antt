@@ -1,5 +1,5 @@
 use Rattle.columnar_base.specs.Faults.{verdict}
-use Rattle.columnar_base.specs.TwoParts.{representable_left, representable_right}
+use Rattle.columnar_base.specs.TwoPartsLaws.{representable_left, representable_right}
 use Rattle.columnar_core.specs.SidesLaws.{checked_others}
 use Rattle.columnar_variants.specs.BankBytes.{beside_parts_two}
 use Rattle.columnar_variants.proofs.bank.bytes.Tuple2CheckBank.check_columns.Goals as goal

@@ -1,5 +1,5 @@
 use Rattle.columnar_base.specs.ChangeLaws.{passed_on}
-use Rattle.columnar_variants.specs.BankEarlier.{leaf_made, leaf_not}
+use Rattle.columnar_variants.specs.BankEarlierLaws.{leaf_made, leaf_not}
 use Rattle.columnar_variants.proofs.bank.earlier.Tuple1EarlierBank.columns_of_old.Goals as goal
 
 pub returns-clause-ok : goal.returns-clause-ok

@@ -1,6 +1,6 @@
 use Rattle.columnar_base.specs.ChangeLaws.{passed_on}
 use Rattle.columnar_variants.specs.VariantLaws.{beside_parts}
-use Rattle.columnar_variants.specs.BankEarlier.{join_made, first_not, later_not}
+use Rattle.columnar_variants.specs.BankEarlierLaws.{join_made, first_not, later_not}
 use Rattle.columnar_variants.proofs.bank.earlier.Tuple2EarlierBank.columns_of_old.Goals as goal
 
 pub from_old-requires : goal.from_old-requires

@@ -1,5 +1,5 @@
 use Rattle.columnar_variants.specs.VariantLaws.{beside_parts, first_stayed}
-use Rattle.columnar_variants.specs.VariantCopies.{join_stayed}
+use Rattle.columnar_variants.specs.VariantCopyLaws.{join_stayed}
 use Rattle.columnar_variants.proofs.bank.grow.Tuple2ReserveBank.reserve_columns.Goals as goal
 
 pub reserve_room-requires : goal.reserve_room-requires

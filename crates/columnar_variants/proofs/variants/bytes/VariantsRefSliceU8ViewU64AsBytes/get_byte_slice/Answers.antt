@@ -1,11 +1,11 @@
 use Rattle.std.proofs.Common.{◌-◌, ◌∷◌, [], refl, arith}
-use Rattle.columnar_base.specs.TwoParts.{flat_left, flat_right, align_left, align_right}
+use Rattle.columnar_base.specs.TwoPartsLaws.{flat_left, flat_right, align_left, align_right}
 use Rattle.columnar_base.specs.Format.{slices_of}
 use Rattle.columnar_core.specs.Slices.{bytes_in}
 use Rattle.columnar_core.specs.WordViews.{view_bytes}
 use Rattle.columnar_sums.specs.Discriminants.{forms_content}
 use Rattle.columnar_variants.specs.Duals.{slice_bytes}
-use Rattle.columnar_variants.specs.VariantBytes.{sides_representable}
+use Rattle.columnar_variants.specs.VariantByteLaws.{sides_representable}
 use Rattle.columnar_variants.proofs.variants.bytes.VariantsRefSliceU8ViewU64AsBytes.get_byte_slice.Goals as goal
 
 pub count_slices-count-requires : goal.count_slices-count-requires

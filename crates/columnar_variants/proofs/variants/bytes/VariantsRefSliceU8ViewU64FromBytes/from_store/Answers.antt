@@ -1,6 +1,6 @@
 use Rattle.std.proofs.Common.{refl, arith}
 use Rattle.columnar_core.specs.Store.{slices_in}
-use Rattle.columnar_variants.specs.VariantBytes.{sides_representable, variants_content}
+use Rattle.columnar_variants.specs.VariantByteLaws.{sides_representable, variants_content}
 use Rattle.columnar_variants.proofs.variants.bytes.VariantsRefSliceU8ViewU64FromBytes.from_store.Goals as goal
 
 pub columns_from-columns-requires : goal.columns_from-columns-requires

@@ -1,4 +1,4 @@
-use Rattle.columnar_variants.specs.VariantBytes.{sides_representable}
+use Rattle.columnar_variants.specs.VariantByteLaws.{sides_representable}
 use Rattle.columnar_variants.proofs.variants.bytes.VariantsStored.element_sizes.Goals as goal
 
 pub sizes_of_columns-requires : goal.sizes_of_columns-requires

@@ -1,6 +1,6 @@
 use Rattle.std.proofs.Common.{◌∙◌, ◌+◌, ap}
 use Rattle.columnar_core.specs.Store.{slices_in}
-use Rattle.columnar_variants.specs.VariantBytes.{sides_representable, forms_fit, variants_rows_at}
+use Rattle.columnar_variants.specs.VariantByteLaws.{sides_representable, forms_fit, variants_rows_at}
 use Rattle.columnar_variants.proofs.variants.bytes.VariantsStored.rows_in.Goals as goal
 
 pub count_slices-requires : goal.count_slices-requires

@@ -1,4 +1,4 @@
-use Rattle.columnar_variants.specs.VariantBytes.{sides_representable}
+use Rattle.columnar_variants.specs.VariantByteLaws.{sides_representable}
 use Rattle.columnar_variants.proofs.variants.bytes.VariantsStored.slice_count.Goals as goal
 
 pub count_slices-requires : goal.count_slices-requires

@@ -1,9 +1,9 @@
 use Rattle.std.proofs.Common.{◌-◌, ◌∷◌, [], arith}
-use Rattle.columnar_base.specs.TwoParts.{flat_left, flat_right, align_left, align_right}
+use Rattle.columnar_base.specs.TwoPartsLaws.{flat_left, flat_right, align_left, align_right}
 use Rattle.columnar_base.specs.Format.{slices_of}
 use Rattle.columnar_core.specs.Slices.{bytes_in, alignment}
 use Rattle.columnar_sums.specs.Discriminants.{owned_forms}
-use Rattle.columnar_variants.specs.VariantBytes.{sides_representable}
+use Rattle.columnar_variants.specs.VariantByteLaws.{sides_representable}
 use Rattle.columnar_variants.proofs.variants.bytes.VariantsVecU8VecU64ContainerBytes.byte_slice.Goals as goal
 
 pub count_slices-count-requires : goal.count_slices-count-requires

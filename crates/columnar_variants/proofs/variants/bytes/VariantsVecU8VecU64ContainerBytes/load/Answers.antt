@@ -1,6 +1,6 @@
 use Rattle.std.proofs.Common.{◌+◌, ap}
 use Rattle.columnar_core.specs.Store.{slices_in}
-use Rattle.columnar_variants.specs.VariantBytes.{sides_representable, sides_fit, forms_fit, variants_content}
+use Rattle.columnar_variants.specs.VariantByteLaws.{sides_representable, sides_fit, forms_fit, variants_content}
 use Rattle.columnar_variants.proofs.variants.bytes.VariantsVecU8VecU64ContainerBytes.load.Goals as goal
 
 pub load_columns-requires-clause-representable : goal.load_columns-requires-clause-representable

@@ -1,6 +1,6 @@
 use Rattle.columnar_base.specs.ChangeLaws.{passed_on}
 use Rattle.columnar_variants.specs.VariantLaws.{variants_parts}
-use Rattle.columnar_variants.specs.BankEarlier.{whole_made, whole_not}
+use Rattle.columnar_variants.specs.BankEarlierLaws.{whole_made, whole_not}
 use Rattle.columnar_variants.proofs.variants.earlier.VariantsVecU8VecU64Earlier.from_old.Goals as goal
 
 pub columns_of_old-requires : goal.columns_of_old-requires

@@ -5,7 +5,7 @@ use Rattle.columnar_core.specs.WordViews.{view_bytes}
 use Rattle.columnar_sums.specs.Discriminants.{owned_forms, forms_content, variants_of}
 use Rattle.columnar_sums.specs.DiscriminantLaws.{length-variant_rows}
 use Rattle.columnar_variants.specs.Duals.{slice_bytes}
-use Rattle.columnar_variants.specs.VariantLists.{times_range, times_of_all, range_length}
+use Rattle.columnar_variants.specs.VariantListLaws.{times_range, times_of_all, range_length}
 use Rattle.columnar_variants.specs.VariantLaws.{variants_parts, variants_count, variants_number, counts_within}
 use Rattle.columnar_variants.specs.BankChanges.{bank_undone}
 use Rattle.columnar_variants.specs.BankCopyLaws.{whole_copied, whole_denied, whole_overfull, still_within}

@@ -9,7 +9,7 @@ use Rattle.columnar_base.specs.Format.{Format, Content, Fault, fault, both, firs
 use Rattle.columnar_base.specs.FaultLaws.{fits_from}
 use Rattle.columnar_base.specs.ChangeLaws.{slice_get_some}
 use Rattle.columnar_base.specs.Numbers.{unsigned_row}
-use Rattle.columnar_base.specs.TwoParts.{two_turns, two_fits_left}
+use Rattle.columnar_base.specs.TwoPartsLaws.{two_turns, two_fits_left}
 use Rattle.columnar_sums.specs.Counting.{ones}
 use Rattle.columnar_sums.specs.RankColumns.{ranks_bits, ranks_format}
 use Rattle.columnar_base.specs.WordViewLaws.{length-words_in}
@@ -18,7 +18,7 @@ use Rattle.columnar_sums.specs.RankLaws.{ranks_parts, ranks_form}
 use Rattle.columnar_sums.specs.Results.{turned, zeros, weave_results, results_format}
 use Rattle.columnar_sums.specs.ResultLaws.{results_two}
 use Rattle.columnar_sums.specs.WeaveLaws.{ones_most, ones_before, bit_of_row}
-use Rattle.columnar_sums.specs.WeaveBoth.{ones_zeros, zeros_all, turned_at, weave_ok, weave_err}
+use Rattle.columnar_sums.specs.WeaveBothLaws.{ones_zeros, zeros_all, turned_at, weave_ok, weave_err}
 use Rattle.columnar_lookback.specs.Recall.{latest, reaches}
 use Rattle.columnar_lookback.specs.RecallLaws.{recall_fine, recall_fault, recall_own, reaches_next, reaches_not}
 use Rattle.columnar_lookback.specs.LatestLaws.{onto, length-onto}

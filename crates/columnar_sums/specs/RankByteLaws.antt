@@ -5,17 +5,17 @@ use Rattle.std.proofs.lemmas.Bool.{cases_lt, eq-eqb, ne_eqb}
 use Rattle.std.proofs.lemmas.List.{drop-drop}
 use Rattle.columnar_sums.specs.Agree.{numbers_eq}
 use Rattle.columnar_core.specs.Format.{Content, slice, both, first, moved, Fault, fault, Fits}
-use Rattle.columnar_core.specs.TwoParts.{two_right, two_own, two_fine}
+use Rattle.columnar_core.specs.TwoPartsLaws.{two_right, two_own, two_fine}
 use Rattle.columnar_core.specs.StoreLaws.{drop_at}
 use Rattle.columnar_core.specs.Elements.{elements_broken, first_slice}
 use Rattle.columnar_core.specs.WordViews.{words_in, bit_words, le_bytes}
 use Rattle.columnar_bits.specs.Bits.{bit_in}
-use Rattle.columnar_bits.specs.BoolColumns.{bits_in, bools_broken, bools_format}
-use Rattle.columnar_bits.specs.BoolLaws.{SoundBools, bits_length}
+use Rattle.columnar_bits.specs.BoolColumns.{bits_in, bools_broken, bools_format, SoundBools}
+use Rattle.columnar_bits.specs.BoolLaws.{bits_length}
 use Rattle.columnar_sums.specs.Counting.{ones_below, counts_of, AreCounts, CountWords}
 use Rattle.columnar_sums.specs.RankColumns.{ranks_broken, ranks_format}
 use Rattle.columnar_sums.specs.RankLaws.{ranks_two, ranks_parts, counts_test, counts_in_words}
-use Rattle.columnar_sums.specs.RankChanges.{counts_differ, counts_complete, length-truths_rows}
+use Rattle.columnar_sums.specs.RankChangeLaws.{counts_differ, counts_complete, length-truths_rows}
 
 -- the counts of the chunks below one, as a loop over words goes on
 abbrev pub AreRight : List ℕ → List ℕ → ℕ → Type 0

@@ -5,7 +5,7 @@ use Rattle.columnar_base.specs.Row.{Row, more, unit, list}
 use Rattle.columnar_nested.specs.Forest.{Forest, no_trees, tree_and, Node, width, level_order}
 use Rattle.columnar_nested.specs.Layout.{IsLayout, IsTreeRule, nodes, values_of, kid_counts, totals, starts, kid_ends}
 use Rattle.columnar_nested.specs.Reading.{first_trees, later_trees, pending, trees_from, trees_of}
-use Rattle.columnar_nested.specs.Layouts.{layout_read, layout_rule, passed_layout, rule_passed}
+use Rattle.columnar_nested.specs.LayoutLaws.{layout_read, layout_rule, passed_layout, rule_passed}
 use Rattle.columnar_nested.specs.NodeLaws.{starts-length}
 use Rattle.columnar_nested.specs.TreeRows.{tree_rows, tree_row, bare_tree}
 

@@ -6,7 +6,7 @@ use Rattle.columnar_nested.specs.Forest.{Forest, no_trees, tree_and, width}
 use Rattle.columnar_nested.specs.Layout.{nodes, values_of, starts, own_places, keeps}
 use Rattle.columnar_nested.specs.ForestLaws.{joined, width-joined}
 use Rattle.columnar_nested.specs.Reading.{first_trees, later_trees, pending, trees_from}
-use Rattle.columnar_nested.specs.Walk.{walk_nodes, walk_ends, walk_starts, nodes-root, nodes-next, ends-root, ends-next, starts-root, starts-next, nodes-done, ends-done, starts-done, walk_all}
+use Rattle.columnar_nested.specs.WalkLaws.{walk_nodes, walk_ends, walk_starts, nodes-root, nodes-next, ends-root, ends-next, starts-root, starts-next, nodes-done, ends-done, starts-done, walk_all}
 
 pub eq-false : (m n : ℕ) → n < m → nat_eq m n ≡ false
 eq-false m n h = ne_eqb m n (λ e. omega arith)

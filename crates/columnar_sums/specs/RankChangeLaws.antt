@@ -14,11 +14,11 @@ use Rattle.columnar_core.specs.WordViewLaws.{length-words_in, length-le_bytes, w
 use Rattle.columnar_core.specs.declared.fault.GrowError.{GrowError}
 use Rattle.columnar_core.specs.declared.fault.GrowError.TheVariants.{Memory, Length, Offset, Format as FormatError}
 use Rattle.columnar_bits.specs.Bits.{bit_in}
-use Rattle.columnar_bits.specs.BoolColumns.{IsOfGrowth, bit_count, bits_in, bools_format}
-use Rattle.columnar_bits.specs.BoolLaws.{SoundBools, length_words_back, bools_parts, bools_took, bools_past, bits_length, bits_from_rows, words_of_bits, words_grown}
+use Rattle.columnar_bits.specs.BoolColumns.{IsOfGrowth, bit_count, bits_in, bools_format, SoundBools}
+use Rattle.columnar_bits.specs.BoolLaws.{length_words_back, bools_parts, bools_took, bools_past, bits_length, bits_from_rows, words_of_bits, words_grown}
 use Rattle.columnar_sums.specs.Counting.{ones, ones_below, AreCounts, CountWords, counts_of, count_before}
 use Rattle.columnar_sums.specs.CountLaws.{ones_word_whole, ones_below_le, count_before_is}
-use Rattle.columnar_sums.specs.CountsKept.{counts_stay, counts_grow, counts_cut, counts_none}
+use Rattle.columnar_sums.specs.CountsKeptLaws.{counts_stay, counts_grow, counts_cut, counts_none}
 use Rattle.columnar_sums.specs.RankColumns.{ranks_format}
 use Rattle.columnar_sums.specs.RankLaws.{SoundRanks, ranks_parts, ranks_sound, ones_bits, bytes_of_counts, counts_from}
 

@@ -7,7 +7,7 @@ use Rattle.std.proofs.lemmas.List.{nil_from_length}
 use Rattle.columnar_core.specs.Row.{Row, unit}
 use Rattle.columnar_core.specs.Format.{Format, Content, both, IsSound, Excess, refuses_more}
 use Rattle.columnar_core.specs.ChangeLaws.{true_from}
-use Rattle.columnar_core.specs.TwoParts.{two_form}
+use Rattle.columnar_core.specs.TwoPartsLaws.{two_form}
 use Rattle.columnar_core.specs.Elements.{past_count}
 use Rattle.columnar_core.specs.Earlier.{IsEarlier, IsTrueOfNew, IsMadeOf}
 use Rattle.columnar_core.specs.EarlierLaws.{earlier_le}
@@ -16,8 +16,8 @@ use Rattle.columnar_sums.specs.Discriminants.{times, variants_of}
 use Rattle.columnar_sums.specs.DiscriminantLaws.{times_most}
 use Rattle.columnar_variants.specs.Variants.{of_case, chosen}
 use Rattle.columnar_variants.specs.VariantLaws.{variants_parts, variants_sound, variants_number, length-chosen, chosen-same, beside_two}
-use Rattle.columnar_variants.specs.VariantRows.{beside_sound}
-use Rattle.columnar_variants.specs.VariantCopies.{of_chosen}
+use Rattle.columnar_variants.specs.VariantRowLaws.{beside_sound}
+use Rattle.columnar_variants.specs.VariantCopyLaws.{of_chosen}
 use Rattle.columnar_variants.specs.LawfulVariants.{variants_form}
 use Rattle.columnar_variants.specs.Duals.{dual_bank, dual_content, dual_format}
 use Rattle.columnar_variants.specs.DualLaws.{dual_law, same_duals, firsts_sound, seconds_sound}

@@ -10,7 +10,8 @@ use Rattle.columnar_variants.specs.Variants.{Bank, IsBank, leaf, variants_format
 use Rattle.columnar_variants.specs.VariantLaws.{leaf_stayed}
 use Rattle.columnar_variants.specs.Duals.{dual_bank, dual_format}
 use Rattle.columnar_variants.specs.DualLaws.{dual_law, seconds_sound}
-use Rattle.columnar_variants.specs.VariantCopies.{BankCopied, HasRange, range_of, has_range, leaf_copied, join_copied, variants_copied, variants_front, chosen_range, join_stayed, leaf_denied, first_denied, later_denied, variants_denied, variants_overfull}
+use Rattle.columnar_variants.specs.VariantCopies.{BankCopied, HasRange, range_of}
+use Rattle.columnar_variants.specs.VariantCopyLaws.{has_range, leaf_copied, join_copied, variants_copied, variants_front, chosen_range, join_stayed, leaf_denied, first_denied, later_denied, variants_denied, variants_overfull}
 
 pub same_range : (rs : List Row) (f l m n : ℕ) → f ≡ m → l ≡ m + n → take (l - f) (drop f rs) ≡ take n (drop m rs)
 same_range rs f l m n p q = let e : l - f ≡ n = omega (arith, p, q) in rw (e, p) refl

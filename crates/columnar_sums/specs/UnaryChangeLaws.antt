@@ -16,17 +16,17 @@ use Rattle.columnar_core.specs.BoundLaws.{word_is}
 use Rattle.columnar_core.specs.WordViews.{words_in, le_bytes}
 use Rattle.columnar_core.specs.declared.fault.GrowError.{GrowError}
 use Rattle.columnar_core.specs.declared.fault.GrowError.TheVariants.{Memory, Length, Offset}
-use Rattle.columnar_bits.specs.BoolColumns.{bits_in, bools_format, IsOfGrowth}
-use Rattle.columnar_bits.specs.BoolLaws.{SoundBools, bools_past, bools_parts, bits_from_rows, bits_length}
+use Rattle.columnar_bits.specs.BoolColumns.{bits_in, bools_format, IsOfGrowth, SoundBools}
+use Rattle.columnar_bits.specs.BoolLaws.{bools_past, bools_parts, bits_from_rows, bits_length}
 use Rattle.columnar_sums.specs.Counting.{ones}
 use Rattle.columnar_sums.specs.RankColumns.{ranks_format, ranks_bits, IsNextTrue, AreFalseFrom}
 use Rattle.columnar_sums.specs.RankLaws.{SoundRanks, ranks_parts, ranks_sound, ranks_lawful}
-use Rattle.columnar_sums.specs.RankChanges.{Ranked, ranks_took, ranks_refused}
+use Rattle.columnar_sums.specs.RankChangeLaws.{Ranked, ranks_took, ranks_refused}
 use Rattle.columnar_sums.specs.Unary.{is_set, bits_of, ends_of, falses, last_bit, upto, zeros, runs, falls, unary, unary_broken}
 use Rattle.columnar_sums.specs.UnaryLists.{set_truths, upto-within, last-falses}
 use Rattle.columnar_sums.specs.UnaryLaws.{SoundUnary, numbers_back, unary_refused, unary_parts, unary_sound, length-offsets, unary_took, unary_stayed, unary_misplaced, unary_refuse_more, unary_cut, unary_rises}
-use Rattle.columnar_sums.specs.UnaryBits.{counts_kept, ones_ends, ends_found, upto_found, falses_are, last_is, length-zeros, counts_run}
-use Rattle.columnar_sums.specs.UnaryRanges.{RangeBits, range_bits, runs_back, ends_rise, upto_at, end_from, end_there}
+use Rattle.columnar_sums.specs.UnaryBitLaws.{counts_kept, ones_ends, ends_found, upto_found, falses_are, last_is, length-zeros, counts_run}
+use Rattle.columnar_sums.specs.UnaryRangeLaws.{RangeBits, range_bits, runs_back, ends_rise, upto_at, end_from, end_there}
 use Rattle.columnar_sums.specs.UnaryColumns.{unaries_format, repeated, all_falses}
 
 abbrev three : List ℕ → List ℕ → List ℕ → Content

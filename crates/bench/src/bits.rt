@@ -33,7 +33,7 @@ pub fn measure<R: Clock, O: Write>(times: &mut Times<'_, R, O>) -> Option<()> {
     queries(times, &view, ones, random)?;
     walks(times, &view, ones as usize)?;
     times.copy::<Viewed<'_>, Bits>("copy_bits_aligned", view, 0, M)?;
-    times.copy_behind::<Viewed<'_>, Bits>("copy_bits_shifted", view, 3, 7, M - 1)
+    times.copy_after::<Viewed<'_>, Bits>("copy_bits_shifted", view, 3, 7, M - 1)
 }
 
 fn plain<R: Clock, O: Write>(times: &mut Times<'_, R, O>, bits: &[bool]) -> Option<()> {

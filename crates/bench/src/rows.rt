@@ -35,7 +35,7 @@ pub fn measure<R: Clock, O: Write>(times: &mut Times<'_, R, O>) -> Option<()> {
 fn typed<R: Clock, O: Write>(times: &mut Times<'_, R, O>, rows: &[Row]) -> Option<Vec<u8>> {
     let held = Held::Typed(times.refs::<Row, Rows>("push_rows_ref", rows)?);
     let view = held.borrow();
-    times.copy_behind::<Viewed<'_>, Rows>("copy_rows_half_odd", view, 1, 250_001, 750_001)?;
+    times.copy_after::<Viewed<'_>, Rows>("copy_rows_half_odd", view, 1, 250_001, 750_001)?;
     let names = [
         "push_rows_view",
         "get_rows_typed",

@@ -105,7 +105,7 @@ impl<'a, R: Clock, O: Write> Times<'a, R, O> {
     }
 
     /// The same after the first `front` rows of the view.
-    pub fn copy_behind<V: Len + Copy, C: ExtendFrom<V> + Drop>(
+    pub fn copy_after<V: Len + Copy, C: ExtendFrom<V> + Drop>(
         &mut self,
         name: &str,
         view: V,
@@ -116,7 +116,7 @@ impl<'a, R: Clock, O: Write> Times<'a, R, O> {
         requires { IsSound V.format (V.content view) }
     {
         let began = self.start();
-        let _column = work::copied_behind::<V, C>(self.alloc, view, front, start, end)?;
+        let _column = work::copied_after::<V, C>(self.alloc, view, front, start, end)?;
         self.end(name, began, end.saturating_sub(start))
     }
 

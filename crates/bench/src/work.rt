@@ -220,7 +220,7 @@ pub fn copied<V: Len + Copy, C: ExtendFrom<V>>(
 }
 
 /// As `copied`, after the first `front` rows of the view.
-pub fn copied_behind<V: Len + Copy, C: ExtendFrom<V>>(
+pub fn copied_after<V: Len + Copy, C: ExtendFrom<V>>(
     alloc: Global,
     view: V,
     front: usize,

@@ -196,22 +196,22 @@ align_right (x ∷ xs) ys zero k n e h = absurd (omega arith)
 align_right (x ∷ xs) ys (suc i) k n e h = align_right xs ys i k n (omega arith) h
 
 -- they come before the own one
-two_behind : {f a b : Format} {test : Content → Content → Bool} {rule : ℕ} → TwoParts f a b test rule → (x y : Content) (o : ℕ) → moved o (f.broken (both x y)) ≡ both_broken a b x y o ++ moved o (unless (test x y) (fault rule 0))
-two_behind {f} {a} {b} {test} {rule} t x y o = two_moved t x y o ∙ sym (append_assoc (moved o (a.broken x)) (moved (o + a.count) (b.broken y)) (moved o (unless (test x y) (fault rule 0))))
+two_after : {f a b : Format} {test : Content → Content → Bool} {rule : ℕ} → TwoParts f a b test rule → (x y : Content) (o : ℕ) → moved o (f.broken (both x y)) ≡ both_broken a b x y o ++ moved o (unless (test x y) (fault rule 0))
+two_after {f} {a} {b} {test} {rule} t x y o = two_moved t x y o ∙ sym (append_assoc (moved o (a.broken x)) (moved (o + a.count) (b.broken y)) (moved o (unless (test x y) (fault rule 0))))
 
 pub judged_part : {f a b : Format} {test : Content → Content → Bool} {rule : ℕ} → TwoParts f a b test rule → (x y : Content) (o : ℕ) (z : Fault) → Some z ≡ first (both_broken a b x y o) → Some z ≡ first (moved o (f.broken (both x y)))
-judged_part {f} {a} {b} {test} {rule} t x y o z h = rw (two_behind t x y o) (sym (first_found (both_broken a b x y o) (moved o (unless (test x y) (fault rule 0))) z (sym h)))
+judged_part {f} {a} {b} {test} {rule} t x y o z h = rw (two_after t x y o) (sym (first_found (both_broken a b x y o) (moved o (unless (test x y) (fault rule 0))) z (sym h)))
 
 pub judged_own : {f a b : Format} {test : Content → Content → Bool} {rule : ℕ} → TwoParts f a b test rule → (x y : Content) (o : ℕ) → None ≡ first (both_broken a b x y o) → test x y ≡ false → Some (fault rule o) ≡ first (moved o (f.broken (both x y)))
 judged_own {f} {a} {b} {test} {rule} t x y o n h =
     let e : both_broken a b x y o ≡ [] = first_none (both_broken a b x y o) (sym n) in
     let k : o + 0 ≡ o = omega arith in
-    rw (two_behind t x y o, e, h, k) refl
+    rw (two_after t x y o, e, h, k) refl
 
 pub judged_fine : {f a b : Format} {test : Content → Content → Bool} {rule : ℕ} → TwoParts f a b test rule → (x y : Content) (o : ℕ) → None ≡ first (both_broken a b x y o) → test x y ≡ true → None ≡ first (moved o (f.broken (both x y)))
 judged_fine {f} {a} {b} {test} {rule} t x y o n h =
     let e : both_broken a b x y o ≡ [] = first_none (both_broken a b x y o) (sym n) in
-    rw (two_behind t x y o, e, h) refl
+    rw (two_after t x y o, e, h) refl
 
 -- the same over the slices of a store
 pub judged_part_at : {f a b : Format} {test : Content → Content → Bool} {rule : ℕ} → TwoParts f a b test rule → (ss : List (List ℕ)) (o : ℕ) (z : Fault) → Some z ≡ first (both_broken a b (a.build (drop o ss)) (b.build (drop (o + a.count) ss)) o) → Some z ≡ first (moved o (f.broken (f.build (drop o ss))))

@@ -7,4 +7,4 @@ use Rattle.columnar_core.specs.Frame.{Frame, end_of, start_of}
 pub record FramesTightly (bytes : List ℕ) (slices : List (List ℕ)) : Type 0 where
   pub framed : Frame bytes slices
   pub zeros : (i j : ℕ) → i < length slices → end_of bytes i ≤ j → j < rounded (end_of bytes i) → slice_index bytes j ≡ 0
-  pub nothing_behind : length bytes ≡ start_of bytes (length slices)
+  pub nothing_after : length bytes ≡ start_of bytes (length slices)

@@ -15,8 +15,8 @@ from_all start (s ∷ ss) m =
     from_shift start s ss (length ss) ∙ from_all (rounded (start + length s)) ss (omega arith)
     ∙ omega (arith, length-append (padded s) (flat_map padded ss), length-padded s)
 
-behind : (slices : List (List ℕ)) → 8 * length (words slices) < 2 ^ 64 → length (store_bytes slices) ≡ start_of (store_bytes slices) (length slices)
-behind slices b =
+after : (slices : List (List ℕ)) → 8 * length (words slices) < 2 ^ 64 → length (store_bytes slices) ≡ start_of (store_bytes slices) (length slices)
+after slices b =
     omega (arith, length-store_bytes slices, length-words slices, length-flat_padded slices, from_all (8 * (length slices + 1)) slices (omega arith), start_word slices (length slices) b (omega arith))
 
 -- what is written frames the slices tightly
@@ -24,7 +24,7 @@ pub tight_words : (slices : List (List ℕ)) → 8 * length (words slices) < 2 ^
 tight_words slices b = record {
   framed = framed_words slices b;
   zeros = λ i j l e h. let p = at_words slices i b l in p.padding j e h;
-  nothing_behind = behind slices b;
+  nothing_after = after slices b;
 }
 
 -- where a slice ends, by its length
@@ -95,5 +95,5 @@ same_below a b slices (suc i) j p q f g l h =
 -- there is one store that frames the slices tightly
 pub tight_once : (a b : List ℕ) (slices : List (List ℕ)) → AreBytes a → AreBytes b → FramesTightly a slices → FramesTightly b slices → a ≡ b
 tight_once a b slices p q f g =
-    ext_get_or 0 a b (f.nothing_behind ∙ same_start a b slices (length slices) f.framed g.framed (omega arith) ∙ sym g.nothing_behind)
-    (λ j l. same_below a b slices (length slices) j p q f g (omega arith) (let e = f.nothing_behind in omega arith))
+    ext_get_or 0 a b (f.nothing_after ∙ same_start a b slices (length slices) f.framed g.framed (omega arith) ∙ sym g.nothing_after)
+    (λ j l. same_below a b slices (length slices) j p q f g (omega arith) (let e = f.nothing_after in omega arith))

@@ -19,9 +19,9 @@ unfolding word word_bytes
 word-front n rest l = from_le_bytes-to_le_bytes_8 n l
 
 -- eight bytes in front shift each word by one
-pub word-behind : (front rest : List ℕ) (i : ℕ) → length front ≡ 8 → word (front ++ rest) (suc i) ≡ word rest i
+pub word-after : (front rest : List ℕ) (i : ℕ) → length front ≡ 8 → word (front ++ rest) (suc i) ≡ word rest i
 unfolding word
-word-behind front rest i e =
+word-after front rest i e =
     let d : 8 * suc i ≡ 8 + 8 * i = omega arith in
     let f : drop (8 * suc i) (front ++ rest) ≡ drop (8 * i) rest =
     ap (λ k. drop k (front ++ rest)) d ∙ sym (drop-drop (8 * i) 8 (front ++ rest)) ∙ ap (drop (8 * i)) (drop_at front rest 8 e) in
@@ -34,7 +34,7 @@ word-le_bytes [] rest i l b = absurd (omega arith)
 word-le_bytes (x ∷ xs) rest zero l b = ap (λ t. word t 0) (append_assoc (word_bytes x) (le_bytes xs) rest) ∙ word-front x (le_bytes xs ++ rest) b
 word-le_bytes (x ∷ xs) rest (suc i) l b =
     ap (λ t. word t (suc i)) (append_assoc (word_bytes x) (le_bytes xs) rest)
-    ∙ word-behind (word_bytes x) (le_bytes xs ++ rest) i (length-word_bytes x) ∙ word-le_bytes xs rest i (omega arith) b
+    ∙ word-after (word_bytes x) (le_bytes xs ++ rest) i (length-word_bytes x) ∙ word-le_bytes xs rest i (omega arith) b
 
 pub length-ends : (start : ℕ) (slices : List (List ℕ)) → length (slice_ends start slices) ≡ length slices
 length-ends start [] = refl

@@ -13,14 +13,14 @@ pub length-onto : (vs ws : List Row) → length (onto vs ws) ≡ length vs + len
 length-onto [] ws = omega arith
 length-onto (v ∷ vs) ws = let e = length-onto vs (v ∷ ws) in omega (arith, e)
 
-recent_behind : (vs ws : List Row) (m k : ℕ) → k ≡ length vs + m → recent (onto vs ws) k ≡ recent ws m
-recent_behind [] ws m k e = let f : k ≡ m = omega arith in rw f refl
-recent_behind (v ∷ vs) ws m k e = recent_behind vs (v ∷ ws) (suc m) k (omega arith)
+recent_after : (vs ws : List Row) (m k : ℕ) → k ≡ length vs + m → recent (onto vs ws) k ≡ recent ws m
+recent_after [] ws m k e = let f : k ≡ m = omega arith in rw f refl
+recent_after (v ∷ vs) ws m k e = recent_after vs (v ∷ ws) (suc m) k (omega arith)
 
 -- the value that stands m before the last
 pub recent_onto : (vs ws : List Row) (i m : ℕ) (v : Row) → slice_get vs i ≡ Some v → i + suc m ≡ length vs → recent (onto vs ws) m ≡ v
 recent_onto [] ws i m v h e = cc
-recent_onto (w ∷ vs) ws zero m v h e = let q : w ≡ v = cc in recent_behind vs (w ∷ ws) 0 m (omega arith) ∙ q
+recent_onto (w ∷ vs) ws zero m v h e = let q : w ≡ v = cc in recent_after vs (w ∷ ws) 0 m (omega arith) ∙ q
 recent_onto (w ∷ vs) ws (suc i) m v h e = recent_onto vs (w ∷ ws) i m v h (omega arith)
 
 -- row i of the first n

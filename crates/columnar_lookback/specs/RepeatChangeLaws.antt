@@ -73,11 +73,11 @@ pub values_pushed : (t : Format) {x y v w : Content} (u : Row) → IsLawful t �
 values_pushed t {x} {y} {v} {w} u l s g = values_stored t (u ∷ []) l s g ∙ ap (λ (vs : List Row). length (t.rows y) + length vs) (append-nil (value_of u))
 
 -- a range has at least the values that stand after its first row
-values_behind : (us : List Row) (n start : ℕ) → length (somes (take n (drop (suc start) us))) ≤ length (somes (take (suc n) (drop start us)))
-values_behind us zero start = omega arith
-values_behind [] (suc n) start = omega arith
-values_behind (u ∷ us) (suc n) zero = omega (arith, length-append (value_of u) (somes (take (suc n) us)))
-values_behind (u ∷ us) (suc n) (suc start) = values_behind us (suc n) start
+values_after : (us : List Row) (n start : ℕ) → length (somes (take n (drop (suc start) us))) ≤ length (somes (take (suc n) (drop start us)))
+values_after us zero start = omega arith
+values_after [] (suc n) start = omega arith
+values_after (u ∷ us) (suc n) zero = omega (arith, length-append (value_of u) (somes (take (suc n) us)))
+values_after (u ∷ us) (suc n) (suc start) = values_after us (suc n) start
 
 at_most_one : (b : Bool) → cond b 0 1 ≤ 1
 at_most_one true = omega arith
@@ -91,7 +91,7 @@ values_copied us start end old middle new b i p q =
     let n = end - (start + 1) in
     let d : values_between us (start + 1) end ≡ length (somes (take n (drop (suc start) us))) = ap (λ (m : ℕ). length (somes (take n (drop m us)))) z in
     let f : values_between us start end ≡ length (somes (take (suc n) (drop start us))) = ap (λ (m : ℕ). length (somes (take m (drop start us)))) e in
-    omega (arith, p, q, d, f, values_behind us n start, at_most_one b)
+    omega (arith, p, q, d, f, values_after us n start, at_most_one b)
 
 -- ranges
 

@@ -33,24 +33,24 @@ pub words_judged : (v : Format) (x y z : Content) (o : ℕ) (f : Fault) → Some
 words_judged v x y z o f h = sym (ap first (trees_split v x y z o) ∙ first_found (both_broken words_format words_format x y o) (moved (o + 2) (v.broken z) ++ moved o (unless (trees_keep v x (both y z)) (fault 18 0))) f (sym h))
 
 -- they are not: what is left
-behind_words : (v : Format) (x y z : Content) (o : ℕ) → None ≡ first (both_broken words_format words_format x y o) → moved o ((trees_format v).broken (both x (both y z))) ≡ moved (o + 2) (v.broken z) ++ moved o (unless (trees_keep v x (both y z)) (fault 18 0))
-behind_words v x y z o h = trees_split v x y z o ∙ ap (λ xs. xs ++ (moved (o + 2) (v.broken z) ++ moved o (unless (trees_keep v x (both y z)) (fault 18 0)))) (first_none (both_broken words_format words_format x y o) (sym h))
+after_words : (v : Format) (x y z : Content) (o : ℕ) → None ≡ first (both_broken words_format words_format x y o) → moved o ((trees_format v).broken (both x (both y z))) ≡ moved (o + 2) (v.broken z) ++ moved o (unless (trees_keep v x (both y z)) (fault 18 0))
+after_words v x y z o h = trees_split v x y z o ∙ ap (λ xs. xs ++ (moved (o + 2) (v.broken z) ++ moved o (unless (trees_keep v x (both y z)) (fault 18 0)))) (first_none (both_broken words_format words_format x y o) (sym h))
 
 -- the values are broken
 pub values_judged : (v : Format) (x y z : Content) (o : ℕ) (f : Fault) → None ≡ first (both_broken words_format words_format x y o) → Some f ≡ first (moved (o + 2) (v.broken z)) → Some f ≡ first (moved o ((trees_format v).broken (both x (both y z))))
-values_judged v x y z o f n h = sym (ap first (behind_words v x y z o n) ∙ first_found (moved (o + 2) (v.broken z)) (moved o (unless (trees_keep v x (both y z)) (fault 18 0))) f (sym h))
+values_judged v x y z o f n h = sym (ap first (after_words v x y z o n) ∙ first_found (moved (o + 2) (v.broken z)) (moved o (unless (trees_keep v x (both y z)) (fault 18 0))) f (sym h))
 
-behind_values : (v : Format) (x y z : Content) (o : ℕ) → None ≡ first (both_broken words_format words_format x y o) → None ≡ first (moved (o + 2) (v.broken z)) → moved o ((trees_format v).broken (both x (both y z))) ≡ moved o (unless (trees_keep v x (both y z)) (fault 18 0))
-behind_values v x y z o n m = behind_words v x y z o n ∙ ap (λ xs. xs ++ moved o (unless (trees_keep v x (both y z)) (fault 18 0))) (first_none (moved (o + 2) (v.broken z)) (sym m))
+after_values : (v : Format) (x y z : Content) (o : ℕ) → None ≡ first (both_broken words_format words_format x y o) → None ≡ first (moved (o + 2) (v.broken z)) → moved o ((trees_format v).broken (both x (both y z))) ≡ moved o (unless (trees_keep v x (both y z)) (fault 18 0))
+after_values v x y z o n m = after_words v x y z o n ∙ ap (λ xs. xs ++ moved o (unless (trees_keep v x (both y z)) (fault 18 0))) (first_none (moved (o + 2) (v.broken z)) (sym m))
 
 -- no part is broken, and the rule of trees is kept, or not
 pub rule_kept : (v : Format) (x y z : Content) (o : ℕ) → None ≡ first (both_broken words_format words_format x y o) → None ≡ first (moved (o + 2) (v.broken z)) → trees_keep v x (both y z) ≡ true → None ≡ first (moved o ((trees_format v).broken (both x (both y z))))
-rule_kept v x y z o n m h = sym (ap first (behind_values v x y z o n m) ∙ ap (λ b. first (moved o (unless b (fault 18 0)))) h)
+rule_kept v x y z o n m h = sym (ap first (after_values v x y z o n m) ∙ ap (λ b. first (moved o (unless b (fault 18 0)))) h)
 
 pub rule_broken : (v : Format) (x y z : Content) (o : ℕ) → None ≡ first (both_broken words_format words_format x y o) → None ≡ first (moved (o + 2) (v.broken z)) → trees_keep v x (both y z) ≡ false → Some (fault 18 o) ≡ first (moved o ((trees_format v).broken (both x (both y z))))
 rule_broken v x y z o n m h =
     let k : o + 0 ≡ o = omega arith in
-    sym (ap first (behind_values v x y z o n m) ∙ (ap (λ b. first (moved o (unless b (fault 18 0)))) h ∙ ap (λ i. Some (fault 18 i)) k))
+    sym (ap first (after_values v x y z o n m) ∙ (ap (λ b. first (moved o (unless b (fault 18 0)))) h ∙ ap (λ i. Some (fault 18 i)) k))
 
 -- the same over the slices of a store
 pub trees_built : (v : Format) (ss : List (List ℕ)) (o : ℕ) (gs bs : List ℕ) → o + (2 + v.count) ≤ length ss → gs ≡ slice_index_or ss o [] → bs ≡ slice_index_or ss (o + 1) [] → (trees_format v).build (drop o ss) ≡ both (slice gs) (both (slice bs) (v.build (drop (o + 2) ss)))

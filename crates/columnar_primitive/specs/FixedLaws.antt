@@ -77,12 +77,12 @@ strays-more k n (r ∷ rs) ss h = ⊎_elim
     (or_cases (not (row_eq r (number (k * suc n)))) (strays k (suc n) rs) h)
 
 -- after the right multiples
-pub strays-behind : (k n m : ℕ) (rs : List Row) → strays k n (multiples k n m ++ rs) ≡ strays k (n + m) rs
-strays-behind k n zero rs = let e : n + zero ≡ n = omega arith in rw (multiples-none k n, e) refl
-strays-behind k n (suc m) rs =
+pub strays-after : (k n m : ℕ) (rs : List Row) → strays k n (multiples k n m ++ rs) ≡ strays k (n + m) rs
+strays-after k n zero rs = let e : n + zero ≡ n = omega arith in rw (multiples-none k n, e) refl
+strays-after k n (suc m) rs =
     let e : n + suc m ≡ suc n + m = omega arith in
     let r : not (row_eq (number (k * suc n)) (number (k * suc n))) ≡ false = not_from_true (row_eq (number (k * suc n)) (number (k * suc n))) (row_eq_same.reflexive (number (k * suc n))) in
-    rw (multiples-more k n m, r, e) (strays-behind k (suc n) m rs)
+    rw (multiples-more k n m, r, e) (strays-after k (suc n) m rs)
 
 pub passes-more : (k m n : ℕ) → m ≤ n → passes k m ≡ true → passes k n ≡ true
 passes-more k m n l h =
@@ -100,7 +100,7 @@ pub fixed_adds : (k : ℕ) (e : Excess) (n m : ℕ) (rs : List Row) → fixed_re
 fixed_adds k too_many n m rs h =
     let e : n + length (multiples k n m ++ rs) ≡ (n + m) + length rs = omega (arith, length-append (multiples k n m) rs, length-multiples k n m) in
     rw e h
-fixed_adds k misplaced n m rs h = rw (strays-behind k n m rs) h
+fixed_adds k misplaced n m rs h = rw (strays-after k n m rs) h
 
 -- the laws
 
@@ -283,7 +283,7 @@ first_next k n start zero top x h t pos g e = absurd (omega arith)
 first_next k n start (suc added) top x h t pos g e =
     let p = piece_first k start added top x t h g in
     let r : k * suc start ≡ k * suc n = p.0 ∙ omega (arith, e) in
-    rw (fixed_piece k start n (suc added) top t r) (rw append-nil at (strays-behind k n (suc added) []))
+    rw (fixed_piece k start n (suc added) top t r) (rw append-nil at (strays-after k n (suc added) []))
 
 pub first_stray : (k n start added top x : ℕ) → x < 2 ^ 64 → start + added ≤ top → 0 < added → slice_get (multiples k 0 top) start ≡ Some (word_row x) → (x ≡ k * (n + 1) → ⊥) → strays k n (take added (drop start (multiples k 0 top))) ≡ true
 first_stray k n start zero top x h t pos g e = absurd (omega arith)

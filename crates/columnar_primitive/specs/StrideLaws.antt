@@ -336,10 +336,10 @@ get-front [] ys i r h = cc
 get-front (x ∷ xs) ys zero r h = h
 get-front (x ∷ xs) ys (suc i) r h = get-front xs ys i r h
 
-get-behind : (xs ys : List Row) (i k : ℕ) (r : Row) → i ≡ length xs + k → slice_get ys k ≡ Some r → slice_get (xs ++ ys) i ≡ Some r
-get-behind [] ys i k r e h = let f : i ≡ k = omega arith in rw f h
-get-behind (x ∷ xs) ys zero k r e h = absurd (omega arith)
-get-behind (x ∷ xs) ys (suc i) k r e h = get-behind xs ys i k r (omega arith) h
+get-after : (xs ys : List Row) (i k : ℕ) (r : Row) → i ≡ length xs + k → slice_get ys k ≡ Some r → slice_get (xs ++ ys) i ≡ Some r
+get-after [] ys i k r e h = let f : i ≡ k = omega arith in rw f h
+get-after (x ∷ xs) ys zero k r e h = absurd (omega arith)
+get-after (x ∷ xs) ys (suc i) k r e h = get-after xs ys i k r (omega arith) h
 
 -- the offset that stands at place k among those that stand as they are
 pub bound_is : (bs : List ℕ) (k : ℕ) → k < length bs / 8 → slice_get (bounds_rows (slice bs)) k ≡ Some (number (word bs k))
@@ -353,7 +353,7 @@ stride_row hs bs i s l =
     (omega (arith, s.fits), get-front (multiples (word hs 0) 0 (word hs 1)) (bounds_rows (slice bs)) i (number (word hs 0 * i + word hs 0)) (rw e at (multiples_get (word hs 0) 0 i (word hs 1) l)))
 
 bound_row : (hs bs : List ℕ) (i k : ℕ) → i ≡ word hs 1 + k → k < length bs / 8 → slice_get (strides_rows (both (slice hs) (slice bs))) i ≡ Some (number (word bs k))
-bound_row hs bs i k e l = get-behind (multiples (word hs 0) 0 (word hs 1)) (bounds_rows (slice bs)) i k (number (word bs k)) (e ∙ ap (λ n. n + k) (sym (length-multiples (word hs 0) 0 (word hs 1)))) (bound_is bs k l)
+bound_row hs bs i k e l = get-after (multiples (word hs 0) 0 (word hs 1)) (bounds_rows (slice bs)) i k (number (word bs k)) (e ∙ ap (λ n. n + k) (sym (length-multiples (word hs 0) 0 (word hs 1)))) (bound_is bs k l)
 
 pub whole_words : (bs : List ℕ) (k : ℕ) → length bs % 8 ≡ 0 → k < length bs / 8 → 8 * k + 8 ≤ length bs
 whole_words bs k m l = omega (arith, div-add-mod (length bs) 8)

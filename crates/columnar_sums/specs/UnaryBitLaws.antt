@@ -113,11 +113,11 @@ ones_none zero (suc p) = refl
 ones_none (suc m) zero = refl
 ones_none (suc m) (suc p) = ones_false (zeros m) p ∙ ones_none m p
 
-pub ones_behind : (b : List Bool) (m p : ℕ) → length b ≤ p → ones (b ++ zeros m) p ≡ ones b (length b)
-ones_behind [] m p l = ones_none m p ∙ sym (ones_zero [])
-ones_behind (x ∷ b) m zero l = absurd (omega arith)
-ones_behind (true ∷ b) m (suc p) l = ones_true (b ++ zeros m) p ∙ ap suc (ones_behind b m p (omega arith)) ∙ sym (ones_true b (length b))
-ones_behind (false ∷ b) m (suc p) l = ones_false (b ++ zeros m) p ∙ ones_behind b m p (omega arith) ∙ sym (ones_false b (length b))
+pub ones_after : (b : List Bool) (m p : ℕ) → length b ≤ p → ones (b ++ zeros m) p ≡ ones b (length b)
+ones_after [] m p l = ones_none m p ∙ sym (ones_zero [])
+ones_after (x ∷ b) m zero l = absurd (omega arith)
+ones_after (true ∷ b) m (suc p) l = ones_true (b ++ zeros m) p ∙ ap suc (ones_after b m p (omega arith)) ∙ sym (ones_true b (length b))
+ones_after (false ∷ b) m (suc p) l = ones_false (b ++ zeros m) p ∙ ones_after b m p (omega arith) ∙ sym (ones_false b (length b))
 
 pub length-repeated : (n x : ℕ) → length (repeated n x) ≡ n
 length-repeated zero x = refl
@@ -151,7 +151,7 @@ counts_run b cs m n h en =
       λ i k.
           ⊎_elim (λ (a : i < length cs). get_or_append_left cs (repeated n (ones b (length b))) 0 i a ∙ h.1 i a ∙ sym (ap (λ (x : List Bool). count_by (λ (y : Bool). y) x) (take-append-le (1024 * (i + 1)) b (zeros m) (omega arith))))
           (λ (a : length cs ≤ i).
-          get_or-append_right cs (repeated n (ones b (length b))) (length cs) i 0 refl a ∙ get-repeated n (ones b (length b)) (i - length cs) 0 (omega arith) ∙ sym (ones_behind b m (1024 * (i + 1)) (omega arith)))
+          get_or-append_right cs (repeated n (ones b (length b))) (length cs) i 0 refl a ∙ get-repeated n (ones b (length b)) (i - length cs) 0 (omega arith) ∙ sym (ones_after b m (1024 * (i + 1)) (omega arith)))
           (cases_lt i (length cs)),
     )
 
@@ -176,13 +176,13 @@ ones_skip b p (suc q) l m h =
     (cases_lt p (suc q))
 
 ones_past : (b : List Bool) (p : ℕ) → length b ≤ p → ones b p ≡ ones b (length b)
-ones_past b p l = ap (λ (t : List Bool). ones t p) (sym (append-nil b)) ∙ ones_behind b 0 p l
+ones_past b p l = ap (λ (t : List Bool). ones t p) (sym (append-nil b)) ∙ ones_after b 0 p l
 
 -- what the next true tells: the next offset
 pub record NextEnd (b : List Bool) (pos q : ℕ) : Type 0 where
   pub row : slice_get (ends_of 0 b) (ones b pos) ≡ Some (q - ones b pos)
   pub before : ones b q ≡ ones b pos
-  pub behind : ones b (q + 1) ≡ ones b pos + 1
+  pub after : ones b (q + 1) ≡ ones b pos + 1
   pub within : ones b pos ≤ q
 
 pub next_end : (b : List Bool) (pos q : ℕ) → IsNextTrue b pos q → NextEnd b pos q
@@ -194,7 +194,7 @@ next_end b pos q h =
     record {
       row = rw (d, e) at f.0;
       before = e;
-      behind = ones_yes b q l h.1 ∙ ap (λ (t : ℕ). t + 1) e;
+      after = ones_yes b q l h.1 ∙ ap (λ (t : ℕ). t + 1) e;
       within = omega (arith, e, f.1);
     }
 
@@ -237,14 +237,14 @@ ends_begin s b n e = rw e (let z : ones b 0 ≡ 0 = ones_zero b in rw z refl)
 pub ends_next : (s t : Standing) (q rank : ℕ) → t.bits ≡ s.bits → IsNextTrue s.bits s.pos q → t.pos ≡ q + 1 → rank ≡ ones t.bits t.pos → ends_after s ≡ (q - (rank - 1)) ∷ ends_after t
 ends_next s t q rank e h p r =
     let k = next_end s.bits s.pos q h in
-    let o : ones t.bits t.pos ≡ ones s.bits s.pos + 1 = ap (λ (b : List Bool). ones b t.pos) e ∙ ap (ones s.bits) p ∙ k.behind in
+    let o : ones t.bits t.pos ≡ ones s.bits s.pos + 1 = ap (λ (b : List Bool). ones b t.pos) e ∙ ap (ones s.bits) p ∙ k.after in
     let d : q - (rank - 1) ≡ q - ones s.bits s.pos = omega (arith, r, o) in
     rw (o, e, d) (get_drop (ends_of 0 s.bits) (ones s.bits s.pos) (q - ones s.bits s.pos) k.row)
 
 pub rank_next : (s t : Standing) (q rank : ℕ) → t.bits ≡ s.bits → IsNextTrue s.bits s.pos q → t.pos ≡ q + 1 → rank ≡ ones t.bits t.pos → (1 ≤ rank) × (rank - 1 ≤ q)
 rank_next s t q rank e h p r =
     let k = next_end s.bits s.pos q h in
-    let o : ones t.bits t.pos ≡ ones s.bits s.pos + 1 = ap (λ (b : List Bool). ones b t.pos) e ∙ ap (ones s.bits) p ∙ k.behind in
+    let o : ones t.bits t.pos ≡ ones s.bits s.pos + 1 = ap (λ (b : List Bool). ones b t.pos) e ∙ ap (ones s.bits) p ∙ k.after in
     (omega (arith, r, o), omega (arith, r, o, k.within))
 
 -- no true is left: no offset is

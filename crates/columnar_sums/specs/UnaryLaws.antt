@@ -153,15 +153,15 @@ unary_took f {x} {y} ns ex s h g =
           unary_refuse_more f e' p (map number ns ++ rs) ∙
           either (refuses_more f e' y (map truth (runs (last_or from ns) (numbers rs)))) (is_misplaced e' && falls (last_or from ns) (numbers rs)) (refuses_more f e' x (map truth (runs from (numbers (map number ns ++ rs))))) (is_misplaced e' && falls from (numbers (map number ns ++ rs)))
           (λ a. rw (w, runs-append from ns (numbers rs), map-append truth (runs from ns) (runs (last_or from ns) (numbers rs))) (g.adds e' (map truth (runs (last_or from ns) (numbers rs))) a))
-          (λ a. rw w (falls_behind e' from ns (numbers rs) a)) u;
+          (λ a. rw w (falls_after e' from ns (numbers rs) a)) u;
     }
   where
     new_end : SoundUnary f x → SoundUnary f y → ends_of 0 (bits_of f y) ≡ ends_of 0 (bits_of f x) ++ ns → falses 0 (bits_of f y) ≡ last_or (falses 0 (bits_of f x)) ns
     new_end p q r = sym (last-falses true 0 0 (bits_of f y) (λ v. refl) q.ended) ∙ ap (last_or 0) r ∙ last-or-append 0 (ends_of 0 (bits_of f x)) ns ∙ ap (λ (t : ℕ). last_or t ns) (last-falses true 0 0 (bits_of f x) (λ v. refl) p.ended)
 
-    falls_behind : (e : Excess) (from : ℕ) (xs ys : List ℕ) → (is_misplaced e && falls (last_or from xs) ys) ≡ true → (is_misplaced e && falls from (xs ++ ys)) ≡ true
-    falls_behind too_many from xs ys h = cc
-    falls_behind misplaced from xs ys h = falls-append from xs ys ∙ or_right (falls from xs) (falls (last_or from xs) ys) h
+    falls_after : (e : Excess) (from : ℕ) (xs ys : List ℕ) → (is_misplaced e && falls (last_or from xs) ys) ≡ true → (is_misplaced e && falls from (xs ++ ys)) ≡ true
+    falls_after too_many from xs ys h = cc
+    falls_after misplaced from xs ys h = falls-append from xs ys ∙ or_right (falls from xs) (falls (last_or from xs) ys) h
 
 -- the bits were cut after true n - 1
 pub unary_cut : (f : Format) {x y : Content} {n : ℕ} → IsSound (unary f) x → n ≤ length ((unary f).rows x) → WasCut f x y (upto (bits_of f x) n) → WasCut (unary f) x y n

@@ -19,8 +19,8 @@ pub own_fine : (o : ℕ) (below told : Bool) → below ≡ true → told ≡ tru
 own_fine o below told p q = rw (p, q) refl
 
 -- the rules of the parts come before them
-pub variants_behind : (b : Bank) (x y : Content) (o : ℕ) → moved o ((variants_format b).broken (both x y)) ≡ both_broken b.sides discriminant_format x y o ++ moved o (own_broken (are_below b.size (variants_of y)) (b.told x (λ v. times v (variants_of y))))
-variants_behind b x y o =
+pub variants_after : (b : Bank) (x y : Content) (o : ℕ) → moved o ((variants_format b).broken (both x y)) ≡ both_broken b.sides discriminant_format x y o ++ moved o (own_broken (are_below b.size (variants_of y)) (b.told x (λ v. times v (variants_of y))))
+variants_after b x y o =
     let p = unless (are_below b.size (variants_of y)) (fault 17 0) in
     let q = unless (b.told x (λ v. times v (variants_of y))) (fault 10 0) in
     let m = map-append (moved_one o) (two_broken b.sides discriminant_format (is_below b) 17 (both x y)) q in
@@ -32,18 +32,18 @@ variants_behind b x y o =
 pub variants_sides : (b : Bank) (x y : Content) (o : ℕ) (z : Fault) → Some z ≡ first (moved o (b.sides.broken x)) → Some z ≡ first (moved o ((variants_format b).broken (both x y)))
 variants_sides b x y o z h =
     let k = both_left b.sides discriminant_format x y o z h in
-    sym (ap first (variants_behind b x y o) ∙ first_found (both_broken b.sides discriminant_format x y o) (moved o (own_broken (are_below b.size (variants_of y)) (b.told x (λ v. times v (variants_of y))))) z (sym k))
+    sym (ap first (variants_after b x y o) ∙ first_found (both_broken b.sides discriminant_format x y o) (moved o (own_broken (are_below b.size (variants_of y)) (b.told x (λ v. times v (variants_of y))))) z (sym k))
 
 pub variants_forms : (b : Bank) (x y : Content) (o : ℕ) (z : Fault) → None ≡ first (moved o (b.sides.broken x)) → Some z ≡ first (moved (o + b.sides.count) (discriminant_format.broken y)) → Some z ≡ first (moved o ((variants_format b).broken (both x y)))
 variants_forms b x y o z n h =
     let k = both_right b.sides discriminant_format x y o (Some z) n h in
-    sym (ap first (variants_behind b x y o) ∙ first_found (both_broken b.sides discriminant_format x y o) (moved o (own_broken (are_below b.size (variants_of y)) (b.told x (λ v. times v (variants_of y))))) z (sym k))
+    sym (ap first (variants_after b x y o) ∙ first_found (both_broken b.sides discriminant_format x y o) (moved o (own_broken (are_below b.size (variants_of y)) (b.told x (λ v. times v (variants_of y))))) z (sym k))
 
 -- none does
 pub variants_own : (b : Bank) (x y : Content) (o : ℕ) (below told : Bool) (v : Option Fault) → None ≡ first (moved o (b.sides.broken x)) → None ≡ first (moved (o + b.sides.count) (discriminant_format.broken y)) → below ≡ are_below b.size (variants_of y) → told ≡ b.told x (λ v. times v (variants_of y)) → v ≡ first (moved o (own_broken below told)) → v ≡ first (moved o ((variants_format b).broken (both x y)))
 variants_own b x y o below told v n m p q h =
     let k = first_none (both_broken b.sides discriminant_format x y o) (sym (both_none b.sides discriminant_format x y o n m)) in
-    let e : first (moved o ((variants_format b).broken (both x y))) ≡ first (moved o (own_broken (are_below b.size (variants_of y)) (b.told x (λ v. times v (variants_of y))))) = ap first (variants_behind b x y o) ∙ ap (λ fs. first (fs ++ moved o (own_broken (are_below b.size (variants_of y)) (b.told x (λ v. times v (variants_of y)))))) k in
+    let e : first (moved o ((variants_format b).broken (both x y))) ≡ first (moved o (own_broken (are_below b.size (variants_of y)) (b.told x (λ v. times v (variants_of y))))) = ap first (variants_after b x y o) ∙ ap (λ fs. first (fs ++ moved o (own_broken (are_below b.size (variants_of y)) (b.told x (λ v. times v (variants_of y)))))) k in
     h ∙ (rw (p, q) (sym e))
 
 -- two parts one after the other

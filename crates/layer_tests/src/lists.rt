@@ -29,7 +29,7 @@ type Nested = Vecs<Lists, Vec<u64>>;
 // The numbers that the lists of `Held` are ranges of
 static SIX: [u64; 6] = [1, 2, 3, 4, 5, 6];
 
-// Lists of numbers, behind the calls that more than one test makes
+// Lists of numbers, for the calls that more than one test makes
 #[derive(Drop)]
 struct Held {
     lists: Lists,

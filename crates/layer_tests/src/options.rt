@@ -19,7 +19,7 @@ type Held = Options<Vec<u64>, Vec<u64>, Vec<u64>, [u64; 2]>;
 
 type Viewed<'a> = Options<View<'a, u64>, View<'a, u64>, View<'a, u64>, View<'a, u64>>;
 
-// Numbers that may be absent, behind the calls that more than one test makes
+// Numbers that may be absent, for the calls that more than one test makes
 #[derive(Drop)]
 struct Numbers {
     column: Held,
@@ -121,7 +121,7 @@ fn copies_of_ranges(rt: HostRuntime) -> Result<(), Fail> {
 }
 
 #[test]
-fn copies_behind_rows(rt: HostRuntime) -> Result<(), Fail> {
+fn copies_after_rows(rt: HostRuntime) -> Result<(), Fail> {
     let mut copy = Numbers::five(rt.alloc())?;
     let source = Numbers::five(rt.alloc())?;
     holds!(rt; copy.copies(&source, 2, 5));

@@ -218,7 +218,7 @@ fn takes_lengths<'x, C: Push<&'x [u64]>>(
     true
 }
 
-// Lists with bounds in unary, behind the calls that more than one test makes
+// Lists with bounds in unary, for the calls that more than one test makes
 #[derive(Drop)]
 pub struct Held {
     lists: Lists,

@@ -70,7 +70,7 @@ fn empty_ranges_are_copied(rt: HostRuntime) -> Result<(), Fail> {
 }
 
 #[test]
-fn rows_are_copied_behind_the_same_row(rt: HostRuntime) -> Result<(), Fail> {
+fn rows_are_copied_after_the_same_row(rt: HostRuntime) -> Result<(), Fail> {
     let source = Runs::of(rt.alloc(), RUNS.as_slice())?;
     let mut column = Runs::of(rt.alloc(), [5, 1].as_slice())?;
     holds!(rt; column.copies(&source, 0, 2));
@@ -83,7 +83,7 @@ fn rows_are_copied_behind_the_same_row(rt: HostRuntime) -> Result<(), Fail> {
 }
 
 #[test]
-fn rows_are_copied_behind_another_row(rt: HostRuntime) -> Result<(), Fail> {
+fn rows_are_copied_after_another_row(rt: HostRuntime) -> Result<(), Fail> {
     let source = Runs::of(rt.alloc(), RUNS.as_slice())?;
     let mut column = Runs::of(rt.alloc(), [5].as_slice())?;
     holds!(rt; column.copies(&source, 0, 3));

@@ -1,4 +1,4 @@
-// Columns of runs and of distances, behind the calls that many tests make. The nests of their columns are named here alone,
+// Columns of runs and of distances, for the calls that many tests make. The nests of their columns are named here alone,
 // so that a test does not carry them. One struct for any column would hand its impls on at each call, and a macro may not write
 // a ghost field: so there are two.
 ghost use Rattle.columnar_core.specs.Format.{IsSound};

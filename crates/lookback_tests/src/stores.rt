@@ -46,9 +46,9 @@ fn the_first_row_is_a_value(rt: HostRuntime) -> Result<(), Fail> {
     equal!(rt; RunStash::refusal(rt.alloc(), NO_FIRST.as_slice()), Some((15, 0)));
     let second = [40, 40, 40, 56, 64, 2, 2, 7];
     equal!(rt; RunStash::refusal(rt.alloc(), second.as_slice()), Some((15, 0)));
-    let behind_one = [48, 56, 56, 56, 72, 72, 5, 0, 1];
+    let after_one = [48, 56, 56, 56, 72, 72, 5, 0, 1];
     equal!(rt;
-        refusal::<(Vec<u64>, Held)>(rt.alloc(), behind_one.as_slice())?,
+        refusal::<(Vec<u64>, Held)>(rt.alloc(), after_one.as_slice())?,
         (15, 1)
     );
     Ok(())

@@ -44,7 +44,7 @@ lines_more (a ∷ aligns) (s ∷ slices) zero align bytes p q =
 lines_more (a ∷ aligns) (s ∷ slices) (suc i) align bytes p q =
     ap (λ t. slice_line a s ++ t) (lines_more aligns slices i align bytes p q) ∙ sym (append_assoc (slice_line a s) (slice_lines (take i aligns) (take i slices)) (slice_line align bytes))
 
--- the same, of a text that was there and one line that was written behind it
+-- the same, of a text that was there and one line that was written after it
 pub lines_step : (aligns : List ℕ) (slices : List (List ℕ)) (i align count : ℕ) (bytes old new : List ℕ) → slice_get aligns i ≡ Some align → slice_get slices i ≡ Some bytes
     → count ≡ length bytes → old ≡ slice_lines (take i aligns) (take i slices)
     → new ≡ old ++ (codes "align: " ++ (decimal align ++ (codes ", bytes.len(): " ++ (decimal count ++ codes "\n"))))
@@ -53,7 +53,7 @@ lines_step aligns slices i align count bytes old new p q counted held wrote =
     let next : i + 1 ≡ suc i = omega arith in
     rw next (rw (counted, held) at wrote ∙ sym (lines_more aligns slices i align bytes p q))
 
--- the line of the sum, behind the others
+-- the line of the sum, after the others
 pub sum_last : (lines old new : List ℕ) (told sum : ℕ) → old ≡ lines → told ≡ sum
     → new ≡ old ++ (codes "Present values summed: " ++ (decimal told ++ codes "\n")) → new ≡ lines ++ sum_line sum
 sum_last lines old new told sum held same wrote = rw (held, same) at wrote

@@ -63,15 +63,15 @@ fn stores_of_numbers_are_judged(rt: HostRuntime) -> Result<(), Fail> {
     let alloc = rt.alloc();
     let past_end = [16, 32, 7];
     let backwards = [16, 8, 7];
-    let words_behind = [16, 24, 7, 9];
+    let words_after = [16, 24, 7, 9];
     for (words, wanted) in [
         (past_end.as_slice(), (6, 0)),
         (backwards.as_slice(), (7, 0)),
-        (words_behind.as_slice(), (0, 0)),
+        (words_after.as_slice(), (0, 0)),
     ] {
         equal!(rt; refusal::<Numbers>(alloc, words)?, wanted);
     }
-    let bytes = bytes_of(alloc, words_behind.as_slice())?;
+    let bytes = bytes_of(alloc, words_after.as_slice())?;
     let Ok(stash) = Stash::<Numbers, Vec<u8>>::try_from_bytes(alloc, bytes) else {
         holds!(rt; false);
         return Ok(());

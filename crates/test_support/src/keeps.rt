@@ -343,14 +343,14 @@ pub fn encoding_keeps<'a, S: AsBytes<'a>>(alloc: Global, item: &S, words: &[u64]
     };
     match encode(&mut store, item) {
         Ok(()) => {
-            front(store.as_slice(), 2) == [1, 2].as_slice() && behind_two(store.as_slice()) == words
+            front(store.as_slice(), 2) == [1, 2].as_slice() && after_two(store.as_slice()) == words
         }
         Err(error) => error == EncodeError::Memory && store.as_slice() == [1, 2].as_slice(),
     }
 }
 
 /// The words after the first two.
-pub fn behind_two(words: &[u64]) -> &[u64] {
+pub fn after_two(words: &[u64]) -> &[u64] {
     if words.len() >= 2 { &words[2..] } else { words }
 }
 

@@ -54,7 +54,7 @@ fn a_range_is_copied_a_word_at_a_time(rt: HostRuntime) -> Result<(), Fail> {
 }
 
 #[test]
-fn cuts_clear_the_bits_behind(rt: HostRuntime) -> Result<(), Fail> {
+fn cuts_clear_the_bits_after(rt: HostRuntime) -> Result<(), Fail> {
     let mut bits = column(rt.alloc(), 100, 1)?;
     bits.truncate(70);
     equal!(rt; bits.values.as_slice(), [u64::MAX].as_slice());

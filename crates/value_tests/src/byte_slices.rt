@@ -100,7 +100,7 @@ fn words_are_filled_with_zeros(rt: HostRuntime) -> Result<(), Fail> {
 }
 
 #[test]
-fn arrays_stand_one_behind_the_other(rt: HostRuntime) -> Result<(), Fail> {
+fn arrays_stand_one_after_the_other(rt: HostRuntime) -> Result<(), Fail> {
     let items = [[1u16, 2, 3], [4, 5, 6]];
     let slice = <[u16; 3] as Sliced>::byte_slice(&items);
     equal!(rt; slice.align(), 2);

@@ -126,7 +126,7 @@ fn copy_of<V: Len + Copy, C: Storage + ExtendFrom<V>, I: Iterator<Item = V> + Dr
 
 // The same column with the rows `start..end` of a view after its own, and then with room for those of the view; none where
 // it is refused
-fn copied_behind<V: Len + Copy, C: Storage + ExtendFrom<V>>(
+fn copied_after<V: Len + Copy, C: Storage + ExtendFrom<V>>(
     mut held: Held<C>,
     view: V,
     start: usize,
@@ -154,7 +154,7 @@ pub fn copy_twice<V: Len + Copy, C: Storage + ExtendFrom<V>, I: Iterator<Item = 
     requires finite { IsFinite (I.remaining views) }
 {
     let all = copy_of(alloc, view, views)?;
-    let more = copied_behind(all.duplicate(alloc)?, view, start, end)?;
+    let more = copied_after(all.duplicate(alloc)?, view, start, end)?;
     let mut first = more.duplicate(alloc)?;
     cut(&mut first.column, kept);
     let again = first.duplicate(alloc)?;

@@ -27,7 +27,7 @@ fn row(time: u64, value: u32) -> Row {
     OwnRow::new((time, value))
 }
 
-// Runs of readings, behind the calls that the tests make.
+// Runs of readings, for the calls that the tests make.
 #[derive(Drop)]
 struct HeldRuns {
     column: Runs,
@@ -76,7 +76,7 @@ fn own_rows_print_their_parts(rt: HostRuntime) -> Result<(), Fail> {
     Ok(())
 }
 
-// Readings, behind the calls that the tests make.
+// Readings, for the calls that the tests make.
 #[derive(Drop)]
 struct Held {
     column: Readings,

@@ -15,7 +15,7 @@ type Three = Variants<(Vec<u64>, (Vec<u16>, (Vec<u64>,)))>;
 
 type Row = Nth<u64, Nth<u16, Last<u64>>>;
 
-// A column of three variants, behind the calls that the tests make.
+// A column of three variants, for the calls that the tests make.
 #[derive(Drop)]
 struct Held {
     column: Three,

@@ -16,7 +16,7 @@ pub type Two = Variants<(Vec<u64>, (Vec<u64>,))>;
 
 pub type Row = Nth<u64, Last<u64>>;
 
-// A column of two variants, behind the calls that the tests make.
+// A column of two variants, for the calls that the tests make.
 #[derive(Drop)]
 struct Held {
     column: Two,

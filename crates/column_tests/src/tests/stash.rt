@@ -23,7 +23,7 @@ static WORD_BEHIND: [u64; 5] = [16, 32, 7, 8, 9];
 
 static SEVEN_EIGHT: [u64; 4] = [16, 32, 7, 8];
 
-// A stash of numbers, behind the calls that the tests make: the traits of its column are named here alone.
+// A stash of numbers, for the calls that the tests make: the traits of its column are named here alone.
 #[derive(Drop)]
 struct Numbers<B: ByteStore> {
     stash: Stash<Vec<u64>, B>,

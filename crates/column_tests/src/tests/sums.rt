@@ -40,7 +40,7 @@ fn fault_of<C: Stored>(alloc: Global, words: &[u64]) -> Result<Option<StoreFault
     }
 }
 
-// A column of outcomes, behind the calls that the tests make: its traits are named here alone.
+// A column of outcomes, for the calls that the tests make: its traits are named here alone.
 #[derive(Drop)]
 struct Held {
     column: Outcomes,
@@ -259,7 +259,7 @@ fn a_run_over_events(rt: HostRuntime) -> Result<(), Fail> {
     Ok(())
 }
 
-// A stash of variants, behind the calls that the tests make
+// A stash of variants, for the calls that the tests make
 #[derive(Drop)]
 struct Variants {
     stash: Stash<Kinds, Vec<u8>>,

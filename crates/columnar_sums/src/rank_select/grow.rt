@@ -28,7 +28,7 @@ type Viewed<'a> = RankSelect<View<'a, u64>, View<'a, u64>, View<'a, u64>>;
 
 // Count number `chunk` - 1, 0 where there is none.
 #[tactic(auto, using(crate::specs::CountLaws::count_before_none, crate::specs::CountLaws::count_before_some))]
-fn count_behind(counts: View<'_, u64>, chunk: usize) -> u64
+fn count_after(counts: View<'_, u64>, chunk: usize) -> u64
     requires { chunk ≤ length (view_words counts) }
     ensures { result ≡ count_before (view_words counts.entry) chunk }
 {
@@ -56,7 +56,7 @@ fn count_on<L>(
     ensures turns { tally.new.turns + 16 * length counts.old.items ≤ tally.old.turns + 16 * (length (view_words values.entry) / 16) }
 {
     let before = Vec::len(counts);
-    let mut sum = count_behind(counts.words(), before);
+    let mut sum = count_after(counts.words(), before);
     for at in 16 * before..16 * (word_count(values) / 16) {
         tally.tick();
         sum += word_or_tail(values, tail, at).count_ones() as u64;

@@ -65,15 +65,15 @@ pub fn judge_dual<SC: Stored, TC: Stored, L>(
 {
     judge_two::<SC, TC, L>(store, offset, tally)?;
     let firsts = SC::slice_count();
-    let mut behind = offset + (firsts + TC::slice_count());
-    <Discriminant<Vec<u8>, Vec<u64>> as Stored>::judge_tallied(store, behind, tally)?;
+    let mut after = offset + (firsts + TC::slice_count());
+    <Discriminant<Vec<u8>, Vec<u64>> as Stored>::judge_tallied(store, after, tally)?;
     let lengths = [
         SC::rows_in(store, offset),
         TC::rows_in(store, offset + firsts),
     ];
     let indexes = <Discriminant<&[u8], View<'_, u64>> as FromBytes<'_>>::from_store(
         store,
-        &mut behind,
+        &mut after,
     );
     judge_counts(&indexes, &lengths, offset, tally)
 }
@@ -104,8 +104,8 @@ pub fn check_dual<SC: Check + Len, TC: Check + Len, CVar: Variants, COff: Words,
     ensures turns { tally.new.turns ≤ tally.old.turns + (dual_format SC.format TC.format).turns * bytes_held (dual_content (SC.content firsts.now) (TC.content seconds.now) (forms_content CVar.bytes COff.bytes indexes.now)) }
 {
     check_two(firsts, seconds, from, tally)?;
-    let behind = from + (SC::slice_count() + TC::slice_count());
-    indexes.check_from_tallied(behind, tally)?;
+    let after = from + (SC::slice_count() + TC::slice_count());
+    indexes.check_from_tallied(after, tally)?;
     let lengths = [firsts.len(), seconds.len()];
     judge_counts(indexes, &lengths, from, tally)
 }

@@ -53,9 +53,9 @@ impl<B: StoredBank, CVar: VariantBytes, COff: Words> Stored for Variants<B, CVar
         tally: &mut Tally<L>,
     ) -> Result<(), StoreFault> {
         B::judge_columns(store, offset, tally)?;
-        let mut behind = offset + B::count_slices();
-        Forms::judge_tallied(store, behind, tally)?;
-        let indexes = FormsView::from_store(store, &mut behind);
+        let mut after = offset + B::count_slices();
+        Forms::judge_tallied(store, after, tally)?;
+        let indexes = FormsView::from_store(store, &mut after);
         match count_rows::<B, &[u8], View<'_, u64>, L>(&indexes, tally) {
             None => Err(StoreFault::Variant(offset)),
             Some(counts) => {

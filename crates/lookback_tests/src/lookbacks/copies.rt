@@ -63,7 +63,7 @@ fn empty_ranges_are_copied(rt: HostRuntime) -> Result<(), Fail> {
 }
 
 #[test]
-fn rows_are_copied_behind_the_same_values(rt: HostRuntime) -> Result<(), Fail> {
+fn rows_are_copied_after_the_same_values(rt: HostRuntime) -> Result<(), Fail> {
     let source = Backs::of(rt.alloc(), RETURNS.as_slice())?;
     let mut column = Backs::of(rt.alloc(), [30, 20].as_slice())?;
     holds!(rt; column.copies(&source, 0, 5));

@@ -54,9 +54,9 @@ fn each_distance_is_below_the_values_before_it(rt: HostRuntime) -> Result<(), Fa
     equal!(rt; BackStash::refusal(alloc, last_too_far.as_slice()), Some((15, 0)));
     let no_value = [48, 48, 48, 64, 64, 65, 0, 1, 0];
     equal!(rt; BackStash::refusal(alloc, no_value.as_slice()), Some((15, 0)));
-    let behind_one = [56, 64, 64, 64, 80, 80, 81, 5, 0, 1, 0];
+    let after_one = [56, 64, 64, 64, 80, 80, 81, 5, 0, 1, 0];
     equal!(rt;
-        refusal::<(Vec<u64>, Held)>(alloc, behind_one.as_slice())?,
+        refusal::<(Vec<u64>, Held)>(alloc, after_one.as_slice())?,
         (15, 1)
     );
     Ok(())

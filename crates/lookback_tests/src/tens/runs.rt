@@ -31,7 +31,7 @@ fn numbers_of_one_digit_are_kept_once(rt: HostRuntime) -> Result<(), Fail> {
 }
 
 #[test]
-fn ranges_are_copied_behind_the_same_digit(rt: HostRuntime) -> Result<(), Fail> {
+fn ranges_are_copied_after_the_same_digit(rt: HostRuntime) -> Result<(), Fail> {
     let source = numbers::<Held>(rt.alloc(), [23, 3, 41, 1].as_slice())?;
     let mut column = numbers::<Held>(rt.alloc(), [13].as_slice())?;
     holds!(rt; copied(&mut column, source.borrow(), 0, 3));

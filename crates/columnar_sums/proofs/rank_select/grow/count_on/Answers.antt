@@ -9,8 +9,8 @@ use Rattle.columnar_sums.specs.RankChangeLaws.{counted_end, counted_within, sum_
 use Rattle.columnar_sums.proofs.rank_select.grow.count_on.Goals as goal
 use Rattle.columnar_sums.proofs.rank_select.grow.count_on.Goals.{then-at-eq15+in-Ok, else-at-eq15}
 
-pub count_behind-sum-requires : goal.count_behind-sum-requires
-count_behind-sum-requires g c = rw c.words.ensures (omega (arith, c.len-before.ensures, length_words_back c.args.counts.now.items))
+pub count_after-sum-requires : goal.count_after-sum-requires
+count_after-sum-requires g c = rw c.words.ensures (omega (arith, c.len-before.ensures, length_words_back c.args.counts.now.items))
 
 pub overflow_step-at : goal.overflow_step-at
 overflow_step-at g c = omega (arith, c.requires.within, c.requires.short, c.len-before.ensures)
@@ -19,7 +19,7 @@ pub loop-at-init : goal.loop-at-init
 loop-at-init g c =
     let ws : List ℕ = bit_words (view_bytes c.args.values) (view_bytes c.args.tail) in
     record {
-      sum = c.count_behind-sum.ensures ∙ (rw c.words.ensures (sum_start ws (words_in (le_bytes c.args.counts.now.items)) c.len-before.result c.requires.exact (omega (arith, c.len-before.ensures, length_words_back c.args.counts.now.items))));
+      sum = c.count_after-sum.ensures ∙ (rw c.words.ensures (sum_start ws (words_in (le_bytes c.args.counts.now.items)) c.len-before.result c.requires.exact (omega (arith, c.len-before.ensures, length_words_back c.args.counts.now.items))));
       counted = record { exact = c.requires.exact; many = omega (arith, c.len-before.ensures); front = take_all _ _ (omega (arith, c.len-before.ensures)) };
       from = omega arith;
       turns = refl;

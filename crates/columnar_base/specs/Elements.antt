@@ -1,7 +1,8 @@
 -- Columns of elements of one size, each in its little-endian bytes.
 use Rattle.std.specs.Prelude.{ℕ, zero, suc, Bool, false, List, [], ◌∷◌, length, ◌+◌, ◌*◌, ◌/◌, ◌%◌, ◌^◌, ◌-◌, map, take, drop, nat_eq, nat_lt}
 use Rattle.std.specs.List.{flat_map}
-use Rattle.std.specs.Int.{from_le_bytes, w64}
+use Rattle.std.specs.Int.{from_le_bytes, w8, w64}
+use Rattle.columnar_base.specs.Numbers.{unsigned_row_of}
 use Rattle.columnar_base.specs.Row.{Row, number, row_eq}
 use Rattle.columnar_base.specs.Format.{Format, Content, slice, both, part, plain, Fault, fault, unless, misfit, Excess, too_many, misplaced}
 use Rattle.std.proofs.Common.{◌≡◌, ℕ, ◌-◌, ◌≤◌, List, length}
@@ -62,6 +63,10 @@ word_row_of bs = number (from_le_bytes w64 bs)
 -- one slice of 64-bit words
 abbrev pub words_format : Format
 words_format = elements_format 8 8 word_row_of
+
+-- one slice of bytes
+abbrev pub bytes_format : Format
+bytes_format = elements_format 1 1 (unsigned_row_of w8)
 
 -- how an element is kept: a size, its bytes, and the row that they read as
 pub record IsElement {T : Type 0} (size : ℕ) (bytes : T → List ℕ) (row_of : List ℕ → Row) (meaning : T → Row) : Type 0 where

@@ -17,7 +17,8 @@ use Rattle.columnar_sums.specs.Results.{left_of, right_of, ok_part, err_part, ba
 use Rattle.columnar_lookback.specs.Recall.{latest, recall}
 use Rattle.columnar_lookback.specs.RecallLaws.{Each, length-recall}
 use Rattle.columnar_lookback.specs.RepeatLaws.{option_is}
-use Rattle.columnar_lookback.specs.Lookbacks.{lookbacks_code, lookbacks_format, nearest, back_of, kept_back, kept_rows, with_value, nearest_each, bytes_format, values_back, IsPlain}
+use Rattle.columnar_lookback.specs.Lookbacks.{lookbacks_code, lookbacks_format, nearest, back_of, kept_back, kept_rows, with_value, nearest_each, values_back, IsPlain}
+use Rattle.columnar_base.specs.Elements.{bytes_format}
 use Rattle.columnar_lookback.specs.LookbackLaws.{IsResult, woven_results, byte_row}
 
 -- the values, the last one first, after rows of which those that are kept at no distance are values

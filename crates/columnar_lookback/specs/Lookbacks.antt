@@ -5,8 +5,7 @@ use Rattle.columnar_base.specs.Row.{Row, number, number_of, none, some, ok, err}
 use Rattle.columnar_base.specs.Format.{Format, Content, both, IsExact, Excess}
 use Rattle.std.specs.Global.{Global}
 use Rattle.std.specs.Int.{to_le_bytes, w8}
-use Rattle.columnar_base.specs.Elements.{elements, elements_format}
-use Rattle.columnar_base.specs.Numbers.{unsigned_row_of}
+use Rattle.columnar_base.specs.Elements.{elements, bytes_format}
 use Rattle.columnar_sums.specs.Options.{value_of, inner_of}
 use Rattle.columnar_base.specs.WordViews.{view_bytes}
 use Rattle.columnar_base.specs.declared.view.View.{View}
@@ -23,10 +22,6 @@ distance u = number_of (inner_of (err_part u))
 -- A row is stored as a value, or as a distance; limits don't see how far.
 abbrev pub lookbacks_code : Code
 lookbacks_code = record { value = λ u. value_of (ok_part u); back = distance; forms = λ r. ok r ∷ err (number 0) ∷ [] }
-
--- the distances in a slice of bytes
-abbrev pub bytes_format : Format
-bytes_format = elements_format 1 1 (unsigned_row_of w8)
 
 -- values of the format t, and distances of the format d
 abbrev pub lookbacks_format : Format → Format → Format

@@ -1,14 +1,14 @@
 //! Columns that refer back to one of the last values.
 ghost use Rattle.std.specs.Prelude.{◌≡◌, ◌<◌, [], drop, length, slice_get, IsTrue};
 ghost use Rattle.std.specs.Int.{to_le_bytes, w8};
-ghost use Rattle.columnar_base.specs.Elements.{elements};
+ghost use Rattle.columnar_base.specs.Elements.{elements, bytes_format};
 ghost use Rattle.columnar_base.specs.Numbers.{unsigned_row_of};
 ghost use Rattle.columnar_base.specs.Format.{IsSound, Fits, representable};
 ghost use Rattle.columnar_core.specs.Store.{slices_in};
 ghost use Rattle.columnar_sums.specs.Results.{results_content, weave_results};
 ghost use Rattle.columnar_sums.specs.RankColumns.{ranks_bits, ranks_content};
 ghost use Rattle.columnar_lookback.specs.Recall.{latest};
-ghost use Rattle.columnar_lookback.specs.Lookbacks.{bytes_format, lookbacks_code, lookbacks_format, nearest, IsPlain};
+ghost use Rattle.columnar_lookback.specs.Lookbacks.{lookbacks_code, lookbacks_format, nearest, IsPlain};
 ghost use Rattle.columnar_lookback.specs.LookbackLaws.{elements_plain};
 
 mod bytes;

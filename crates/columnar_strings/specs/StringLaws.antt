@@ -8,7 +8,7 @@ use Rattle.std.proofs.lemmas.List.{take-map, drop-map}
 use Rattle.columnar_base.specs.Row.{list, number, number_of}
 use Rattle.columnar_base.specs.RowLaws.{items_of-list}
 use Rattle.columnar_base.specs.Format.{Format, Content, both, IsSound}
-use Rattle.columnar_base.specs.Elements.{elements}
+use Rattle.columnar_base.specs.Elements.{elements, bytes_format}
 use Rattle.columnar_base.specs.ElementLaws.{rows_typed, length-typed}
 use Rattle.columnar_base.specs.Numbers.{unsigned_row}
 use Rattle.columnar_base.specs.NumberLaws.{unsigned_element}
@@ -18,7 +18,7 @@ use Rattle.columnar_core.specs.Bytes.{AreBytes}
 use Rattle.columnar_core.specs.BoundLaws.{number_get}
 use Rattle.columnar_lists.specs.CutLaws.{cut_get, rises_get}
 use Rattle.columnar_lists.specs.ListLaws.{lists_parts}
-use Rattle.columnar_strings.specs.Strings.{Shows, bytes_format, strings_format}
+use Rattle.columnar_strings.specs.Strings.{Shows, strings_format}
 
 -- a piece of the rows of bytes is a piece of the bytes
 piece_rows : (xs : List ℕ) (l n : ℕ) → take n (drop l (bytes_format.rows (elements (to_le_bytes w8) xs))) ≡ map (unsigned_row w8) (take n (drop l xs))

@@ -1,18 +1,12 @@
 -- Columns of strings: a string is the list of its bytes.
 use Rattle.std.specs.Prelude.{ℕ, List, [], ◌∷◌, ◌≡◌, Option, IfSome}
-use Rattle.std.specs.Int.{w8}
 use Rattle.columnar_base.specs.Change.{Took, Refused, Stayed}
-use Rattle.columnar_base.specs.Elements.{elements_format}
+use Rattle.columnar_base.specs.Elements.{bytes_format}
 use Rattle.columnar_base.specs.Format.{Format, Content}
-use Rattle.columnar_base.specs.Numbers.{unsigned_row_of}
 use Rattle.columnar_base.specs.Texts.{text_row}
 use Rattle.columnar_base.specs.declared.fault.GrowError.{GrowError}
 use Rattle.columnar_base.specs.declared.fault.GrowError.TheVariants.{Memory, Length, Offset, Format as FormatError}
 use Rattle.columnar_lists.specs.Lists.{lists_format}
-
--- one slice of bytes
-abbrev pub bytes_format : Format
-bytes_format = elements_format 1 1 (unsigned_row_of w8)
 
 -- strings over bounds of the format b: lists of bytes
 abbrev pub strings_format : Format → Format

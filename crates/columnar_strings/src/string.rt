@@ -5,12 +5,12 @@ ghost use Rattle.std.specs.Int.{to_le_bytes, w8};
 ghost use Rattle.columnar_base.specs.Row.{Row};
 ghost use Rattle.columnar_base.specs.Format.{both, IsSound};
 ghost use Rattle.columnar_base.specs.Change.{Copied, Refused};
-ghost use Rattle.columnar_base.specs.Elements.{elements, words_format};
+ghost use Rattle.columnar_base.specs.Elements.{elements, words_format, bytes_format};
 ghost use Rattle.columnar_base.specs.Texts.{bytes_of, text_row};
 ghost use Rattle.columnar_base.specs.TwoPartsLaws.{two_counted};
 ghost use Rattle.columnar_lists.specs.Lists.{lists_format};
 ghost use Rattle.columnar_lists.specs.ListLaws.{same_lists, lists_lawful, lists_storable};
-ghost use Rattle.columnar_strings.specs.Strings.{bytes_format, strings_format};
+ghost use Rattle.columnar_strings.specs.Strings.{strings_format};
 
 mod earlier;
 mod push;

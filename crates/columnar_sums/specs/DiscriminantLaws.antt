@@ -25,7 +25,8 @@ use Rattle.columnar_core.specs.WordViews.{words_in}
 use Rattle.columnar_core.specs.WordViewLaws.{length-words_in}
 use Rattle.columnar_core.specs.declared.fault.GrowError.TheVariants.{Memory, Length}
 use Rattle.columnar_sums.specs.RankLaws.{same_numbers, numbers_same}
-use Rattle.columnar_sums.specs.Discriminants.{times, earlier, is_mixed, has_form, variants_in, variants_of, variant_rows, bytes_format, form_test, form_lengths, discriminant_format}
+use Rattle.columnar_sums.specs.Discriminants.{times, earlier, is_mixed, has_form, variants_in, variants_of, variant_rows, form_test, form_lengths, discriminant_format}
+use Rattle.columnar_base.specs.Elements.{bytes_format}
 
 -- how often one is among others
 

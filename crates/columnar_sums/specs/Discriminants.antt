@@ -4,8 +4,8 @@ use Rattle.std.specs.Int.{w8}
 use Rattle.columnar_core.specs.Row.{Row, row_eq}
 use Rattle.columnar_sums.specs.Agree.{numbers_eq}
 use Rattle.columnar_core.specs.Format.{Format, Content, slice, both, part, plain, two_broken}
-use Rattle.columnar_core.specs.Elements.{elements_format, first_slice, past_count, word_row, words_format}
-use Rattle.columnar_base.specs.Numbers.{unsigned_row, unsigned_row_of}
+use Rattle.columnar_core.specs.Elements.{first_slice, past_count, word_row, words_format, bytes_format}
+use Rattle.columnar_base.specs.Numbers.{unsigned_row}
 use Rattle.columnar_core.specs.WordViews.{words_in, bytes_of, le_bytes}
 use Rattle.columnar_base.specs.Tuples.{tuples}
 use Rattle.columnar_sums.specs.declared.discriminant.Discriminant.{Discriminant}
@@ -50,10 +50,6 @@ variants_of (plain rs) = []
 -- the rows of variants
 abbrev pub variant_rows : List ℕ → List ℕ → List Row
 variant_rows before vs = tuples (map (unsigned_row w8) vs) (map word_row (earlier before vs))
-
--- variants, a byte each
-abbrev pub bytes_format : Format
-bytes_format = elements_format 1 1 (unsigned_row_of w8)
 
 abbrev pub form_test : Content → Content → Bool
 form_test x y = has_form (bytes_of x) (words_in (bytes_of y))

@@ -5,9 +5,9 @@ ghost use Rattle.std.specs.Int.{to_le_bytes, w8};
 ghost use Rattle.columnar_base.specs.Row.{number};
 ghost use Rattle.columnar_base.specs.Format.{IsSound};
 ghost use Rattle.columnar_base.specs.Change.{Took, Copied, Refused};
-ghost use Rattle.columnar_base.specs.Elements.{elements};
+ghost use Rattle.columnar_base.specs.Elements.{elements, bytes_format};
 ghost use Rattle.columnar_base.specs.Numbers.{unsigned_row_of};
-ghost use Rattle.columnar_lookback.specs.Lookbacks.{bytes_format, lookbacks_format, kept_rows, nearest, nearest_each, owned_lookbacks, values_back, viewed_lookbacks};
+ghost use Rattle.columnar_lookback.specs.Lookbacks.{lookbacks_format, kept_rows, nearest, nearest_each, owned_lookbacks, values_back, viewed_lookbacks};
 ghost use Rattle.columnar_base.specs.ElementLaws.{elements_lawful};
 
 use super::Lookbacks;

@@ -1,7 +1,6 @@
 use Rattle.std.specs.Int.{to_le_bytes, w8}
-use Rattle.columnar_base.specs.Elements.{elements}
+use Rattle.columnar_base.specs.Elements.{elements, bytes_format}
 use Rattle.columnar_lists.specs.ListLaws.{lists_within}
-use Rattle.columnar_strings.specs.Strings.{bytes_format}
 use Rattle.columnar_strings.specs.StringLaws.{string_read, string_within}
 use Rattle.columnar_strings.proofs.string.string_at.Goals as goal
 

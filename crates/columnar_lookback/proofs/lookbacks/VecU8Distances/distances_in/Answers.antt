@@ -1,5 +1,5 @@
 use Rattle.std.proofs.Common.{ap}
-use Rattle.columnar_lookback.specs.Lookbacks.{bytes_format}
+use Rattle.columnar_base.specs.Elements.{bytes_format}
 use Rattle.columnar_lookback.proofs.lookbacks.VecU8Distances.distances_in.Goals as goal
 
 pub returns : goal.returns

@@ -1,4 +1,4 @@
-use Rattle.columnar_lookback.specs.Lookbacks.{bytes_format}
+use Rattle.columnar_base.specs.Elements.{bytes_format}
 use Rattle.columnar_lookback.specs.LookbackLaws.{lookbacks_results}
 use Rattle.columnar_lookback.proofs.lookbacks.bytes.LookbacksVecU8VecU64VecU64ArrayU642ContainerBytes.load.Goals as goal
 

@@ -1,5 +1,5 @@
 use Rattle.std.proofs.Common.{rules}
-use Rattle.columnar_lookback.specs.Lookbacks.{bytes_format}
+use Rattle.columnar_base.specs.Elements.{bytes_format}
 use Rattle.columnar_lookback.specs.LookbackLaws.{same_lookbacks}
 use Rattle.columnar_lookback.proofs.lookbacks.grow.LookbacksVecU8VecU64VecU64ArrayU642Borrow.borrow.Goals as goal
 

@@ -2,7 +2,7 @@ use Rattle.std.proofs.Common.{rules, ◌≡◌, ◌-◌, [], ◌∷◌, length, 
 use Rattle.std.specs.Int.{to_le_bytes, w8}
 use Rattle.std.proofs.lemmas.Result.{on_ok_weaker, IfErr-weaker}
 use Rattle.columnar_base.specs.ChangeLaws.{took_more}
-use Rattle.columnar_base.specs.Elements.{elements}
+use Rattle.columnar_base.specs.Elements.{elements, bytes_format}
 use Rattle.columnar_base.specs.ElementLaws.{elements_lawful}
 use Rattle.columnar_base.specs.Numbers.{unsigned_row_of}
 use Rattle.columnar_base.specs.WordViews.{view_bytes}
@@ -10,7 +10,7 @@ use Rattle.columnar_sums.specs.RankColumns.{ranks_bits, ranks_content}
 use Rattle.columnar_sums.specs.Results.{weave_results}
 use Rattle.columnar_lookback.specs.Recall.{recall}
 use Rattle.columnar_lookback.specs.RecallLaws.{length-recall, recall_nothing, took_no_row, copied_rows, refused_rows, rows_kept}
-use Rattle.columnar_lookback.specs.Lookbacks.{bytes_format, lookbacks_code, owned_lookbacks}
+use Rattle.columnar_lookback.specs.Lookbacks.{lookbacks_code, owned_lookbacks}
 use Rattle.columnar_lookback.specs.KeptLaws.{kept_none, kept_step, kept_front}
 use Rattle.columnar_lookback.specs.LookbackLaws.{elements_plain, lookbacks_lawful, lookbacks_results, lookbacks_copied_front, lookbacks_refused_range}
 use Rattle.columnar_lookback.proofs.lookbacks.grow.LookbacksVecU8VecU64VecU64ArrayU642ExtendFromLookbacksRefSliceU8ViewU64ViewU64ViewU64.extend_from_self.Goals as goal

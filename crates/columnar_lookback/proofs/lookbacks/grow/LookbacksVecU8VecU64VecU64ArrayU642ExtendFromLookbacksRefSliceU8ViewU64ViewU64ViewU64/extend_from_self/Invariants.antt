@@ -1,12 +1,12 @@
 use Rattle.std.proofs.Common.{◌≡◌, ◌-◌, ◌++◌, [], take, drop}
 use Rattle.std.specs.Int.{to_le_bytes, w8}
 use Rattle.columnar_base.specs.Change.{Took}
-use Rattle.columnar_base.specs.Elements.{elements}
+use Rattle.columnar_base.specs.Elements.{elements, bytes_format}
 use Rattle.columnar_base.specs.WordViews.{view_bytes}
 use Rattle.columnar_sums.specs.RankColumns.{ranks_bits, ranks_content}
 use Rattle.columnar_sums.specs.Results.{weave_results}
 use Rattle.columnar_lookback.specs.Recall.{recall}
-use Rattle.columnar_lookback.specs.Lookbacks.{bytes_format, lookbacks_code, lookbacks_format, kept_rows, nearest_each, owned_lookbacks, values_back}
+use Rattle.columnar_lookback.specs.Lookbacks.{lookbacks_code, lookbacks_format, kept_rows, nearest_each, owned_lookbacks, values_back}
 use Rattle.columnar_lookback.proofs.lookbacks.grow.LookbacksVecU8VecU64VecU64ArrayU642ExtendFromLookbacksRefSliceU8ViewU64ViewU64ViewU64.extend_from_self.Given as goal
 
 abbrev pub invariant-loop-i : goal.invariant-loop-i

@@ -3,7 +3,7 @@ use Rattle.std.specs.Int.{w8}
 use Rattle.std.proofs.lemmas.Result.{on_ok_weaker, IfErr-weaker}
 use Rattle.columnar_base.specs.Row.{ok, err}
 use Rattle.columnar_base.specs.Numbers.{unsigned_row, unsigned_row_of}
-use Rattle.columnar_lookback.specs.Lookbacks.{bytes_format}
+use Rattle.columnar_base.specs.Elements.{bytes_format}
 use Rattle.columnar_lookback.specs.LookbackLaws.{elements_plain, lookbacks_results, values_pushed, byte_pushed, nearest_below, lookbacks_took_value, lookbacks_took_byte, lookbacks_refused_value, lookbacks_refused_byte}
 use Rattle.columnar_lookback.specs.KeptLaws.{pushed_value, pushed_byte}
 use Rattle.columnar_lookback.proofs.lookbacks.grow.LookbacksVecU8VecU64VecU64ArrayU642Push.push.Goals as goal

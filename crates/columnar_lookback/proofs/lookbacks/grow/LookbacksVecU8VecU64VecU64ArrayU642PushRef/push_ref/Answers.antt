@@ -6,7 +6,7 @@ use Rattle.columnar_base.specs.Row.{ok, err}
 use Rattle.columnar_base.specs.Numbers.{unsigned_row, unsigned_row_of}
 use Rattle.columnar_sums.specs.MarkedLaws.{on_ok_both}
 use Rattle.columnar_sums.specs.ResultLaws.{results_took_ok, results_took_err, results_refused_ok, results_refused_err}
-use Rattle.columnar_lookback.specs.Lookbacks.{bytes_format}
+use Rattle.columnar_base.specs.Elements.{bytes_format}
 use Rattle.columnar_lookback.specs.LookbackLaws.{elements_plain, lookbacks_results, values_pushed, byte_pushed, lookbacks_values, nearest_below, lookbacks_took_value, lookbacks_took_byte, lookbacks_refused_value, lookbacks_refused_byte}
 use Rattle.columnar_lookback.specs.KeptLaws.{pushed_value, pushed_byte}
 use Rattle.columnar_lookback.proofs.lookbacks.grow.LookbacksVecU8VecU64VecU64ArrayU642PushRef.push_ref.Goals as goal

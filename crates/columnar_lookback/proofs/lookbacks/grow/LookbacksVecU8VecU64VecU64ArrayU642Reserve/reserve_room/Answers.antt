@@ -1,5 +1,6 @@
 use Rattle.columnar_sums.specs.Results.{results_format}
-use Rattle.columnar_lookback.specs.Lookbacks.{bytes_format, lookbacks_code}
+use Rattle.columnar_lookback.specs.Lookbacks.{lookbacks_code}
+use Rattle.columnar_base.specs.Elements.{bytes_format}
 use Rattle.columnar_lookback.specs.LookbackLaws.{lookbacks_results}
 use Rattle.columnar_lookback.specs.RecallLaws.{recall_stayed}
 use Rattle.columnar_lookback.proofs.lookbacks.grow.LookbacksVecU8VecU64VecU64ArrayU642Reserve.reserve_room.Goals as goal

@@ -1,5 +1,5 @@
 use Rattle.columnar_lists.specs.ListLaws.{lists_parts}
-use Rattle.columnar_strings.specs.Strings.{bytes_format}
+use Rattle.columnar_base.specs.Elements.{bytes_format}
 use Rattle.columnar_strings.proofs.string.walk.StringIter.new.Goals as goal
 
 pub of-ranges-requires : goal.of-ranges-requires

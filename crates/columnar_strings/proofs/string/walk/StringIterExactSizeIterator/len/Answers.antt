@@ -1,8 +1,7 @@
 use Rattle.std.proofs.Common.{sym, ◌∙◌}
 use Rattle.std.specs.Int.{to_le_bytes, w8}
-use Rattle.columnar_base.specs.Elements.{elements}
+use Rattle.columnar_base.specs.Elements.{elements, bytes_format}
 use Rattle.columnar_lists.specs.WalkLaws.{length-left}
-use Rattle.columnar_strings.specs.Strings.{bytes_format}
 use Rattle.columnar_strings.proofs.string.walk.StringIterExactSizeIterator.len.Goals as goal
 
 pub returns-clause-value : goal.returns-clause-value

@@ -1,9 +1,8 @@
 use Rattle.std.proofs.Common.{ap, arith, length}
 use Rattle.std.specs.Int.{to_le_bytes, w8}
-use Rattle.columnar_base.specs.Elements.{elements}
+use Rattle.columnar_base.specs.Elements.{elements, bytes_format}
 use Rattle.columnar_lists.specs.ListLaws.{lists_parts}
 use Rattle.columnar_lists.specs.WalkLaws.{lists_over}
-use Rattle.columnar_strings.specs.Strings.{bytes_format}
 use Rattle.columnar_strings.specs.StringLaws.{string_within}
 use Rattle.columnar_strings.specs.StringWalkLaws.{string_next}
 use Rattle.columnar_strings.proofs.string.walk.StringIterIterator.next.Goals as goal

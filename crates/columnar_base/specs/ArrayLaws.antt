@@ -54,10 +54,10 @@ array_size_is size (suc n) s p e l =
     (cases_lt size (2 ^ 64))
 
 -- what is left of two arrays decides whether they are equal
-abbrev pub RestDecides : {T : Type 0} → (T → Row) → List T → List T → Bool → ℕ → Type 0
-RestDecides meaning xs ys answer i = answer ≡ row_eq (list (map meaning (drop i xs))) (list (map meaning (drop i ys)))
+abbrev pub RestDecidesArrays : {T : Type 0} → (T → Row) → List T → List T → Bool → ℕ → Type 0
+RestDecidesArrays meaning xs ys answer i = answer ≡ row_eq (list (map meaning (drop i xs))) (list (map meaning (drop i ys)))
 
-pub rest_first : {T : Type 0} {size : ℕ} {bytes : T → List ℕ} {row_of : List ℕ → Row} {meaning : T → Row} (n : ℕ) → IsElement size bytes row_of meaning → (xs ys : List T) → length xs ≡ n → length ys ≡ n → RestDecides meaning xs ys (row_eq (array_row n size bytes row_of xs) (array_row n size bytes row_of ys)) 0
+pub rest_first : {T : Type 0} {size : ℕ} {bytes : T → List ℕ} {row_of : List ℕ → Row} {meaning : T → Row} (n : ℕ) → IsElement size bytes row_of meaning → (xs ys : List T) → length xs ≡ n → length ys ≡ n → RestDecidesArrays meaning xs ys (row_eq (array_row n size bytes row_of xs) (array_row n size bytes row_of ys)) 0
 rest_first n e xs ys l m = rw (array_row_is n e xs l, array_row_is n e ys m) refl
 
 -- an array that was read from bytes has these bytes

@@ -82,8 +82,8 @@ pub length-typed : {T : Type 0} {size : ℕ} {bytes : T → List ℕ} {row_of : 
 length-typed {T} {size} {bytes} {row_of} {meaning} e xs = rw (rows_typed e xs) (length-map xs meaning)
 
 -- row i of a slice of bytes
-pub row_at : (size : ℕ) (row_of : List ℕ → Row) (bs : List ℕ) (i : ℕ) → i < length (elements_rows size row_of (slice bs)) → slice_get (elements_rows size row_of (slice bs)) i ≡ Some (row_of (take size (drop (size * i) bs)))
-row_at size row_of bs i l =
+pub element_row_at : (size : ℕ) (row_of : List ℕ → Row) (bs : List ℕ) (i : ℕ) → i < length (elements_rows size row_of (slice bs)) → slice_get (elements_rows size row_of (slice bs)) i ≡ Some (row_of (take size (drop (size * i) bs)))
+element_row_at size row_of bs i l =
     let k : i < length bs / size = rw (length-elements size row_of bs) at l in
     rw (slice_get-map, pieces_get size (length bs / size) i bs k) refl
 
@@ -208,7 +208,7 @@ typed_fine {T} {size} {bytes} row_of e xs o = rw (elements_sound {align = 1} row
 pub row_read : {T : Type 0} {size : ℕ} {bytes : T → List ℕ} {row_of : List ℕ → Row} {meaning : T → Row} → IsElement size bytes row_of meaning → (bs : List ℕ) (i : ℕ) (x : T) → i < length (elements_rows size row_of (slice bs)) → bytes x ≡ take size (drop (size * i) bs) → slice_get (elements_rows size row_of (slice bs)) i ≡ Some (meaning x)
 row_read {T} {size} {bytes} {row_of} {meaning} e bs i x l h =
     let m : row_of (take size (drop (size * i) bs)) ≡ meaning x = rw (← h) (e.read_back x) in
-    rw (row_at size row_of bs i l, m) refl
+    rw (element_row_at size row_of bs i l, m) refl
 
 take_none : (n : ℕ) → take {A = ℕ} n [] ≡ []
 take_none zero = refl

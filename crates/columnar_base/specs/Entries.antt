@@ -20,12 +20,12 @@ abbrev pub piece : Format → Content → ℕ → ℕ → Entry
 piece f c start stop = record { start = start; rows = take (stop - start) (drop start (f.rows c)) }
 
 -- the same of each part
-abbrev pub pieces : Format → List Format → Content → ℕ → ℕ → List Entry
-pieces a [] c start stop = piece a c start stop ∷ []
-pieces a (b ∷ fs) (both x y) start stop = piece a x start stop ∷ pieces b fs y start stop
-pieces a (b ∷ fs) (slice bs) start stop = []
-pieces a (b ∷ fs) (part l u x) start stop = []
-pieces a (b ∷ fs) (plain rs) start stop = []
+abbrev pub entry_pieces : Format → List Format → Content → ℕ → ℕ → List Entry
+entry_pieces a [] c start stop = piece a c start stop ∷ []
+entry_pieces a (b ∷ fs) (both x y) start stop = piece a x start stop ∷ entry_pieces b fs y start stop
+entry_pieces a (b ∷ fs) (slice bs) start stop = []
+entry_pieces a (b ∷ fs) (part l u x) start stop = []
+entry_pieces a (b ∷ fs) (plain rs) start stop = []
 
 -- rows that a well formed view has
 pub record HasPiece (f : Format) (c : Content) (start stop : ℕ) : Type 0 where
@@ -45,9 +45,9 @@ Level p [] = Unit {0}
 Level p (q ∷ qs) = (length p.rows ≡ length q.rows) × (p.start ≡ q.start) × Level q qs
 
 -- what the whole is given
-abbrev pub joined : Entry → List Entry → Entry
-joined p [] = p
-joined p (q ∷ qs) = record { start = p.start; rows = tuples p.rows (joined q qs).rows }
+abbrev pub joined_entry : Entry → List Entry → Entry
+joined_entry p [] = p
+joined_entry p (q ∷ qs) = record { start = p.start; rows = tuples p.rows (joined_entry q qs).rows }
 
 -- Rows that are alike to those of the entry were added; a front, copied into an empty column, is there as it was.
 abbrev pub Entered : Format → Content → Content → Entry → Type 0

@@ -9,7 +9,7 @@ use Rattle.columnar_base.specs.Tuples.{tuples}
 use Rattle.columnar_base.specs.TupleLaws.{length-tuples, length-piece, tuples-drop, tuples-take, pair_parts, pair_copied, pair_refused_left, pair_refused_right}
 use Rattle.columnar_base.specs.LongTuples.{nested, tuple_format, PartOf, Parts}
 use Rattle.columnar_base.specs.LongTupleLaws.{tuple_same, tuple_parts, under_took, under_copied, under_refused, up_to}
-use Rattle.columnar_base.specs.Entries.{Entry, pushed, piece, pieces, HasPiece, HavePieces, Level, joined, Entered}
+use Rattle.columnar_base.specs.Entries.{Entry, pushed, piece, entry_pieces, HasPiece, HavePieces, Level, joined_entry, Entered}
 
 -- one item, pushed
 
@@ -23,15 +23,15 @@ pushed_on_ok f old new r (Err e) h = tt
 
 -- one part, and then the others
 
-length-joined : (p : Entry) (qs : List Entry) → Level p qs → length (joined p qs).rows ≡ length p.rows
+length-joined : (p : Entry) (qs : List Entry) → Level p qs → length (joined_entry p qs).rows ≡ length p.rows
 length-joined p [] h = refl
-length-joined p (q ∷ qs) h = length-tuples p.rows (joined q qs).rows (h.0 ∙ sym (length-joined q qs h.2))
+length-joined p (q ∷ qs) h = length-tuples p.rows (joined_entry q qs).rows (h.0 ∙ sym (length-joined q qs h.2))
 
 -- the first part is given as many rows as the others
-level_rows : (p q : Entry) (qs : List Entry) → Level p (q ∷ qs) → length p.rows ≡ length (joined q qs).rows
+level_rows : (p q : Entry) (qs : List Entry) → Level p (q ∷ qs) → length p.rows ≡ length (joined_entry q qs).rows
 level_rows p q qs h = h.0 ∙ sym (length-joined q qs h.2)
 
-joined_start : (q : Entry) (qs : List Entry) → (joined q qs).start ≡ q.start
+joined_start : (q : Entry) (qs : List Entry) → (joined_entry q qs).start ≡ q.start
 joined_start q [] = refl
 joined_start q (r ∷ qs) = refl
 
@@ -41,18 +41,18 @@ first_sound a b fs s = (pair_parts a (nested b fs) s).left
 pub others_sound : (a b : Format) (fs : List Format) {x y : Content} → IsSound (nested a (b ∷ fs)) (both x y) → IsSound (nested b fs) y
 others_sound a b fs s = (pair_parts a (nested b fs) s).right
 
-pub next_entered : (a b : Format) (fs : List Format) {x y v w : Content} (p q : Entry) (qs : List Entry) → IsSound (nested a (b ∷ fs)) (both x y) → Level p (q ∷ qs) → Entered a x v p → Entered (nested b fs) y w (joined q qs) → Entered (nested a (b ∷ fs)) (both x y) (both v w) (joined p (q ∷ qs))
+pub next_entered : (a b : Format) (fs : List Format) {x y v w : Content} (p q : Entry) (qs : List Entry) → IsSound (nested a (b ∷ fs)) (both x y) → Level p (q ∷ qs) → Entered a x v p → Entered (nested b fs) y w (joined_entry q qs) → Entered (nested a (b ∷ fs)) (both x y) (both v w) (joined_entry p (q ∷ qs))
 next_entered a b fs {x} {y} {v} {w} p q qs s l g h =
-    let e : (joined q qs).start ≡ p.start = joined_start q qs ∙ sym l.1 in
+    let e : (joined_entry q qs).start ≡ p.start = joined_start q qs ∙ sym l.1 in
     pair_copied a (nested b fs) p.start s (level_rows p q qs l) g (rw e at h)
 
 -- The first part refused what it was given, and nothing was done to the others.
-pub first_refused : (a b : Format) (fs : List Format) {x y v : Content} (p q : Entry) (qs : List Entry) {error : GrowError} → IsSound (nested a (b ∷ fs)) (both x y) → Level p (q ∷ qs) → Refused a x v p.rows error → Refused (nested a (b ∷ fs)) (both x y) (both v y) (joined p (q ∷ qs)).rows error
-first_refused a b fs p q qs s l g = pair_refused_left a (nested b fs) p.rows (joined q qs).rows s (level_rows p q qs l) g (unchanged (others_sound a b fs s))
+pub first_refused : (a b : Format) (fs : List Format) {x y v : Content} (p q : Entry) (qs : List Entry) {error : GrowError} → IsSound (nested a (b ∷ fs)) (both x y) → Level p (q ∷ qs) → Refused a x v p.rows error → Refused (nested a (b ∷ fs)) (both x y) (both v y) (joined_entry p (q ∷ qs)).rows error
+first_refused a b fs p q qs s l g = pair_refused_left a (nested b fs) p.rows (joined_entry q qs).rows s (level_rows p q qs l) g (unchanged (others_sound a b fs s))
 
 -- The others refused what they were given, and the first was cut back.
-pub others_refused : (a b : Format) (fs : List Format) {x y m v w : Content} (p q : Entry) (qs : List Entry) {error : GrowError} → IsLawful a → IsSound (nested a (b ∷ fs)) (both x y) → Level p (q ∷ qs) → Entered a x m p → WasCut a m v (length (a.rows x)) → Refused (nested b fs) y w (joined q qs).rows error → Refused (nested a (b ∷ fs)) (both x y) (both v w) (joined p (q ∷ qs)).rows error
-others_refused a b fs p q qs law s l g k h = pair_refused_right a (nested b fs) p.rows (joined q qs).rows s (level_rows p q qs l) (undone law (first_sound a b fs s) g.took.grew k) h
+pub others_refused : (a b : Format) (fs : List Format) {x y m v w : Content} (p q : Entry) (qs : List Entry) {error : GrowError} → IsLawful a → IsSound (nested a (b ∷ fs)) (both x y) → Level p (q ∷ qs) → Entered a x m p → WasCut a m v (length (a.rows x)) → Refused (nested b fs) y w (joined_entry q qs).rows error → Refused (nested a (b ∷ fs)) (both x y) (both v w) (joined_entry p (q ∷ qs)).rows error
+others_refused a b fs p q qs law s l g k h = pair_refused_right a (nested b fs) p.rows (joined_entry q qs).rows s (level_rows p q qs l) (undone law (first_sound a b fs s) g.took.grew k) h
 
 -- what a push of all parts answers, said of the tuple
 pub took_on_ok : {T : Type 0} (a b : Format) (fs : List Format) (x y : Content) (p : Entry) (r : Result T GrowError) → OnOk r (Entered (nested a (b ∷ fs)) x y p) → OnOk r (Took (tuple_format a b fs) x y p.rows)
@@ -75,14 +75,14 @@ have_pieces a (b ∷ fs) (plain rs) n start stop p o l = absurd p
 pub tuple_pieces : (a b : Format) (fs : List Format) {x y : Content} (start stop : ℕ) → IsSound (tuple_format a b fs) (both x y) → start ≤ stop → stop ≤ length (tuples (a.rows x) ((nested b fs).rows y)) → HavePieces a (b ∷ fs) (both x y) start stop
 tuple_pieces a b fs {x} {y} start stop s o l = have_pieces a (b ∷ fs) (both x y) (length (tuples (a.rows x) ((nested b fs).rows y))) start stop (tuple_parts a b fs s) o l
 
-pieces_level : (a : Format) (x : Content) (b : Format) (fs : List Format) (c : Content) (n start stop : ℕ) → PartOf a x n → Parts b fs c n → Level (piece a x start stop) (pieces b fs c start stop)
+pieces_level : (a : Format) (x : Content) (b : Format) (fs : List Format) (c : Content) (n start stop : ℕ) → PartOf a x n → Parts b fs c n → Level (piece a x start stop) (entry_pieces b fs c start stop)
 pieces_level a x b [] c n start stop g h = (length-piece (a.rows x) (b.rows c) start (stop - start) (g.level ∙ sym h.level), refl, tt)
 pieces_level a x b (d ∷ fs) (both y z) n start stop g h = (length-piece (a.rows x) (b.rows y) start (stop - start) (g.level ∙ sym h.0.level), refl, pieces_level b y d fs z n start stop h.0 h.1)
 pieces_level a x b (d ∷ fs) (slice bs) n start stop g h = absurd h
 pieces_level a x b (d ∷ fs) (part l u y) n start stop g h = absurd h
 pieces_level a x b (d ∷ fs) (plain rs) n start stop g h = absurd h
 
-pieces_joined : (a : Format) (x : Content) (b : Format) (fs : List Format) (c : Content) (n start stop : ℕ) → Parts b fs c n → (joined (piece a x start stop) (pieces b fs c start stop)).rows ≡ take (stop - start) (drop start (tuples (a.rows x) ((nested b fs).rows c)))
+pieces_joined : (a : Format) (x : Content) (b : Format) (fs : List Format) (c : Content) (n start stop : ℕ) → Parts b fs c n → (joined_entry (piece a x start stop) (entry_pieces b fs c start stop)).rows ≡ take (stop - start) (drop start (tuples (a.rows x) ((nested b fs).rows c)))
 pieces_joined a x b [] c n start stop h = rw (tuples-drop, tuples-take) refl
 pieces_joined a x b (d ∷ fs) (both y z) n start stop h = rw (tuples-drop start (a.rows x), tuples-take (stop - start) (drop start (a.rows x)), pieces_joined b y d fs z n start stop h.1) refl
 pieces_joined a x b (d ∷ fs) (slice bs) n start stop h = absurd h
@@ -90,20 +90,20 @@ pieces_joined a x b (d ∷ fs) (part l u y) n start stop h = absurd h
 pieces_joined a x b (d ∷ fs) (plain rs) n start stop h = absurd h
 
 -- the views of the parts of a well formed view have as many rows
-pub views_level : (a b : Format) (fs : List Format) {x y : Content} (start stop : ℕ) → IsSound (tuple_format a b fs) (both x y) → Level (piece a x start stop) (pieces b fs y start stop)
+pub views_level : (a b : Format) (fs : List Format) {x y : Content} (start stop : ℕ) → IsSound (tuple_format a b fs) (both x y) → Level (piece a x start stop) (entry_pieces b fs y start stop)
 views_level a b fs {x} {y} start stop s =
     let p = tuple_parts a b fs s in
     pieces_level a x b fs y (length (tuples (a.rows x) ((nested b fs).rows y))) start stop p.0 p.1
 
-views_rows : (a b : Format) (fs : List Format) {x y : Content} (start stop : ℕ) → IsSound (tuple_format a b fs) (both x y) → (joined (piece a x start stop) (pieces b fs y start stop)).rows ≡ take (stop - start) (drop start (tuples (a.rows x) ((nested b fs).rows y)))
+views_rows : (a b : Format) (fs : List Format) {x y : Content} (start stop : ℕ) → IsSound (tuple_format a b fs) (both x y) → (joined_entry (piece a x start stop) (entry_pieces b fs y start stop)).rows ≡ take (stop - start) (drop start (tuples (a.rows x) ((nested b fs).rows y)))
 views_rows a b fs {x} {y} start stop s = pieces_joined a x b fs y (length (tuples (a.rows x) ((nested b fs).rows y))) start stop (tuple_parts a b fs s).1
 
 -- what a copy of all parts answers, said of the tuple
-pub copied_on_ok : {T : Type 0} (a b : Format) (fs : List Format) (c d : Content) (a' b' : Format) (fs' : List Format) {v w : Content} (start stop : ℕ) → IsSound (tuple_format a' b' fs') (both v w) → (r : Result T GrowError) → OnOk r (Entered (nested a (b ∷ fs)) c d (joined (piece a' v start stop) (pieces b' fs' w start stop))) → OnOk r (Copied (tuple_format a b fs) c d start (take (stop - start) (drop start (tuples (a'.rows v) ((nested b' fs').rows w)))))
+pub copied_on_ok : {T : Type 0} (a b : Format) (fs : List Format) (c d : Content) (a' b' : Format) (fs' : List Format) {v w : Content} (start stop : ℕ) → IsSound (tuple_format a' b' fs') (both v w) → (r : Result T GrowError) → OnOk r (Entered (nested a (b ∷ fs)) c d (joined_entry (piece a' v start stop) (entry_pieces b' fs' w start stop))) → OnOk r (Copied (tuple_format a b fs) c d start (take (stop - start) (drop start (tuples (a'.rows v) ((nested b' fs').rows w)))))
 copied_on_ok a b fs c d a' b' fs' {v} {w} start stop s (Ok u) h =
-    rw (joined_start (piece a' v start stop) (pieces b' fs' w start stop), views_rows a' b' fs' start stop s) at (under_copied (tuple_same a b fs) h)
+    rw (joined_start (piece a' v start stop) (entry_pieces b' fs' w start stop), views_rows a' b' fs' start stop s) at (under_copied (tuple_same a b fs) h)
 copied_on_ok a b fs c d a' b' fs' start stop s (Err e) h = tt
 
-pub copy_refused : {T : Type 0} (a b : Format) (fs : List Format) (c d : Content) (a' b' : Format) (fs' : List Format) {v w : Content} (start stop : ℕ) → IsSound (tuple_format a' b' fs') (both v w) → (r : Result T GrowError) → IfErr r (λ e. Refused (nested a (b ∷ fs)) c d (joined (piece a' v start stop) (pieces b' fs' w start stop)).rows e) → IfErr r (λ e. Refused (tuple_format a b fs) c d (take (stop - start) (drop start (tuples (a'.rows v) ((nested b' fs').rows w)))) e)
+pub copy_refused : {T : Type 0} (a b : Format) (fs : List Format) (c d : Content) (a' b' : Format) (fs' : List Format) {v w : Content} (start stop : ℕ) → IsSound (tuple_format a' b' fs') (both v w) → (r : Result T GrowError) → IfErr r (λ e. Refused (nested a (b ∷ fs)) c d (joined_entry (piece a' v start stop) (entry_pieces b' fs' w start stop)).rows e) → IfErr r (λ e. Refused (tuple_format a b fs) c d (take (stop - start) (drop start (tuples (a'.rows v) ((nested b' fs').rows w)))) e)
 copy_refused a b fs c d a' b' fs' start stop s (Ok u) h = tt
 copy_refused a b fs c d a' b' fs' start stop s (Err e) h = rw (views_rows a' b' fs' start stop s) at (under_refused (tuple_same a b fs) h)

@@ -48,12 +48,12 @@ refused_whole {f} {old} {mid} {new} {error} items law s h w = record {
 }
 
 -- the row of an item that was read
-pub row_at : {T : Type 0} (meaning : T → Row) (items : List T) (i : ℕ) (x : T) → i < length items → x ≡ get_or items i x → slice_get (map meaning items) i ≡ Some (meaning x)
-row_at meaning items i x l e = slice_get-map meaning items i ∙ ap (option_map meaning) (slice_get_read items (length items) i x refl l e)
+pub item_row_at : {T : Type 0} (meaning : T → Row) (items : List T) (i : ℕ) (x : T) → i < length items → x ≡ get_or items i x → slice_get (map meaning items) i ≡ Some (meaning x)
+item_row_at meaning items i x l e = slice_get-map meaning items i ∙ ap (option_map meaning) (slice_get_read items (length items) i x refl l e)
 
 -- a push that was refused at item i, after the items before it were taken, and then taken back
 pub items_refused : {T : Type 0} {f : Format} {old mid refused new : Content} {error : GrowError} (meaning : T → Row) (items : List T) (i : ℕ) (x : T) → IsLawful f → IsSound f old → i < length items → x ≡ get_or items i x → Took f old mid (take (i - 0) (drop 0 (map meaning items))) → Refused f mid refused (meaning x ∷ []) error → WasCut f refused new (length (f.rows old)) → Refused f old new (map meaning items) error
 items_refused meaning items i x law s l e t r w =
     let n : i < length (map meaning items) = rw (length-map items meaning) l in
     let z : length (map meaning items) - 0 ≡ length (map meaning items) = omega arith in
-    rw (z, take-length (map meaning items)) at (refused_more (map meaning items) 0 i (length (map meaning items)) (meaning x) law (omega arith) n (row_at meaning items i x l e) t r.cause (undone law s (grew_stayed t.grew r.stayed) w))
+    rw (z, take-length (map meaning items)) at (refused_more (map meaning items) 0 i (length (map meaning items)) (meaning x) law (omega arith) n (item_row_at meaning items i x l e) t r.cause (undone law s (grew_stayed t.grew r.stayed) w))

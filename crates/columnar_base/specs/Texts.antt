@@ -9,5 +9,5 @@ abbrev pub text_row : List ℕ → Row
 text_row bs = list (map (unsigned_row w8) bs)
 
 -- the bytes that a list of bytes has
-abbrev pub bytes_of : Row → List ℕ
-bytes_of r = map number_of (items_of r)
+abbrev pub text_bytes : Row → List ℕ
+text_bytes r = map number_of (items_of r)

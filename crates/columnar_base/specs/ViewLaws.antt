@@ -46,8 +46,8 @@ part_length size row_of bs lower upper o l =
     length-take-le (size * (upper - lower)) (drop (size * lower) bs) (omega (arith, e, length-drop (size * lower) bs, part_within size row_of bs upper l))
 
 -- the rows of the bytes of a range
-pub part_rows : (size : ℕ) (row_of : List ℕ → Row) (bs : List ℕ) (lower upper : ℕ) → 1 ≤ size → lower ≤ upper → upper ≤ length (elements_rows size row_of (slice bs)) → elements_rows size row_of (slice (take (size * (upper - lower)) (drop (size * lower) bs))) ≡ take (upper - lower) (drop lower (elements_rows size row_of (slice bs)))
-part_rows size row_of bs lower upper p o l =
+pub view_part_rows : (size : ℕ) (row_of : List ℕ → Row) (bs : List ℕ) (lower upper : ℕ) → 1 ≤ size → lower ≤ upper → upper ≤ length (elements_rows size row_of (slice bs)) → elements_rows size row_of (slice (take (size * (upper - lower)) (drop (size * lower) bs))) ≡ take (upper - lower) (drop lower (elements_rows size row_of (slice bs)))
+view_part_rows size row_of bs lower upper p o l =
     let n = upper - lower in
     let k = length bs / size - upper in
     let m : upper ≤ length bs / size = rw (length-elements size row_of bs) at l in

@@ -5,7 +5,7 @@ ghost use Rattle.columnar_base.specs.Format.{both, IsSound};
 ghost use Rattle.columnar_base.specs.Change.{Refused, Stayed, WasCut};
 ghost use Rattle.columnar_base.specs.Tuples.{pair_format};
 ghost use Rattle.columnar_base.specs.TupleLaws.{pair_lawful};
-ghost use Rattle.columnar_base.specs.Entries.{Entry, Entered, Level, joined, pushed};
+ghost use Rattle.columnar_base.specs.Entries.{Entry, Entered, Level, joined_entry, pushed};
 
 use crate::fault::GrowError;
 use crate::storage::{Reserve, Storage, Truncate};
@@ -232,8 +232,8 @@ pub fn enter_two<A: Truncate, B: Column, P: Enter<A>, Q: Enter<B> + Drop>(
     requires sound { IsSound (pair_format A.format B.format) (both (A.content first.old) (B.content second.old)) }
     requires valid { P.valid p × Q.valid q }
     requires level { Level (P.entry p) (Q.entry q ∷ []) }
-    ensures ok { OnOk result (Entered (pair_format A.format B.format) (both (A.content first.old) (B.content second.old)) (both (A.content first.new) (B.content second.new)) (joined (P.entry p) (Q.entry q ∷ []))) }
-    ensures err { IfErr result (λ e. Refused (pair_format A.format B.format) (both (A.content first.old) (B.content second.old)) (both (A.content first.new) (B.content second.new)) (joined (P.entry p) (Q.entry q ∷ [])).rows e) }
+    ensures ok { OnOk result (Entered (pair_format A.format B.format) (both (A.content first.old) (B.content second.old)) (both (A.content first.new) (B.content second.new)) (joined_entry (P.entry p) (Q.entry q ∷ []))) }
+    ensures err { IfErr result (λ e. Refused (pair_format A.format B.format) (both (A.content first.old) (B.content second.old)) (both (A.content first.new) (B.content second.new)) (joined_entry (P.entry p) (Q.entry q ∷ [])).rows e) }
 {
     let before = first.len();
     p.enter(first)?;

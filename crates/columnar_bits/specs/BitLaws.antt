@@ -295,8 +295,8 @@ number_back n (suc c) h =
     ap number_of_bits (truths_suc (bit n) (bit (n / 2)) c (λ j. sym (bit_shr n 1 j))) ∙
     ap₂ (λ (x y : ℕ). x + 2 * y) (low_bit n) (number_back (n / 2) c l) ∙ (omega arith)
 
-pub number_of : (n c : ℕ) (bs : List Bool) → n < 2 ^ c → truths (bit n) c ≡ bs → n ≡ number_of_bits bs
-number_of n c bs h e = sym (number_back n c h) ∙ ap number_of_bits e
+pub bits_number : (n c : ℕ) (bs : List Bool) → n < 2 ^ c → truths (bit n) c ≡ bs → n ≡ number_of_bits bs
+bits_number n c bs h e = sym (number_back n c h) ∙ ap number_of_bits e
 
 -- the lowest k bits cleared
 pub cleared_low : (n k j : ℕ) → k < 64 → j < k → bit (n / 2 ^ k * 2 ^ k % 2 ^ 64) j ≡ false

@@ -27,13 +27,13 @@ abbrev pub OfGrow : EitherFault → (GrowError → Type 0) → Type 0
 OfGrow (Store e) p = Unit {0}
 OfGrow (Grow e) p = p e
 
-abbrev pub IsStore : EitherFault → Type 0
-IsStore (Store e) = Unit {0}
-IsStore (Grow e) = ⊥
+abbrev pub IsOfStore : EitherFault → Type 0
+IsOfStore (Store e) = Unit {0}
+IsOfStore (Grow e) = ⊥
 
 abbrev pub IsStoreFault : {A : Type 0} → Result A EitherFault → Type 0
 IsStoreFault (Ok x) = ⊥
-IsStoreFault (Err f) = IsStore f
+IsStoreFault (Err f) = IsOfStore f
 
 abbrev pub IfStore : {A : Type 0} → Result A EitherFault → (StoreFault → Type 0) → Type 0
 IfStore (Ok x) p = Unit {0}

@@ -121,8 +121,8 @@ IsChange f source old new (truncate n) = WasCut f old new n
 IsChange f source old new _ = new ≡ old
 
 -- The bytes of the content's encoding can be counted in 64 bits.
-abbrev pub IsCounted : Content → Type 0
-IsCounted c = 8 * length (words (slices_of c)) < 2 ^ 64
+abbrev pub CanBeCounted : Content → Type 0
+CanBeCounted c = 8 * length (words (slices_of c)) < 2 ^ 64
 
 -- The order was in range, and the machine's step was taken: the rows are the machine's up to alike, the content is
 -- what the order makes of it, the variant is the order's, and what is then written is the encoding.
@@ -132,7 +132,7 @@ pub record IsStep (f : Format) (source : List Row) (old new : State) (order : Or
   pub change : IsChange f source old.content new.content order
   pub variant : new.variant ≡ variant_after order
   pub written : new.written ≡ store_bytes (slices_of new.content)
-  pub counted : encodes old.variant order ≡ true → IsCounted old.content
+  pub counted : encodes old.variant order ≡ true → CanBeCounted old.content
 
 -- Rows, lengths of all parts and variant are as before; bytes stay wholly as they were.
 pub record IsUnchanged (f : Format) (old new : State) : Type 0 where
@@ -151,7 +151,7 @@ pub record IsRefusedGrowth (f : Format) (source : List Row) (old new : State) (o
 
 -- Length stands for an encoding whose bytes pass 2^64 - 1, Memory for one that can be counted.
 abbrev pub IsCauseOf : EncodeError → Content → Type 0
-IsCauseOf NoMemory c = IsCounted c
+IsCauseOf NoMemory c = CanBeCounted c
 IsCauseOf TooLong c = 2 ^ 64 ≤ 8 * length (words (slices_of c))
 
 -- The order makes an encoding, the error is true of it, and all is as it was.

@@ -35,9 +35,9 @@ written_accepted f c law n l s =
 pub written_again : (f : Format) (c : Content) → IsStorable f → 8 * length (words (slices_of c)) < 2 ^ 64 → IsSound f c → f.build (framed_slices (store_bytes (slices_of c))) ≡ c
 written_again f c law l s = rw (slices-store_bytes (slices_of c) l) (built_again f c law s)
 
-pub left_of : {E : Type 0} (old new : Option (List ℕ)) (slices : List (List ℕ)) (fault : WriteFault E) → IsLeftBy old new slices fault → IsLeftOf old new (store_bytes slices) fault
-left_of old new slices Length h = (rw (length-store_bytes slices) h.0, h.1)
-left_of old new slices (Writer e) h = (rw (length-store_bytes slices) h.0, h.1)
+pub left_by : {E : Type 0} (old new : Option (List ℕ)) (slices : List (List ℕ)) (fault : WriteFault E) → IsLeftBy old new slices fault → IsLeftOf old new (store_bytes slices) fault
+left_by old new slices Length h = (rw (length-store_bytes slices) h.0, h.1)
+left_by old new slices (Writer e) h = (rw (length-store_bytes slices) h.0, h.1)
 
 -- the same of what a writing answers
 pub counted_on_ok : {T E : Type 0} (r : Result T E) (slices : List (List ℕ)) → OnOk r (8 * length (words slices) < 2 ^ 64) → OnOk r (length (store_bytes slices) < 2 ^ 64)
@@ -50,7 +50,7 @@ pub again_on_ok : {T E : Type 0} (r : Result T E) (f : Format) (c : Content) →
 again_on_ok r f c law h = on_ok_weaker {P = 8 * length (words (slices_of c)) < 2 ^ 64} {Q = IsSound f c → f.build (framed_slices (store_bytes (slices_of c))) ≡ c} r (λ l s. written_again f c law l s) h
 
 pub left_if_err : {T E : Type 0} (r : Result T (WriteFault E)) (old new : Option (List ℕ)) (slices : List (List ℕ)) → IfErr r (IsLeftBy old new slices) → IfErr r (IsLeftOf old new (store_bytes slices))
-left_if_err r old new slices h = IfErr-weaker r (IsLeftBy old new slices) (IsLeftOf old new (store_bytes slices)) (λ fault k. left_of old new slices fault k) h
+left_if_err r old new slices h = IfErr-weaker r (IsLeftBy old new slices) (IsLeftOf old new (store_bytes slices)) (λ fault k. left_by old new slices fault k) h
 
 -- a stash has as many slices as the type
 pub stash_counted : {C B : Type 0} {column : ColumnOf C} {store : BytesOf B} → IsStorable column.format → ((c : C) → length (slices_of (column.content c)) ≡ column.format.count) → (s : Stash C B column store) → length (slices_of (stash_content s)) ≡ column.format.count

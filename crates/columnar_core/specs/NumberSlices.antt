@@ -28,15 +28,15 @@ bytes_from i (suc k) n (suc j) = bytes_from (suc i) k n j
 pub bytes_of_number : (w : Width) (n : ℕ) → AreBytes (to_le_bytes w n)
 bytes_of_number w n = bytes_from 0 (byte_len w) n
 
-pub bytes_of_all : {T : Type 0} (bytes : T → List ℕ) → ((x : T) → AreBytes (bytes x)) → (xs : List T) → AreBytes (flat_map bytes xs)
-bytes_of_all bytes h [] i = omega arith
-bytes_of_all bytes h (x ∷ xs) i = bytes_of_both (bytes x) (flat_map bytes xs) (h x) (bytes_of_all bytes h xs) i
+pub all_are_bytes : {T : Type 0} (bytes : T → List ℕ) → ((x : T) → AreBytes (bytes x)) → (xs : List T) → AreBytes (flat_map bytes xs)
+all_are_bytes bytes h [] i = omega arith
+all_are_bytes bytes h (x ∷ xs) i = bytes_of_both (bytes x) (flat_map bytes xs) (h x) (all_are_bytes bytes h xs) i
 
 -- the bytes of numbers, which a slice is made of
 pub are_counted : {T : Type 0} (w : Width) (number : T → ℕ) (xs : List T) (count : ℕ) → count ≡ byte_len w * length xs → IsCounted count (flat_map (λ x. to_le_bytes w (number x)) xs)
 are_counted w number xs count e = record {
   number = e ∙ sym (length-flat (byte_len w) (λ x. to_le_bytes w (number x)) (λ x. length-number w (number x)) xs);
-  bytes = bytes_of_all (λ x. to_le_bytes w (number x)) (λ x. bytes_of_number w (number x)) xs;
+  bytes = all_are_bytes (λ x. to_le_bytes w (number x)) (λ x. bytes_of_number w (number x)) xs;
 }
 
 pub counted_unsigned : (w : Width) (xs : List ℕ) (count : ℕ) → count ≡ byte_len w * length xs → IsCounted count (flat_map (to_le_bytes w) xs)

@@ -315,8 +315,8 @@ pub record RangeOf (b t : Format) (x y : Content) (start end lower upper : ℕ) 
   pub ordered : lower ≤ upper
   pub within : upper ≤ length (t.rows y)
 
-pub range_of : (b t : Format) {x y : Content} (start end : ℕ) {lower upper : ℕ} → IsSound (lists_format b t) (both x y) → start ≤ end → slice_get (0 ∷ numbers (b.rows x)) start ≡ Some lower → slice_get (0 ∷ numbers (b.rows x)) end ≡ Some upper → RangeOf b t x y start end lower upper
-range_of b t {x} {y} start end {lower} {upper} s o p q =
+pub list_range : (b t : Format) {x y : Content} (start end : ℕ) {lower upper : ℕ} → IsSound (lists_format b t) (both x y) → start ≤ end → slice_get (0 ∷ numbers (b.rows x)) start ≡ Some lower → slice_get (0 ∷ numbers (b.rows x)) end ≡ Some upper → RangeOf b t x y start end lower upper
+list_range b t {x} {y} start end {lower} {upper} s o p q =
     let z = lists_parts b t s in
     let l : last_or 0 (take start (numbers (b.rows x))) ≡ lower = last_at start 0 (numbers (b.rows x)) lower p in
     let u : last_or 0 (take end (numbers (b.rows x))) ≡ upper = last_at end 0 (numbers (b.rows x)) upper q in

@@ -5,7 +5,7 @@ use Rattle.columnar_core.specs.Bounds.{numbers}
 use Rattle.columnar_lists.specs.declared.walk.Ranges.{Ranges}
 
 -- the walk stands before one of the lists that these offsets bound, or after the last
-pub record Stands (rs : List Row) (place : Ranges) : Type 0 where
+pub record WalkStands (rs : List Row) (place : Ranges) : Type 0 where
   pub count : place.count ≡ length rs
   pub within : place.index ≤ length rs
   pub start : slice_get (0 ∷ numbers rs) place.index ≡ Some place.start

@@ -5,7 +5,7 @@ ghost use Rattle.columnar_base.specs.Row.{number};
 ghost use Rattle.columnar_base.specs.Format.{both, IsSound};
 ghost use Rattle.columnar_core.specs.Bounds.{numbers};
 ghost use Rattle.columnar_lists.specs.Lists.{lists_format};
-ghost use Rattle.columnar_lists.specs.Walks.{Stands};
+ghost use Rattle.columnar_lists.specs.Walks.{WalkStands};
 
 use columnar_base::traits::{Column, Index, Item, Len};
 use columnar_core::offsets::Offsets;
@@ -23,7 +23,7 @@ impl Ranges {
     /// Before the first list.
     pub fn of<BC: Offsets>(bounds: &BC) -> Ranges
         requires { IsSound BC.format (BC.content bounds.now) }
-        ensures stands { Stands (BC.format.rows (BC.content bounds.now)) result }
+        ensures stands { WalkStands (BC.format.rows (BC.content bounds.now)) result }
         ensures first { result.index ≡ 0 }
     {
         Ranges {
@@ -36,12 +36,12 @@ impl Ranges {
     /// Where the next list begins, and where it ends; None after the last. Asks that the bounds are those of this walk.
     pub fn next<BC: Offsets>(&mut self, bounds: &BC) -> Option<(usize, usize)>
         requires sound { IsSound BC.format (BC.content bounds.now) }
-        requires stands { Stands (BC.format.rows (BC.content bounds.now)) self.old }
+        requires stands { WalkStands (BC.format.rows (BC.content bounds.now)) self.old }
         ensures lower { IfSome result (λ r. slice_get (0 ∷ numbers (BC.format.rows (BC.content bounds.now))) self.old.index ≡ Some r.0) }
         ensures upper { IfSome result (λ r. slice_get (BC.format.rows (BC.content bounds.now)) self.old.index ≡ Some (number r.1)) }
         ensures onward { IfSome result (λ r. self.new.index ≡ self.old.index + 1) }
         ensures none { IfNone result (self.old.index ≡ length (BC.format.rows (BC.content bounds.now)) × self.new ≡ self.old) }
-        ensures stands { Stands (BC.format.rows (BC.content bounds.now)) self.new }
+        ensures stands { WalkStands (BC.format.rows (BC.content bounds.now)) self.new }
     {
         if self.index >= self.count {
             return None;
@@ -68,7 +68,7 @@ pub struct ListIter<V: Column, W: Column> {
     bounds: W,
     ranges: Ranges,
     ghost sound: { IsSound (lists_format W.format V.format) (both (W.content bounds) (V.content values)) },
-    ghost stands: { Stands (W.format.rows (W.content bounds)) ranges },
+    ghost stands: { WalkStands (W.format.rows (W.content bounds)) ranges },
 }
 
 impl<V: Column, W: Offsets> ListIter<V, W> {

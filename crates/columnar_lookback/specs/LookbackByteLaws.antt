@@ -27,12 +27,12 @@ use Rattle.columnar_lookback.specs.Lookbacks.{distance, lookbacks_code, lookback
 use Rattle.columnar_lookback.specs.LookbackLaws.{latest_first}
 
 -- as many values as set bits, as many distances as clear ones
-pub record Level (b : List Bool) (vs ws : List Row) : Type 0 where
+pub record CountsLevel (b : List Bool) (vs ws : List Row) : Type 0 where
   pub values : ones b (length b) ≡ length vs
   pub distances : zeros b (length b) ≡ length ws
 
 -- the number of values up to row i
-latest_count : (b : List Bool) (vs ws : List Row) (i : ℕ) → Level b vs ws → i < length b → length (latest lookbacks_code [] (take (suc i) (weave_results b vs ws))) ≡ ones b (i + 1)
+latest_count : (b : List Bool) (vs ws : List Row) (i : ℕ) → CountsLevel b vs ws → i < length b → length (latest lookbacks_code [] (take (suc i) (weave_results b vs ws))) ≡ ones b (i + 1)
 latest_count b vs ws i l h =
     let j : i + 1 ≡ suc i = omega arith in
     let p = ones_most b (suc i) (omega (arith, h)) in
@@ -46,7 +46,7 @@ latest_count b vs ws i l h =
     rw j (ap length (latest_first b vs ws (suc i) c d) ∙ omega (arith, m, k))
 
 -- the value at a set bit
-pub reach_set : (b : List Bool) (vs ws : List Row) (i : ℕ) → Level b vs ws → i < length b → slice_get (map truth b) i ≡ Some (truth true) → reaches lookbacks_code [] (take i (weave_results b vs ws)) ≡ true → reaches lookbacks_code [] (take (i + 1) (weave_results b vs ws)) ≡ true
+pub reach_set : (b : List Bool) (vs ws : List Row) (i : ℕ) → CountsLevel b vs ws → i < length b → slice_get (map truth b) i ≡ Some (truth true) → reaches lookbacks_code [] (take i (weave_results b vs ws)) ≡ true → reaches lookbacks_code [] (take (i + 1) (weave_results b vs ws)) ≡ true
 reach_set b vs ws i l h g p =
     let j : i + 1 ≡ suc i = omega arith in
     let a = bit_of_row b i true g in
@@ -65,7 +65,7 @@ at_clear b vs ws i values m h c =
     let e : i - values ≡ zeros b i = omega (arith, z, c.1.0) in
     weave_err i b vs ws (unsigned_row w8 m) (bit_of_row b i false c.0) (rw e at c.1.1.1)
 
-pub reach_clear : (b : List Bool) (vs ws : List Row) (i values m : ℕ) → Level b vs ws → i < length b → AtClear b ws i values m → m < values → reaches lookbacks_code [] (take i (weave_results b vs ws)) ≡ true → reaches lookbacks_code [] (take (i + 1) (weave_results b vs ws)) ≡ true
+pub reach_clear : (b : List Bool) (vs ws : List Row) (i values m : ℕ) → CountsLevel b vs ws → i < length b → AtClear b ws i values m → m < values → reaches lookbacks_code [] (take i (weave_results b vs ws)) ≡ true → reaches lookbacks_code [] (take (i + 1) (weave_results b vs ws)) ≡ true
 reach_clear b vs ws i values m l h c k p =
     let j : i + 1 ≡ suc i = omega arith in
     let u = at_clear b vs ws i values m h c in
@@ -73,7 +73,7 @@ reach_clear b vs ws i values m l h c k p =
     let n = latest_count b vs ws i l h in
     rw j (reaches_next lookbacks_code [] (weave_results b vs ws) i (err (unsigned_row w8 m)) u (omega (arith, n, w, k, c.1.0, ones_clear b i c.0)) p)
 
-pub reach_stops : (b : List Bool) (vs ws : List Row) (i values m : ℕ) → Level b vs ws → i < length b → AtClear b ws i values m → values ≤ m → false ≡ reaches lookbacks_code [] (weave_results b vs ws)
+pub reach_stops : (b : List Bool) (vs ws : List Row) (i values m : ℕ) → CountsLevel b vs ws → i < length b → AtClear b ws i values m → values ≤ m → false ≡ reaches lookbacks_code [] (weave_results b vs ws)
 reach_stops b vs ws i values m l h c k =
     let u = at_clear b vs ws i values m h c in
     let w : distance (err (unsigned_row w8 m)) ≡ m = mod-eq_of_lt c.1.1.0 in

@@ -15,7 +15,7 @@ use Rattle.columnar_primitive.specs.Fixed.{strays}
 use Rattle.columnar_primitive.specs.FixedLaws.{passes-more}
 use Rattle.columnar_primitive.specs.MayMultiples.{multiples_limit}
 use Rattle.columnar_sums.specs.MaySums.{unary_limit}
-use Rattle.columnar_sums.specs.Unary.{runs, falls, zeros, is_misplaced}
+use Rattle.columnar_sums.specs.Unary.{runs, falls, all_false, is_misplaced}
 
 -- multiples: a list has another number of items
 
@@ -72,7 +72,7 @@ multiples_on_ends k = record { more = multiples_more k }
 
 -- offsets in unary: a bit for each list and one for each item
 
-length-zeros : (n : ℕ) → length (zeros n) ≡ n
+length-zeros : (n : ℕ) → length (all_false n) ≡ n
 length-zeros zero = refl
 length-zeros (suc n) = ap suc (length-zeros n)
 
@@ -80,7 +80,7 @@ length-runs : (n : ℕ) (rs : List Row) → length (runs n (numbers (ends n rs))
 length-runs n [] = omega arith
 length-runs n (r ∷ rs) =
     let m : ℕ = length (items_of r) in
-    let a = length-append (zeros (n + m - n)) (true ∷ runs (n + m) (numbers (ends (n + m) rs))) in
+    let a = length-append (all_false (n + m - n)) (true ∷ runs (n + m) (numbers (ends (n + m) rs))) in
     let b = length-zeros (n + m - n) in
     let c = length-runs (n + m) rs in
     let d = length-append (items_of r) (joined rs) in

@@ -15,7 +15,7 @@ use Rattle.columnar_sums.specs.WeaveLaws.{ones_nil, ones_most, ones_taken, weave
 use Rattle.columnar_lookback.specs.Recall.{recent, latest, recall, reaches}
 use Rattle.columnar_lookback.specs.RecallLaws.{IsCode, ReadsAlike, recall_parts, recall_fine, recall_lawful, recall_storable, recall_at, reaches_at, length-recall}
 use Rattle.columnar_lookback.specs.LatestLaws.{onto, length-onto, recent_onto, taken_at}
-use Rattle.columnar_lookback.specs.Repeats.{repeats_code, repeats_format, starts, last_is}
+use Rattle.columnar_lookback.specs.Repeats.{repeats_code, repeats_format, starts_set, last_is}
 
 -- the format
 
@@ -117,7 +117,7 @@ recall_near kin e [] vs ws h = refl
 recall_near kin e (u ∷ us) vs ws h = let m = nearest_kin kin e (value_of u) vs ws h in and_from _ _ m (recall_near kin e us (value_of u ++ vs) (value_of u ++ ws) m)
 
 -- Each row reaches a value where the first one is a value.
-pub starts_reaches : (b : List Bool) (vs : List Row) → reaches repeats_code [] (weave b vs) ≡ starts b
+pub starts_reaches : (b : List Bool) (vs : List Row) → reaches repeats_code [] (weave b vs) ≡ starts_set b
 starts_reaches [] vs = refl
 starts_reaches (true ∷ b) (v ∷ vs) = reaches_near (weave b vs) (v ∷ []) (omega arith)
 starts_reaches (true ∷ b) [] = reaches_near (weave b []) (unit ∷ []) (omega arith)
@@ -254,5 +254,5 @@ pub length-repeats : (t : Format) (x y : Content) → length (recall repeats_cod
 length-repeats t x y = length-recall repeats_code [] (weave (ranks_bits x) (t.rows y)) ∙ length-weave (ranks_bits x) (t.rows y)
 
 -- what a test answers that found no fault of the options
-pub repeats_fine : (t : Format) (x y : Content) (at : ℕ) → None ≡ first (moved at ((options_format t).broken (both x y))) → starts (ranks_bits x) ≡ true → None ≡ first (moved at ((repeats_format t).broken (both x y)))
+pub repeats_fine : (t : Format) (x y : Content) (at : ℕ) → None ≡ first (moved at ((options_format t).broken (both x y))) → starts_set (ranks_bits x) ≡ true → None ≡ first (moved at ((repeats_format t).broken (both x y)))
 repeats_fine t x y at h e = recall_fine repeats_code t.kin (options_format t) (both x y) at h (starts_reaches (ranks_bits x) (t.rows y) ∙ e)

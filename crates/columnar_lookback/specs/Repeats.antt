@@ -27,9 +27,9 @@ abbrev pub viewed_repeats : {T : Type 0} → (T → Content) → Options T (View
 viewed_repeats of_somes o = both (ranks_content view_bytes view_bytes view_bytes o.indexes) (of_somes o.somes)
 
 -- is the first bit set, if there is one
-abbrev pub starts : List Bool → Bool
-starts [] = true
-starts (x ∷ b) = x
+abbrev pub starts_set : List Bool → Bool
+starts_set [] = true
+starts_set (x ∷ b) = x
 
 -- is the last of the rows the same as r
 abbrev pub last_is : (Row → Row → Bool) → List Row → Row → Bool

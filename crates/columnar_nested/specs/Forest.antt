@@ -22,15 +22,15 @@ roots no_trees = []
 roots (tree_and v k r) = record { value = v; kids = k } ∷ roots r
 
 -- the levels of two forests side by side
-abbrev pub beside : {X : Type 0} → List (List X) → List (List X) → List (List X)
-beside [] ys = ys
-beside (x ∷ xs) [] = x ∷ xs
-beside (x ∷ xs) (y ∷ ys) = (x ++ y) ∷ beside xs ys
+abbrev pub side_by_side : {X : Type 0} → List (List X) → List (List X) → List (List X)
+side_by_side [] ys = ys
+side_by_side (x ∷ xs) [] = x ∷ xs
+side_by_side (x ∷ xs) (y ∷ ys) = (x ++ y) ∷ side_by_side xs ys
 
 -- level 0 has the roots, level 1 their kids, and so on
 abbrev pub levels : {A : Type 0} → Forest A → List (List (Node A))
 levels no_trees = []
-levels (tree_and v k r) = beside ((record { value = v; kids = k } ∷ []) ∷ levels k) (levels r)
+levels (tree_and v k r) = side_by_side ((record { value = v; kids = k } ∷ []) ∷ levels k) (levels r)
 
 -- lists one after another
 abbrev pub in_line : {X : Type 0} → List (List X) → List X

@@ -15,7 +15,7 @@ use Rattle.columnar_nested.specs.Reading.{trees_of}
 use Rattle.columnar_nested.specs.TreeRows.{tree_rows, level_values}
 use Rattle.columnar_nested.specs.TreeRowLaws.{level_values-more}
 use Rattle.columnar_nested.specs.Trees.{words_of, nodes_format, nodes_rows, trees_format, trees_rows}
-use Rattle.columnar_nested.specs.TreesLaws.{nodes_two, trees_two, trees_parts, last_end}
+use Rattle.columnar_nested.specs.TreesLaws.{nodes_two, trees_two, trees_parts, tree_last_end}
 
 nodes_denied : (v : Format) {m : Limit} → IsLimited v m → (e : Excess) (c : Content) (rs : List Row) → IsSound (nodes_format v) c → refuses_more (nodes_format v) e c rs ≡ true → nodes_limit m e (nodes_rows v c ++ rs)
 nodes_denied v {m} l e (both y z) rs s h =
@@ -49,7 +49,7 @@ trees_denied v {m} l e x y z rs s h =
     let lay : IsLayout f (words_of x) (words_of y) (v.rows z) = passed_layout (rule_passed p.rule) in
     let g : level_values (tree_rows f ++ rs) ≡ v.rows z ++ more = level_values-joined f rs ∙ ap (λ us. us ++ more) (sym lay.in_order) in
     let n : length (level_values (tree_rows f ++ rs)) ≡ length (v.rows z) + length more = ap length g ∙ length-append (v.rows z) more in
-    let end = last_end v x y z p in
+    let end = tree_last_end v x y z p in
     let w : (past_count e (length (tree_rows f) + length rs) || (past_count e (length (v.rows z) + length more) || refuses_more v e z more)) ≡ true =
     subst (λ k. (past_count e (length (tree_rows f) + length rs) || (past_count e (k + length more) || v.refuses e z k more)) ≡ true) end h in
     ⊎_elim

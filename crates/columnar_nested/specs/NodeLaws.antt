@@ -6,7 +6,7 @@ use Rattle.std.proofs.lemmas.Option.{slice_get_within, slice_get-map}
 use Rattle.std.proofs.lemmas.List.{length-map, map-append}
 use Rattle.columnar_nested.specs.Forest.{Forest, no_trees, tree_and, Node, width, roots, level_order}
 use Rattle.columnar_nested.specs.Layout.{IsLayout, nodes, values_of, kid_counts, totals, starts, kid_ends, own_places}
-use Rattle.columnar_nested.specs.ForestLaws.{joined}
+use Rattle.columnar_nested.specs.ForestLaws.{joined_forest}
 use Rattle.columnar_nested.specs.WalkLaws.{walk_nodes-whole, walk_ends-whole}
 use Rattle.columnar_nested.specs.Nodes.{IsTold, first_kid}
 use Rattle.columnar_nested.specs.ToldLaws.{told_all, get-after, first_kid-after}
@@ -82,11 +82,11 @@ own-get at (b ∷ bs) t n h = elim (cases_eq b at) [
 ]
 
 -- the layout of one more tree
-pub nodes-joined : {A : Type 0} (f g : Forest A) → nodes (joined f g) ≡ nodes f ++ nodes g
+pub nodes-joined : {A : Type 0} (f g : Forest A) → nodes (joined_forest f g) ≡ nodes f ++ nodes g
 nodes-joined no_trees g = refl
 nodes-joined (tree_and v k r) g = rw (nodes-joined r g) (sym (append_assoc (level_order (tree_and v k no_trees)) (nodes r) (nodes g)))
 
-ends-joined : {A : Type 0} (at : ℕ) (f g : Forest A) → kid_ends at (joined f g) ≡ kid_ends at f ++ kid_ends (at + length (nodes f)) g
+ends-joined : {A : Type 0} (at : ℕ) (f g : Forest A) → kid_ends at (joined_forest f g) ≡ kid_ends at f ++ kid_ends (at + length (nodes f)) g
 ends-joined at no_trees g = let z : at ≡ at + 0 = omega arith in ap (λ x. kid_ends x g) z
 ends-joined at (tree_and v k r) g =
     let e = length-append (level_order (tree_and v k no_trees)) (nodes r) in
@@ -95,7 +95,7 @@ ends-joined at (tree_and v k r) g =
     ap (λ x. totals (suc at) (kid_counts (level_order (tree_and v k no_trees))) ++ x) (h ∙ ap (λ x. kid_ends (at + length (level_order (tree_and v k no_trees))) r ++ kid_ends x g) z)
     ∙ sym (append_assoc (totals (suc at) (kid_counts (level_order (tree_and v k no_trees)))) (kid_ends (at + length (level_order (tree_and v k no_trees))) r) (kid_ends (at + length (level_order (tree_and v k no_trees) ++ nodes r)) g))
 
-starts-joined : {A : Type 0} (at : ℕ) (f : Forest A) (v : A) (k : Forest A) → starts at (joined f (tree_and v k no_trees)) ≡ starts at f ++ (at + length (nodes f) + length (level_order (tree_and v k no_trees))) ∷ []
+starts-joined : {A : Type 0} (at : ℕ) (f : Forest A) (v : A) (k : Forest A) → starts at (joined_forest f (tree_and v k no_trees)) ≡ starts at f ++ (at + length (nodes f) + length (level_order (tree_and v k no_trees))) ∷ []
 starts-joined at no_trees v k =
     let z : at + length (level_order (tree_and v k no_trees)) ≡ (at + 0) + length (level_order (tree_and v k no_trees)) = omega arith in
     ap (λ x. at ∷ x ∷ []) z
@@ -106,7 +106,7 @@ starts-joined at (tree_and w l r) v k =
 
 -- the layout of one more tree: its nodes level by level after the others
 pub layout_pushed : {A : Type 0} {ts : Forest A} {groups bounds : List ℕ} {values : List A} (v : A) (k : Forest A) → IsLayout ts groups bounds values
-    → IsLayout (joined ts (tree_and v k no_trees)) (groups ++ (length values + length (level_order (tree_and v k no_trees))) ∷ [])
+    → IsLayout (joined_forest ts (tree_and v k no_trees)) (groups ++ (length values + length (level_order (tree_and v k no_trees))) ∷ [])
     (bounds ++ totals (suc (length values)) (kid_counts (level_order (tree_and v k no_trees)))) (values ++ values_of (level_order (tree_and v k no_trees)))
 layout_pushed {A = A} {ts = ts} {groups = groups} {bounds = bounds} {values = values} v k l =
     let n : length values ≡ length (nodes ts) = ap length l.in_order ∙ length-map (nodes ts) (λ x. x.value) in

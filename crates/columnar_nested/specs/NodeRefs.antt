@@ -8,8 +8,8 @@ use Rattle.columnar_nested.specs.TreeRows.{tree_row}
 use Rattle.columnar_nested.specs.declared.trees.read.TreesRef.{TreesRef}
 
 -- its number among the nodes of its column
-abbrev pub number_of : {V B : Type 0} → TreesRef V B → ℕ
-number_of r = r.index
+abbrev pub node_number : {V B : Type 0} → TreesRef V B → ℕ
+node_number r = r.index
 
 -- the tree below it, as a row
 abbrev pub ref_row : {V B : Type 0} → (B → List ℕ) → (V → List Row) → TreesRef V B → Row

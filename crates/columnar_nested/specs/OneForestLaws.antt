@@ -4,22 +4,22 @@ use Rattle.std.specs.Prelude.{nat_eq, nat_le}
 use Rattle.std.proofs.lemmas.Bool.{cases_lt, ne_eqb, and_parts, and_from, eqb-true, eq-eqb, leb-true, le-leb}
 use Rattle.columnar_nested.specs.Forest.{Forest, no_trees, tree_and, width}
 use Rattle.columnar_nested.specs.Layout.{nodes, values_of, starts, own_places, keeps}
-use Rattle.columnar_nested.specs.ForestLaws.{joined, width-joined}
+use Rattle.columnar_nested.specs.ForestLaws.{joined_forest, width-joined}
 use Rattle.columnar_nested.specs.Reading.{first_trees, later_trees, pending, trees_from}
 use Rattle.columnar_nested.specs.WalkLaws.{walk_nodes, walk_ends, walk_starts, nodes-root, nodes-next, ends-root, ends-next, starts-root, starts-next, nodes-done, ends-done, starts-done, walk_all}
 
 pub eq-false : (m n : ℕ) → n < m → nat_eq m n ≡ false
 eq-false m n h = ne_eqb m n (λ e. omega arith)
 
-first-joined : {A : Type 0} (f g : Forest A) → first_trees (width f) (joined f g) ≡ f
+first-joined : {A : Type 0} (f g : Forest A) → first_trees (width f) (joined_forest f g) ≡ f
 first-joined no_trees g = refl
 first-joined (tree_and v k r) g = ap (tree_and v k) (first-joined r g)
 
-later-joined : {A : Type 0} (f g : Forest A) → later_trees (width f) (joined f g) ≡ g
+later-joined : {A : Type 0} (f g : Forest A) → later_trees (width f) (joined_forest f g) ≡ g
 later-joined no_trees g = refl
 later-joined (tree_and v k r) g = later-joined r g
 
-joined-cut : {A : Type 0} (n : ℕ) (f : Forest A) → joined (first_trees n f) (later_trees n f) ≡ f
+joined-cut : {A : Type 0} (n : ℕ) (f : Forest A) → joined_forest (first_trees n f) (later_trees n f) ≡ f
 joined-cut zero f = refl
 joined-cut (suc n) no_trees = refl
 joined-cut (suc n) (tree_and v k r) = ap (tree_and v k) (joined-cut n r)
@@ -43,14 +43,14 @@ trees-next : {A : Type 0} (j b c : ℕ) (cs : List ℕ) (v : A) (vs : List A) �
 trees-next j b c cs v vs l = let t : nat_eq b j ≡ false = eq-false b j l in rw t refl
 
 -- the reading gives back the trees of a walk
-pub record IsRead {A : Type 0} (j : ℕ) (q ts : Forest A) : Type 0 where
+pub record IsReadForest {A : Type 0} (j : ℕ) (q ts : Forest A) : Type 0 where
   pub queue : pending j (j + width q) (walk_ends j q ts) (values_of (walk_nodes q ts)) ≡ q
   pub trees : trees_from j (j + width q) (walk_ends j q ts) (values_of (walk_nodes q ts)) ≡ ts
 
-read-done : {A : Type 0} (j : ℕ) → IsRead {A = A} j no_trees no_trees
+read-done : {A : Type 0} (j : ℕ) → IsReadForest {A = A} j no_trees no_trees
 read-done {A = A} j = record { queue = rw (ends-done A j) refl; trees = rw (ends-done A j) refl }
 
-read-root : {A : Type 0} (j : ℕ) (v : A) (k r : Forest A) → IsRead (suc j) k r → IsRead j no_trees (tree_and v k r)
+read-root : {A : Type 0} (j : ℕ) (v : A) (k r : Forest A) → IsReadForest (suc j) k r → IsReadForest j no_trees (tree_and v k r)
 read-root j v k r h =
     let b : j + 0 ≡ j = omega arith in
     let e = ends-root j v k r in
@@ -62,21 +62,21 @@ read-root j v k r h =
       trees = rw (e, n) (t ∙ rw (h.queue, h.trees) refl);
     }
 
-read-next : {A : Type 0} (j : ℕ) (v : A) (k r ts : Forest A) → IsRead (suc j) (joined r k) ts → IsRead j (tree_and v k r) ts
+read-next : {A : Type 0} (j : ℕ) (v : A) (k r ts : Forest A) → IsReadForest (suc j) (joined_forest r k) ts → IsReadForest j (tree_and v k r) ts
 read-next j v k r ts h =
     let b : j < j + suc (width r) = omega arith in
     let d : (j + suc (width r)) - suc j ≡ width r = omega arith in
     let e = ends-next j v k r ts in
-    let n : values_of (walk_nodes (tree_and v k r) ts) ≡ v ∷ values_of (walk_nodes (joined r k) ts) = ap values_of (nodes-next v k r ts) in
-    let p = pending-next j (j + suc (width r)) (suc j + width (joined r k)) (walk_ends (suc j) (joined r k) ts) v (values_of (walk_nodes (joined r k) ts)) b in
-    let t = trees-next j (j + suc (width r)) (suc j + width (joined r k)) (walk_ends (suc j) (joined r k) ts) v (values_of (walk_nodes (joined r k) ts)) b in
+    let n : values_of (walk_nodes (tree_and v k r) ts) ≡ v ∷ values_of (walk_nodes (joined_forest r k) ts) = ap values_of (nodes-next v k r ts) in
+    let p = pending-next j (j + suc (width r)) (suc j + width (joined_forest r k)) (walk_ends (suc j) (joined_forest r k) ts) v (values_of (walk_nodes (joined_forest r k) ts)) b in
+    let t = trees-next j (j + suc (width r)) (suc j + width (joined_forest r k)) (walk_ends (suc j) (joined_forest r k) ts) v (values_of (walk_nodes (joined_forest r k) ts)) b in
     record {
       queue = rw (e, n) (p ∙ rw (h.queue, d, later-joined r k, first-joined r k) refl);
       trees = rw (e, n) (t ∙ h.trees);
     }
 
-pub read_all : {A : Type 0} (j : ℕ) (q ts : Forest A) → IsRead j q ts
-read_all {A = A} j q ts = walk_all (λ j q ts. IsRead {A = A} j q ts) read-done read-root read-next j q ts
+pub read_all : {A : Type 0} (j : ℕ) (q ts : Forest A) → IsReadForest j q ts
+read_all {A = A} j q ts = walk_all (λ j q ts. IsReadForest {A = A} j q ts) read-done read-root read-next j q ts
 
 -- the rule, at node j with the bound b, over the bounds bs that follow
 pub record IsKept {A : Type 0} (j : ℕ) (q ts : Forest A) : Type 0 where
@@ -108,16 +108,16 @@ kept-root j v k r h =
       groups_at = rw (e, s, t) (ap (λ x. j ∷ x) h.groups_at);
     }
 
-kept-next : {A : Type 0} (j : ℕ) (v : A) (k r ts : Forest A) → IsKept (suc j) (joined r k) ts → IsKept j (tree_and v k r) ts
+kept-next : {A : Type 0} (j : ℕ) (v : A) (k r ts : Forest A) → IsKept (suc j) (joined_forest r k) ts → IsKept j (tree_and v k r) ts
 kept-next j v k r ts h =
     let w = width-joined r k in
     let t : nat_eq (j + suc (width r)) j ≡ false = eq-false (j + suc (width r)) j (omega arith) in
-    let n : length (walk_nodes (tree_and v k r) ts) ≡ suc (length (walk_nodes (joined r k) ts)) = ap length (nodes-next v k r ts) in
-    let m : j + suc (length (walk_nodes (joined r k) ts)) ≡ suc j + length (walk_nodes (joined r k) ts) = omega arith in
+    let n : length (walk_nodes (tree_and v k r) ts) ≡ suc (length (walk_nodes (joined_forest r k) ts)) = ap length (nodes-next v k r ts) in
+    let m : j + suc (length (walk_nodes (joined_forest r k) ts)) ≡ suc j + length (walk_nodes (joined_forest r k) ts) = omega arith in
     let e = ends-next j v k r ts in
     let s = starts-next j v k r ts in
     record {
-      keep = rw (e, n, m) (keeps-step j (j + suc (width r)) (suc j + width (joined r k)) (walk_ends (suc j) (joined r k) ts) (suc j + length (walk_nodes (joined r k) ts)) (omega arith) (omega arith) h.keep);
+      keep = rw (e, n, m) (keeps-step j (j + suc (width r)) (suc j + width (joined_forest r k)) (walk_ends (suc j) (joined_forest r k) ts) (suc j + length (walk_nodes (joined_forest r k) ts)) (omega arith) (omega arith) h.keep);
       groups_at = rw (e, s, t) h.groups_at;
     }
 

@@ -3,7 +3,7 @@ use Rattle.std.proofs.Common.{◌≡◌, ℕ, suc, ◌+◌, ◌<◌, List, [], �
 use Rattle.std.proofs.lemmas.List.{length-map}
 use Rattle.columnar_nested.specs.Forest.{tree_and, Node, width, level_order}
 use Rattle.columnar_nested.specs.Layout.{values_of, kid_counts, totals}
-use Rattle.columnar_nested.specs.ForestLaws.{joined, level_order-tree}
+use Rattle.columnar_nested.specs.ForestLaws.{joined_forest, level_order-tree}
 use Rattle.columnar_nested.specs.TreeValues.{node_step, node_of, trees_as_forest, in_order, added_values, added_bounds}
 use Rattle.columnar_nested.specs.declared.tree.Tree.{Tree}
 use Rattle.columnar_nested.specs.declared.tree.Tree.TheViews.{out-Tree}
@@ -12,7 +12,7 @@ use Rattle.columnar_nested.specs.declared.tree.Tree.TheFolds.{fold_out-Tree}
 pub node_of-out : (T B : Type 0) (m : T → B) (t : Tree T) → node_of m t ≡ record { value = m (out-Tree T t).value; kids = trees_as_forest m (out-Tree T t).kids.items }
 node_of-out T B m = fold_out-Tree T (Node B) (node_step m)
 
-pub as_forest-append : {T B : Type 0} (m : T → B) (ts us : List (Tree T)) → trees_as_forest m (ts ++ us) ≡ joined (trees_as_forest m ts) (trees_as_forest m us)
+pub as_forest-append : {T B : Type 0} (m : T → B) (ts us : List (Tree T)) → trees_as_forest m (ts ++ us) ≡ joined_forest (trees_as_forest m ts) (trees_as_forest m us)
 as_forest-append m [] us = refl
 as_forest-append m (t ∷ ts) us = ap (tree_and (node_of m t).value (node_of m t).kids) (as_forest-append m ts us)
 
@@ -25,7 +25,7 @@ in_order-step T B m t ts =
     let o = node_of-out T B m t in
     let k : (node_of m t).kids ≡ trees_as_forest m (out-Tree T t).kids.items = ap (λ x. x.kids) o in
     let e = level_order-tree (node_of m t).value (node_of m t).kids (trees_as_forest m ts) in
-    let j : joined (trees_as_forest m ts) (node_of m t).kids ≡ trees_as_forest m (ts ++ (out-Tree T t).kids.items) = ap (joined (trees_as_forest m ts)) k ∙ sym (as_forest-append m ts (out-Tree T t).kids.items) in
+    let j : joined_forest (trees_as_forest m ts) (node_of m t).kids ≡ trees_as_forest m (ts ++ (out-Tree T t).kids.items) = ap (joined_forest (trees_as_forest m ts)) k ∙ sym (as_forest-append m ts (out-Tree T t).kids.items) in
     e ∙ ap (λ x. node_of m t ∷ level_order x) j
 
 -- the first tree's value, and then those of the others and of its kids

@@ -3,9 +3,9 @@ use Rattle.std.proofs.Common.{◌≡◌, ℕ, zero, suc, ◌+◌, ◌-◌, ◌<�
 use Rattle.std.specs.Prelude.{nat_eq, slice_index, slice_get, Some}
 use Rattle.std.proofs.lemmas.Bool.{eq-eqb, cases_lt}
 use Rattle.std.proofs.lemmas.Option.{slice_get_within}
-use Rattle.columnar_nested.specs.Forest.{Forest, no_trees, tree_and, Node, width, roots, level_order, levels, in_line, beside}
+use Rattle.columnar_nested.specs.Forest.{Forest, no_trees, tree_and, Node, width, roots, level_order, levels, in_line, side_by_side}
 use Rattle.columnar_nested.specs.Layout.{nodes}
-use Rattle.columnar_nested.specs.ForestLaws.{joined, width-joined}
+use Rattle.columnar_nested.specs.ForestLaws.{joined_forest, width-joined}
 use Rattle.columnar_nested.specs.WalkLaws.{walk_nodes, walk_ends, nodes-root, nodes-next, ends-root, ends-next, nodes-done, ends-done, walk_all}
 use Rattle.columnar_nested.specs.OneForestLaws.{eq-false}
 use Rattle.columnar_nested.specs.Nodes.{first_kid, below, head_level, IsTold}
@@ -14,7 +14,7 @@ pub length-roots : {A : Type 0} (f : Forest A) → length (roots f) ≡ width f
 length-roots no_trees = refl
 length-roots (tree_and v k r) = ap suc (length-roots r)
 
-roots-joined : {A : Type 0} (f g : Forest A) → roots (joined f g) ≡ roots f ++ roots g
+roots-joined : {A : Type 0} (f g : Forest A) → roots (joined_forest f g) ≡ roots f ++ roots g
 roots-joined no_trees g = refl
 roots-joined (tree_and v k r) g = ap (λ x. record { value = v; kids = k } ∷ x) (roots-joined r g)
 
@@ -22,7 +22,7 @@ in_line-parts : {X : Type 0} (xs : List (List X)) → in_line xs ≡ head_level 
 in_line-parts [] = refl
 in_line-parts (x ∷ xs) = refl
 
-head-beside : {X : Type 0} (x : List X) (xs ys : List (List X)) → head_level (beside (x ∷ xs) ys) ≡ x ++ head_level ys
+head-beside : {X : Type 0} (x : List X) (xs ys : List (List X)) → head_level (side_by_side (x ∷ xs) ys) ≡ x ++ head_level ys
 head-beside x xs [] = sym (append-nil x)
 head-beside x xs (y ∷ ys) = refl
 
@@ -101,7 +101,7 @@ pending-beyond i j no_trees ts h = absurd (omega (arith, h))
 pending-beyond zero j (tree_and v k r) ts h = omega arith
 pending-beyond (suc i) j (tree_and v k r) ts h =
     let w = width-joined r k in
-    let x = pending-beyond i (suc j) (joined r k) ts (omega (arith, h, w)) in
+    let x = pending-beyond i (suc j) (joined_forest r k) ts (omega (arith, h, w)) in
     let y : suc j + i < slice_index (walk_ends j (tree_and v k r) ts) i = rw (ends-next j v k r ts) x in
     omega (arith, y)
 
@@ -127,11 +127,11 @@ told-root {A = A} j v k r h =
     (rw s (walk-pending k r c y g), let n = slice_get_within (roots k) c y g in let o = length-roots k in pending-beyond p (suc j) k r (omega (arith, n, o, s))))
     h)
 
-told-next : {A : Type 0} (j : ℕ) (v : A) (k r ts : Forest A) → IsTold (suc j) (walk_nodes (joined r k) ts) ((suc j + width (joined r k)) ∷ walk_ends (suc j) (joined r k) ts) → IsTold j (walk_nodes (tree_and v k r) ts) ((j + suc (width r)) ∷ walk_ends j (tree_and v k r) ts)
+told-next : {A : Type 0} (j : ℕ) (v : A) (k r ts : Forest A) → IsTold (suc j) (walk_nodes (joined_forest r k) ts) ((suc j + width (joined_forest r k)) ∷ walk_ends (suc j) (joined_forest r k) ts) → IsTold j (walk_nodes (tree_and v k r) ts) ((j + suc (width r)) ∷ walk_ends j (tree_and v k r) ts)
 told-next {A = A} j v k r ts h =
     let w = width-joined r k in
     let t : nat_eq (j + suc (width r)) j ≡ false = eq-false (j + suc (width r)) j (omega arith) in
-    rw (nodes-next v k r ts, ends-next j v k r ts) (told-step j (j + suc (width r)) (record { value = v; kids = k }) (walk_nodes (joined r k) ts) ((suc j + width (joined r k)) ∷ walk_ends (suc j) (joined r k) ts) (omega arith)
+    rw (nodes-next v k r ts, ends-next j v k r ts) (told-step j (j + suc (width r)) (record { value = v; kids = k }) (walk_nodes (joined_forest r k) ts) ((suc j + width (joined_forest r k)) ∷ walk_ends (suc j) (joined_forest r k) ts) (omega arith)
     (rw t (omega (arith, w)))
     (λ c p y g e. let e1 : j + suc p ≡ (j + suc (width r)) + c = rw t at e in
     let o = length-roots r in
@@ -139,7 +139,7 @@ told-next {A = A} j v k r ts h =
     let n = slice_get_within (roots k) c y g in
     let u = length-roots k in
     let a : slice_get (roots r ++ roots k) p ≡ Some y = get-after (roots r) (roots k) p c s ∙ g in
-    (walk-pending (joined r k) ts p y (rw (roots-joined r k) a), pending-beyond p (suc j) (joined r k) ts (omega (arith, n, o, s, u, w))))
+    (walk-pending (joined_forest r k) ts p y (rw (roots-joined r k) a), pending-beyond p (suc j) (joined_forest r k) ts (omega (arith, n, o, s, u, w))))
     h)
 
 pub told_all : {A : Type 0} (j : ℕ) (q ts : Forest A) → IsTold j (walk_nodes q ts) ((j + width q) ∷ walk_ends j q ts)

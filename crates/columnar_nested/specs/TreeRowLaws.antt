@@ -9,10 +9,10 @@ use Rattle.columnar_base.specs.Format.{all_alike, IsSame}
 use Rattle.columnar_base.specs.AlikeLaws.{row_eq_same, same_pulled, alike_all, alike_back, alike_on}
 use Rattle.columnar_nested.specs.Forest.{Forest, no_trees, tree_and, Node, width, roots, level_order}
 use Rattle.columnar_nested.specs.Layout.{nodes, values_of}
-use Rattle.columnar_nested.specs.ForestLaws.{joined}
+use Rattle.columnar_nested.specs.ForestLaws.{joined_forest}
 use Rattle.columnar_nested.specs.TreeRows.{tree_rows, tree_row, kids_of, forest_in, level_values, bare_tree, tree_alike}
 
-pub tree_rows-joined : (f g : Forest Row) → tree_rows (joined f g) ≡ tree_rows f ++ tree_rows g
+pub tree_rows-joined : (f g : Forest Row) → tree_rows (joined_forest f g) ≡ tree_rows f ++ tree_rows g
 tree_rows-joined no_trees g = refl
 tree_rows-joined (tree_and v k r) g = ap (λ x. tree v (list (tree_rows k)) ∷ x) (tree_rows-joined r g)
 

@@ -15,9 +15,9 @@ abbrev pub tree_row : Node Row → Row
 tree_row n = tree n.value (list (tree_rows n.kids))
 
 -- the value of a tree, and its kids
-abbrev pub value_of : Row → Row
-value_of (tree v ks) = v
-value_of _ = unit
+abbrev pub tree_value : Row → Row
+tree_value (tree v ks) = v
+tree_value _ = unit
 
 abbrev pub kids_of : Row → List Row
 kids_of (tree v ks) = items_of ks

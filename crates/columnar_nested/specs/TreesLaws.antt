@@ -17,7 +17,7 @@ use Rattle.columnar_base.specs.ElementLaws.{elements_storable}
 use Rattle.columnar_base.specs.declared.fault.GrowError.{GrowError}
 use Rattle.columnar_nested.specs.Forest.{Forest, no_trees, tree_and, Node, width, level_order}
 use Rattle.columnar_nested.specs.Layout.{IsLayout, IsTreeRule, nodes, values_of, kid_counts, totals, starts}
-use Rattle.columnar_nested.specs.ForestLaws.{joined}
+use Rattle.columnar_nested.specs.ForestLaws.{joined_forest}
 use Rattle.columnar_nested.specs.Reading.{trees_of}
 use Rattle.columnar_nested.specs.LayoutLaws.{layout_read, layout_rule, passed_layout, rule_passed}
 use Rattle.columnar_nested.specs.NodeLaws.{layout_pushed}
@@ -70,8 +70,8 @@ last-start at (tree_and v k r) =
     omega (arith, h, e)
 
 -- all trees end where the values do
-pub last_end : (v : Format) (x y z : Content) → SoundTrees v x y z → end_of_trees x (length (trees_rows v (both x (both y z)))) ≡ length (v.rows z)
-last_end v x y z s =
+pub tree_last_end : (v : Format) (x y z : Content) → SoundTrees v x y z → end_of_trees x (length (trees_rows v (both x (both y z)))) ≡ length (v.rows z)
+tree_last_end v x y z s =
     let l : IsLayout (trees_of (words_of y) (v.rows z)) (words_of x) (words_of y) (v.rows z) = passed_layout (rule_passed s.rule) in
     let w = length-tree_rows (trees_of (words_of y) (v.rows z)) in
     let e = last-start 0 (trees_of (words_of y) (v.rows z)) in
@@ -96,7 +96,7 @@ added_tree : (v : Format) {x x' y y' z z' : Content} {n : Node Row} → (m : One
 added_tree v {n = n} m = refit n m.values.fresh (fresh_count v m)
 
 added_layout : (v : Format) {x x' y y' z z' : Content} {n : Node Row} → SoundTrees v x y z → (m : OneMore v x x' y y' z z' n) → (g : Refit n m.values.fresh)
-    → IsLayout (joined (trees_of (words_of y) (v.rows z)) (tree_and g.is.value g.is.kids no_trees)) (words_of x') (words_of y') (v.rows z')
+    → IsLayout (joined_forest (trees_of (words_of y) (v.rows z)) (tree_and g.is.value g.is.kids no_trees)) (words_of x') (words_of y') (v.rows z')
 added_layout v {x} {x'} {y} {y'} {z} {z'} {n} s m g =
     let l : IsLayout (trees_of (words_of y) (v.rows z)) (words_of x) (words_of y) (v.rows z) = passed_layout (rule_passed s.rule) in
     let p = layout_pushed g.is.value g.is.kids l in
@@ -160,8 +160,8 @@ added_refuses v {x} {x'} {y} {y'} {z} {z'} {n} s m e rs h =
     let s' = added_sound v s m in
     let w : length (trees_rows v (both x' (both y' z'))) ≡ suc (length (trees_rows v (both x (both y z)))) =
     ap length (added_rows v s m) ∙ (length-append (trees_rows v (both x (both y z))) (tree_row (added_tree v m).is ∷ []) ∙ omega arith) in
-    let k = last_end v x y z s in
-    let k' = last_end v x' y' z' s' in
+    let k = tree_last_end v x y z s in
+    let k' = tree_last_end v x' y' z' s' in
     let added : List Row = values_of (level_order (tree_and n.value n.kids no_trees)) in
     let lv : level_values (tree_row n ∷ rs) ≡ added ++ level_values rs = level_values-more n rs in
     let ll = length-append added (level_values rs) in
@@ -213,7 +213,7 @@ pub trees_refused : (v : Format) {x y z z' : Content} (n : Node Row) {error : Gr
     → Refused (trees_format v) (both x (both y z)) (both x (both y z')) (tree_row n ∷ []) error
 trees_refused v {x} {y} {z} {z'} n {error} i t c =
     let s = trees_parts v x y z i in
-    let k = last_end v x y z s in
+    let k = tree_last_end v x y z s in
     let lv = level_values-one n in
     record {
       stayed = trees_stayed v i t;

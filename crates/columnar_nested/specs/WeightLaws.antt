@@ -2,7 +2,7 @@ use Rattle.std.proofs.Common.{◌≡◌, ℕ, ◌+◌, ◌<◌, ◌≤◌, List,
 use Rattle.std.specs.Prelude.{sum, sum_by, slice_index_or, drop}
 use Rattle.std.proofs.lemmas.List.{drop_more}
 use Rattle.std.proofs.lemmas.List.Sums.{sum_by-cons, sum-map}
-use Rattle.columnar_nested.specs.Forest.{Node, beside, in_line, levels, level_order}
+use Rattle.columnar_nested.specs.Forest.{Node, side_by_side, in_line, levels, level_order}
 use Rattle.columnar_nested.specs.ForestLaws.{levels-joined}
 use Rattle.columnar_nested.specs.TreeValues.{node_of, trees_as_forest, in_order, values_in}
 use Rattle.columnar_nested.specs.Push.{in_order-step, as_forest-append, node_of-out}
@@ -15,12 +15,12 @@ total-append h [] ys = omega arith
 total-append h (x ∷ xs) ys = let e = total-append h xs ys in omega (arith, e)
 
 -- levels side by side weigh what they weigh apart
-total-beside : {X : Type 0} (h : X → ℕ) (xs ys : List (List X)) → total h (in_line (beside xs ys)) ≡ total h (in_line xs) + total h (in_line ys)
+total-beside : {X : Type 0} (h : X → ℕ) (xs ys : List (List X)) → total h (in_line (side_by_side xs ys)) ≡ total h (in_line xs) + total h (in_line ys)
 total-beside h [] ys = omega arith
 total-beside h (x ∷ xs) [] = omega arith
 total-beside h (x ∷ xs) (y ∷ ys) =
     let e = total-beside h xs ys in
-    let a = total-append h (x ++ y) (in_line (beside xs ys)) in
+    let a = total-append h (x ++ y) (in_line (side_by_side xs ys)) in
     let b = total-append h x y in
     let c = total-append h x (in_line xs) in
     let d = total-append h y (in_line ys) in

@@ -59,8 +59,8 @@ IsLimit Offset = Unit {0}
 IsLimit FormatError = ⊥
 
 -- The error names a true cause: the rows, after n others, may not be held.
-abbrev pub IsCauseOf : ℕ → GrowError → ℕ → List Row → Type 0
-IsCauseOf k Memory n rs = Unit {0}
-IsCauseOf k Length n rs = fixed_refuses k too_many n rs ≡ true
-IsCauseOf k Offset n rs = fixed_refuses k misplaced n rs ≡ true
-IsCauseOf k FormatError n rs = ⊥
+abbrev pub IsFixedCause : ℕ → GrowError → ℕ → List Row → Type 0
+IsFixedCause k Memory n rs = Unit {0}
+IsFixedCause k Length n rs = fixed_refuses k too_many n rs ≡ true
+IsFixedCause k Offset n rs = fixed_refuses k misplaced n rs ≡ true
+IsFixedCause k FormatError n rs = ⊥

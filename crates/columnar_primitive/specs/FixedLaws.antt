@@ -18,7 +18,7 @@ use Rattle.columnar_primitive.specs.Held.{counted}
 use Rattle.columnar_primitive.specs.HeldLaws.{count-word, word_number}
 use Rattle.columnar_primitive.specs.Multiples.{multiples}
 use Rattle.columnar_primitive.specs.MultipleLaws.{multiples_numbers, multiples-none, multiples-more, length-multiples, multiples-append, multiples-take, multiples-piece, multiples_get, multiples-shift, multiples_end}
-use Rattle.columnar_primitive.specs.Fixed.{fixed_broken, fixed_rows, strays, passes, fixed_refuses, fixed_format, IsCauseOf}
+use Rattle.columnar_primitive.specs.Fixed.{fixed_broken, fixed_rows, strays, passes, fixed_refuses, fixed_format, IsFixedCause}
 
 -- what the soundness of a column of multiples is made of
 pub record SoundFixed (k : ℕ) (bs : List ℕ) : Type 0 where
@@ -250,13 +250,13 @@ fixed_pushed k n m x l h e f g =
     rw w at t
 
 -- the cause of an error, of a column that holds the count n
-pub fixed_true : (k : ℕ) (bs : List ℕ) (n : ℕ) (rs : List Row) (error : GrowError) → word bs 0 ≡ n → IsCauseOf k error n rs → IsTrueOf error (fixed_format k) (slice bs) rs
+pub fixed_true : (k : ℕ) (bs : List ℕ) (n : ℕ) (rs : List Row) (error : GrowError) → word bs 0 ≡ n → IsFixedCause k error n rs → IsTrueOf error (fixed_format k) (slice bs) rs
 fixed_true k bs n rs Memory e h = h
 fixed_true k bs n rs Length e h = rw (length-multiples k 0 (word bs 0), e) h
 fixed_true k bs n rs Offset e h = rw (length-multiples k 0 (word bs 0), e) h
 fixed_true k bs n rs FormatError e h = h
 
-pub fixed_refused : (k n x : ℕ) (rs : List Row) (error : GrowError) → n < 2 ^ 64 → x < 2 ^ 64 → IsSound (fixed_format k) (counted n) → IsCauseOf k error n (number x ∷ rs) → Refused (fixed_format k) (counted n) (counted n) (word_row x ∷ rs) error
+pub fixed_refused : (k n x : ℕ) (rs : List Row) (error : GrowError) → n < 2 ^ 64 → x < 2 ^ 64 → IsSound (fixed_format k) (counted n) → IsFixedCause k error n (number x ∷ rs) → Refused (fixed_format k) (counted n) (counted n) (word_row x ∷ rs) error
 fixed_refused k n x rs error l h s cause = record {
   stayed = unchanged s;
   cause = rw (word_number x h) (fixed_true k (le_bytes (n ∷ [])) n (number x ∷ rs) error (count-word n l) cause);
@@ -272,7 +272,7 @@ piece_first k start m top x l h g =
     let d : k * suc start ≡ x = cc in
     (d, multiples-piece k start (suc m) top l ∙ multiples-more k start m ∙ (rw (d, w) refl))
 
-pub fixed_copy_refused : (k n start added top x : ℕ) (error : GrowError) → n < 2 ^ 64 → x < 2 ^ 64 → start + added ≤ top → 0 < added → IsSound (fixed_format k) (counted n) → slice_get (multiples k 0 top) start ≡ Some (word_row x) → ((rs : List Row) → added ≤ length rs + 1 → IsCauseOf k error n (number x ∷ rs)) → Refused (fixed_format k) (counted n) (counted n) (take added (drop start (multiples k 0 top))) error
+pub fixed_copy_refused : (k n start added top x : ℕ) (error : GrowError) → n < 2 ^ 64 → x < 2 ^ 64 → start + added ≤ top → 0 < added → IsSound (fixed_format k) (counted n) → slice_get (multiples k 0 top) start ≡ Some (word_row x) → ((rs : List Row) → added ≤ length rs + 1 → IsFixedCause k error n (number x ∷ rs)) → Refused (fixed_format k) (counted n) (counted n) (take added (drop start (multiples k 0 top))) error
 fixed_copy_refused k n start zero top x error l h m pos s g cause = absurd (omega arith)
 fixed_copy_refused k n start (suc added) top x error l h m pos s g cause =
     rw (piece_first k start added top x m h g).1 (fixed_refused k n x (multiples k (suc start) added) error l h s (cause (multiples k (suc start) added) (omega (arith, length-multiples k (suc start) added))))

@@ -26,21 +26,21 @@ pub bytes_held_by : (xs : List ℕ) → length xs ≡ 16 → ((i : ℕ) → get_
 bytes_held_by xs l h = ap large_bytes (array_row_is 16 (unsigned_element w8) xs l) ∙ (ap (map number_of) (items_of-list (map (unsigned_row w8) xs)) ∙ bytes_same xs h)
 
 -- the row of an array of bytes
-abbrev pub bytes_row : List ℕ → Row
-bytes_row xs = array_row 16 1 (to_le_bytes w8) (unsigned_row_of w8) xs
+abbrev pub large_row : List ℕ → Row
+large_row xs = array_row 16 1 (to_le_bytes w8) (unsigned_row_of w8) xs
 
 -- an array of the bytes of a number holds them
-number_held : (n : ℕ) (xs : List ℕ) → xs ≡ to_le_bytes w128 n → from_le_bytes w128 (large_bytes (bytes_row xs)) ≡ wrapped w128 n
+number_held : (n : ℕ) (xs : List ℕ) → xs ≡ to_le_bytes w128 n → from_le_bytes w128 (large_bytes (large_row xs)) ≡ wrapped w128 n
 number_held n xs e =
-    ap (λ bs. from_le_bytes w128 (large_bytes (bytes_row bs))) e
+    ap (λ bs. from_le_bytes w128 (large_bytes (large_row bs))) e
     ∙ (ap (from_le_bytes w128) (bytes_held_by (to_le_bytes w128 n) refl (bytes_of_number w128 n)) ∙ number_back w128 n)
 
 -- the bytes of a number are kept for it
 
-pub u128_code : (n : ℕ) (xs : List ℕ) → xs ≡ to_le_bytes w128 n → as_u128 (bytes_row xs) ≡ unsigned_row w128 n
+pub u128_code : (n : ℕ) (xs : List ℕ) → xs ≡ to_le_bytes w128 n → as_u128 (large_row xs) ≡ unsigned_row w128 n
 u128_code n xs e = ap number (number_held n xs e)
 
-pub i128_code : (z : ℤ) (xs : List ℕ) → xs ≡ to_le_bytes w128 (cast_unsigned w128 z) → as_i128 (bytes_row xs) ≡ signed_row w128 z
+pub i128_code : (z : ℤ) (xs : List ℕ) → xs ≡ to_le_bytes w128 (cast_unsigned w128 z) → as_i128 (large_row xs) ≡ signed_row w128 z
 i128_code z xs e = ap (λ n. integer (cast_signed w128 n)) (number_held (cast_unsigned w128 z) xs e)
 
 -- sixteen bytes are a number of 128 bits
@@ -49,13 +49,13 @@ bytes_fit xs h = omega (arith, h 0, h 1, h 2, h 3, h 4, h 5, h 6, h 7, h 8, h 9,
 
 -- sixteen bytes are read as the number that they are
 
-pub u128_back : (n : ℕ) (xs : List ℕ) → length xs ≡ 16 → ((i : ℕ) → get_or xs i 0 < 256) → n ≡ from_le_bytes w128 xs → unsigned_row w128 n ≡ as_u128 (bytes_row xs)
+pub u128_back : (n : ℕ) (xs : List ℕ) → length xs ≡ 16 → ((i : ℕ) → get_or xs i 0 < 256) → n ≡ from_le_bytes w128 xs → unsigned_row w128 n ≡ as_u128 (large_row xs)
 u128_back n xs l h e =
     let f = bytes_fit xs h in
     let c : wrapped w128 (from_le_bytes w128 xs) ≡ from_le_bytes w128 xs = mod-eq_of_lt f in
     ap (unsigned_row w128) e ∙ (ap number c ∙ sym (ap (λ bs. number (from_le_bytes w128 bs)) (bytes_held_by xs l h)))
 
-pub i128_back : (z : ℤ) (xs : List ℕ) → length xs ≡ 16 → ((i : ℕ) → get_or xs i 0 < 256) → z ≡ cast_signed w128 (from_le_bytes w128 xs) → signed_row w128 (cast_signed w128 (cast_unsigned w128 z)) ≡ as_i128 (bytes_row xs)
+pub i128_back : (z : ℤ) (xs : List ℕ) → length xs ≡ 16 → ((i : ℕ) → get_or xs i 0 < 256) → z ≡ cast_signed w128 (from_le_bytes w128 xs) → signed_row w128 (cast_signed w128 (cast_unsigned w128 z)) ≡ as_i128 (large_row xs)
 i128_back z xs l h e =
     let n = from_le_bytes w128 xs in
     let f = bytes_fit xs h in

@@ -12,7 +12,7 @@ use Rattle.columnar_core.specs.AlikeLaws.{row_eq_same, row_eq_exact, alike_all}
 use Rattle.columnar_core.specs.Change.{Keeps, WasCut, Took, Copied, IsTrueOf, Refused}
 use Rattle.columnar_core.specs.ChangeLaws.{unchanged, grew_exactly, refused_more, took_none}
 use Rattle.columnar_core.specs.Elements.{elements_broken, first_slice, word_row, word_row_of}
-use Rattle.columnar_core.specs.ElementLaws.{length-elements, past_more, row_at, rows_typed, word_element}
+use Rattle.columnar_core.specs.ElementLaws.{length-elements, past_more, element_row_at, rows_typed, word_element}
 use Rattle.columnar_core.specs.Bounds.{IsBounds, AreNumbers, rises, numbers}
 use Rattle.columnar_core.specs.BoundLaws.{words_numbers}
 use Rattle.columnar_core.specs.Bytes.{word, word_bytes, le_bytes, AreBytes}
@@ -344,7 +344,7 @@ get-after (x ∷ xs) ys (suc i) k r e h = get-after xs ys i k r (omega arith) h
 -- the offset that stands at place k among those that stand as they are
 pub bound_is : (bs : List ℕ) (k : ℕ) → k < length bs / 8 → slice_get (bounds_rows (slice bs)) k ≡ Some (number (word bs k))
 unfolding word
-bound_is bs k l = row_at 8 word_row_of bs k (rw (length-bounds bs) l) ∙ ap (λ n. Some (number n)) (front_number (drop (8 * k) bs))
+bound_is bs k l = element_row_at 8 word_row_of bs k (rw (length-bounds bs) l) ∙ ap (λ n. Some (number n)) (front_number (drop (8 * k) bs))
 
 stride_row : (hs bs : List ℕ) (i : ℕ) → SoundStrides hs bs → i < word hs 1 → (word hs 0 * i + word hs 0 < 2 ^ 64) × (slice_get (strides_rows (both (slice hs) (slice bs))) i ≡ Some (number (word hs 0 * i + word hs 0)))
 stride_row hs bs i s l =

@@ -12,7 +12,7 @@ use Rattle.columnar_base.specs.Elements.{elements, bytes_format}
 use Rattle.columnar_base.specs.ElementLaws.{rows_typed, length-typed}
 use Rattle.columnar_base.specs.Numbers.{unsigned_row}
 use Rattle.columnar_base.specs.NumberLaws.{unsigned_element}
-use Rattle.columnar_base.specs.Texts.{bytes_of, text_row}
+use Rattle.columnar_base.specs.Texts.{text_bytes, text_row}
 use Rattle.columnar_core.specs.Bounds.{numbers}
 use Rattle.columnar_core.specs.Bytes.{AreBytes}
 use Rattle.columnar_core.specs.BoundLaws.{number_get}
@@ -45,7 +45,7 @@ numbers_back (b ∷ bs) h =
     ap (λ t. b % 256 ∷ t) (numbers_back bs (λ i. h (suc i))) ∙ ap (λ t. t ∷ bs) e
 
 -- the bytes of a text are read back from its row
-pub bytes_back : (bs : List ℕ) → AreBytes bs → bytes_of (text_row bs) ≡ bs
+pub bytes_back : (bs : List ℕ) → AreBytes bs → text_bytes (text_row bs) ≡ bs
 bytes_back bs h = ap (map number_of) (items_of-list (map (unsigned_row w8) bs)) ∙ numbers_back bs h
 
 -- what a writer that had nothing has, once a value was written to it whole

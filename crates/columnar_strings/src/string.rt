@@ -6,7 +6,7 @@ ghost use Rattle.columnar_base.specs.Row.{Row};
 ghost use Rattle.columnar_base.specs.Format.{both, IsSound};
 ghost use Rattle.columnar_base.specs.Change.{Copied, Refused};
 ghost use Rattle.columnar_base.specs.Elements.{elements, words_format, bytes_format};
-ghost use Rattle.columnar_base.specs.Texts.{bytes_of, text_row};
+ghost use Rattle.columnar_base.specs.Texts.{text_bytes, text_row};
 ghost use Rattle.columnar_base.specs.TwoPartsLaws.{two_counted};
 ghost use Rattle.columnar_lists.specs.Lists.{lists_format};
 ghost use Rattle.columnar_lists.specs.ListLaws.{same_lists, lists_lawful, lists_storable};
@@ -93,7 +93,7 @@ impl<'a, BC: Offsets> Index for &'a Strings<BC, Vec<u8>> {
 // The bytes as text.
 fn as_text(bytes: &[u8]) -> Result<&str, OwnError>
     ensures ok { IfOk result (λ s. (s.now ≡ bytes.now) × IsUtf8 bytes.now) }
-    ensures err { IfErr result (λ e. (e ≡ OwnError.Utf8) × (IsUtf8 (bytes_of (text_row bytes.now)) → ⊥)) }
+    ensures err { IfErr result (λ e. (e ≡ OwnError.Utf8) × (IsUtf8 (text_bytes (text_row bytes.now)) → ⊥)) }
 {
     match str::from_utf8(bytes) {
         Ok(text) => Ok(text),
@@ -107,7 +107,7 @@ impl<'a, BC: Offsets> Strings<BC, &'a [u8]> {
         requires sound { IsSound (strings_format BC.format) (⟦<Strings<BC, &'a [u8]> as Column>⟧.content self.now) }
         requires in_range { index < length ((strings_format BC.format).rows (⟦<Strings<BC, &'a [u8]> as Column>⟧.content self.now)) }
         ensures ok { IfOk result (λ s. (slice_get ((strings_format BC.format).rows (⟦<Strings<BC, &'a [u8]> as Column>⟧.content self.now)) index ≡ Some (text_row s.now)) × IsUtf8 s.now) }
-        ensures err { IfErr result (λ e. (e ≡ OwnError.Utf8) × ((r : Row) → slice_get ((strings_format BC.format).rows (⟦<Strings<BC, &'a [u8]> as Column>⟧.content self.now)) index ≡ Some r → IsUtf8 (bytes_of r) → ⊥)) }
+        ensures err { IfErr result (λ e. (e ≡ OwnError.Utf8) × ((r : Row) → slice_get ((strings_format BC.format).rows (⟦<Strings<BC, &'a [u8]> as Column>⟧.content self.now)) index ≡ Some r → IsUtf8 (text_bytes r) → ⊥)) }
     {
         as_text(string_at(&self.bounds, self.values, index))
     }

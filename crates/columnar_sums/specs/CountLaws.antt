@@ -268,8 +268,8 @@ found_in ws i w p sum rank e l b o le s =
     let d = ones_word ws i p (omega arith) in
     (bit_in_word ws i p (64 * i + p) l refl ∙ sym (ap (λ (x : ℕ). bit x p) e) ∙ b, omega arith)
 
-pub inside : (b : List Bool) (i : ℕ) → slice_index_or b i false ≡ true → i < length b
-inside b i e = ⊎_elim (λ (p : i < length b). p) (λ (p : length b ≤ i). absurd (true≢false (sym e ∙ get_or_past b i false p))) (cases_lt i (length b))
+pub set_inside : (b : List Bool) (i : ℕ) → slice_index_or b i false ≡ true → i < length b
+set_inside b i e = ⊎_elim (λ (p : i < length b). p) (λ (p : length b ≤ i). absurd (true≢false (sym e ∙ get_or_past b i false p))) (cases_lt i (length b))
 
 pub counts_length : (b : List Bool) (cs : List ℕ) → AreCounts b cs → length cs ≡ length b / 1024
 unfolding AreCounts

@@ -12,15 +12,15 @@ use Rattle.columnar_sums.specs.CountLaws.{ones_le, ones_more, ones_zero}
 use Rattle.columnar_sums.specs.CountsKeptLaws.{place_found}
 use Rattle.columnar_sums.specs.RankColumns.{ranks_format, IsAt, AreClear, IsNextTrue, AreFalseFrom}
 use Rattle.columnar_sums.specs.RankLaws.{ranks_parts, words_length, last_clear, next_bit, no_bit, ones_next, ones_none, ones_bits, bit_is, words_few}
-use Rattle.columnar_sums.specs.Cursors.{Stands}
+use Rattle.columnar_sums.specs.Cursors.{CursorStands}
 
-bools_of : {c a b : List ℕ} {i r p k : ℕ} → Stands c a b i r p k → SoundBools a b
+bools_of : {c a b : List ℕ} {i r p k : ℕ} → CursorStands c a b i r p k → SoundBools a b
 bools_of s = (ranks_parts s.ranked).bools
 
 rank_fits : {a b : List ℕ} (k p : ℕ) → SoundBools a b → p ≤ length (bits_in a b) → k ≡ ones (bits_in a b) p → k < 2 ^ 64
 rank_fits {a} {b} k p s l e = omega (arith, ones_le (bits_in a b) p, bits_length a b, s.short)
 
-pub stands_first : {c a b ws : List ℕ} {i r p : ℕ} → IsSound ranks_format (both (slice c) (both (slice a) (slice b))) → ws ≡ bit_words a b → IsAt ws i r p → p ≡ 0 → i ≡ 0 → Stands c a b i r p 0
+pub stands_first : {c a b ws : List ℕ} {i r p : ℕ} → IsSound ranks_format (both (slice c) (both (slice a) (slice b))) → ws ≡ bit_words a b → IsAt ws i r p → p ≡ 0 → i ≡ 0 → CursorStands c a b i r p 0
 stands_first {c} {a} {b} {ws} {i} {r} {p} s e h z y = record {
   ranked = s;
   inside = omega arith;
@@ -30,15 +30,15 @@ stands_first {c} {a} {b} {ws} {i} {r} {p} s e h z y = record {
 }
 
 -- the words that are asked for
-pub stands_words : {c a b ws : List ℕ} {i r p k : ℕ} → Stands c a b i r p k → ws ≡ bit_words a b → IsAt ws i r p × (length ws ≤ 2 ^ 58) × (bit_in ws (64 * length ws - 1) ≡ false) × (length ws ≡ length (bits_in a b) / 64 + 1)
+pub stands_words : {c a b ws : List ℕ} {i r p k : ℕ} → CursorStands c a b i r p k → ws ≡ bit_words a b → IsAt ws i r p × (length ws ≤ 2 ^ 58) × (bit_in ws (64 * length ws - 1) ≡ false) × (length ws ≡ length (bits_in a b) / 64 + 1)
 stands_words s e = rw e (s.at, words_few (bools_of s), last_clear (bools_of s), words_length (bools_of s))
 
 pub record Found (c a b : List ℕ) (i r p k q start : ℕ) : Type 0 where
-  pub stands : Stands c a b i r p k
+  pub stands : CursorStands c a b i r p k
   pub next : IsNextTrue (bits_in a b) start q
   pub fits : k < 2 ^ 64
 
-pub stands_found : {c a b ws : List ℕ} {i r p k i' r' p' q : ℕ} → Stands c a b i r p k → ws ≡ bit_words a b → IsAt ws i' r' p' → 64 * i' ≤ p' → (q < 64 * length ws) × (p ≤ q) × (bit_in ws q ≡ true) × AreClear ws p q × (p' ≡ q + 1) → Found c a b i' r' p' (k + 1) q p
+pub stands_found : {c a b ws : List ℕ} {i r p k i' r' p' q : ℕ} → CursorStands c a b i r p k → ws ≡ bit_words a b → IsAt ws i' r' p' → 64 * i' ≤ p' → (q < 64 * length ws) × (p ≤ q) × (bit_in ws q ≡ true) × AreClear ws p q × (p' ≡ q + 1) → Found c a b i' r' p' (k + 1) q p
 stands_found {c} {a} {b} {ws} {i} {r} {p} {k} {i'} {r'} {p'} {q} s e h l f =
     let t = bools_of s in
     let g : (q < 64 * length (bit_words a b)) × (p ≤ q) × (bit_in (bit_words a b) q ≡ true) × AreClear (bit_words a b) p q × (p' ≡ q + 1) = rw e at f in
@@ -52,7 +52,7 @@ stands_found {c} {a} {b} {ws} {i} {r} {p} {k} {i'} {r'} {p'} {q} s e h l f =
       fits = rank_fits (k + 1) p' t m o;
     }
 
-pub stands_ended : {c a b ws : List ℕ} {i r p k i' r' p' : ℕ} → Stands c a b i r p k → ws ≡ bit_words a b → IsAt ws i' r' p' → 64 * i' ≤ p' → AreClear ws p (64 * length ws) × (p' ≡ max p (64 * (length ws - 1))) → Stands c a b i' r' p' k × (AreFalseFrom (bits_in a b) p × (p' ≡ max p (64 * (length (bits_in a b) / 64))))
+pub stands_ended : {c a b ws : List ℕ} {i r p k i' r' p' : ℕ} → CursorStands c a b i r p k → ws ≡ bit_words a b → IsAt ws i' r' p' → 64 * i' ≤ p' → AreClear ws p (64 * length ws) × (p' ≡ max p (64 * (length ws - 1))) → CursorStands c a b i' r' p' k × (AreFalseFrom (bits_in a b) p × (p' ≡ max p (64 * (length (bits_in a b) / 64))))
 stands_ended {c} {a} {b} {ws} {i} {r} {p} {k} {i'} {r'} {p'} s e h l f =
     let t = bools_of s in
     let n = words_length t in
@@ -63,11 +63,11 @@ stands_ended {c} {a} {b} {ws} {i} {r} {p} {k} {i'} {r'} {p'} s e h l f =
     (record { ranked = s.ranked; inside = m; floor = l; at = rw e at h; rank = s.rank ∙ sym (ones_none (bits_in a b) p p' y (omega arith) m) }, (y, d))
 
 pub record Stepped (c a b : List ℕ) (i r p k start : ℕ) (bit : Bool) : Type 0 where
-  pub stands : Stands c a b i r p k
+  pub stands : CursorStands c a b i r p k
   pub value : bit ≡ slice_index_or (bits_in a b) start false
   pub fits : k < 2 ^ 64
 
-pub stands_stepped : {c a b ws : List ℕ} {i r p k i' r' p' n : ℕ} {bit : Bool} → Stands c a b i r p k → ws ≡ bit_words a b → p < length (bits_in a b) → IsAt ws i' r' p' → 64 * i' ≤ p' → bit ≡ bit_in ws p → p' ≡ p + 1 → n ≡ cond bit 1 0 → Stepped c a b i' r' p' (k + n) p bit
+pub stands_stepped : {c a b ws : List ℕ} {i r p k i' r' p' n : ℕ} {bit : Bool} → CursorStands c a b i r p k → ws ≡ bit_words a b → p < length (bits_in a b) → IsAt ws i' r' p' → 64 * i' ≤ p' → bit ≡ bit_in ws p → p' ≡ p + 1 → n ≡ cond bit 1 0 → Stepped c a b i' r' p' (k + n) p bit
 stands_stepped {c} {a} {b} {ws} {i} {r} {p} {k} {i'} {r'} {p'} {n} {bit} s e l h f v d m =
     let t = bools_of s in
     let w : bit ≡ slice_index_or (bits_in a b) p false = (rw e at v) ∙ sym (bit_is a b p l) in
@@ -79,14 +79,14 @@ stands_stepped {c} {a} {b} {ws} {i} {r} {p} {k} {i'} {r'} {p'} {n} {bit} s e l h
       fits = rank_fits (k + n) p' t y o;
     }
 
-pub stands_skipped : {c a b ws : List ℕ} {i r p k i' r' p' : ℕ} (n : ℕ) → Stands c a b i r p k → ws ≡ bit_words a b → p' ≤ length (bits_in a b) → IsAt ws i' r' p' → 64 * i' ≤ p' → ones_below (bit_in ws) p + n ≡ ones_below (bit_in ws) p' → Stands c a b i' r' p' (k + n) × (k + n < 2 ^ 64)
+pub stands_skipped : {c a b ws : List ℕ} {i r p k i' r' p' : ℕ} (n : ℕ) → CursorStands c a b i r p k → ws ≡ bit_words a b → p' ≤ length (bits_in a b) → IsAt ws i' r' p' → 64 * i' ≤ p' → ones_below (bit_in ws) p + n ≡ ones_below (bit_in ws) p' → CursorStands c a b i' r' p' (k + n) × (k + n < 2 ^ 64)
 stands_skipped {c} {a} {b} {ws} {i} {r} {p} {k} {i'} {r'} {p'} n s e y h f o =
     let t = bools_of s in
     let u : ones_below (bit_in (bit_words a b)) p + n ≡ ones_below (bit_in (bit_words a b)) p' = rw e at o in
     let v : k + n ≡ ones (bits_in a b) p' = omega (arith, s.rank, ones_bits a b p s.inside, ones_bits a b p' y) in
     (record { ranked = s.ranked; inside = y; floor = f; at = rw e at h; rank = v }, rank_fits (k + n) p' t y v)
 
-pub stands_moved : {c a b ws : List ℕ} {i r p k i' r' p' n : ℕ} → Stands c a b i r p k → ws ≡ bit_words a b → p' ≤ length (bits_in a b) → IsAt ws i' r' p' → 64 * i' ≤ p' → n ≡ ones (bits_in a b) p' → Stands c a b i' r' p' n
+pub stands_moved : {c a b ws : List ℕ} {i r p k i' r' p' n : ℕ} → CursorStands c a b i r p k → ws ≡ bit_words a b → p' ≤ length (bits_in a b) → IsAt ws i' r' p' → 64 * i' ≤ p' → n ≡ ones (bits_in a b) p' → CursorStands c a b i' r' p' n
 stands_moved {c} {a} {b} {ws} {i} {r} {p} {k} {i'} {r'} {p'} {n} s e y h f o = record { ranked = s.ranked; inside = y; floor = f; at = rw e at h; rank = o }
 
 ones_up_by : (b : List Bool) (p n : ℕ) → p + n ≤ length b → ones b p ≤ ones b (p + n)
@@ -113,6 +113,6 @@ not_before b p q k e l m =
     (cases_lt q p)
 
 -- a place that was found stands not before the cursor
-pub stands_place : {c a b : List ℕ} {i r p k : ℕ} (n q : ℕ) → Stands c a b i r p k → Some q ≡ place (bits_in a b) n → ones (bits_in a b) p ≤ n → (q < length (bits_in a b)) × (p ≤ q) × (length (bits_in a b) < 2 ^ 64)
+pub stands_place : {c a b : List ℕ} {i r p k : ℕ} (n q : ℕ) → CursorStands c a b i r p k → Some q ≡ place (bits_in a b) n → ones (bits_in a b) p ≤ n → (q < length (bits_in a b)) × (p ≤ q) × (length (bits_in a b) < 2 ^ 64)
 stands_place {c} {a} {b} {i} {r} {p} {k} n q s e l =
     ((place_found (bits_in a b) n q (sym e)).within, not_before (bits_in a b) p q n (sym e) l s.inside, omega (arith, bits_length a b, (bools_of s).short))

@@ -7,7 +7,7 @@ use Rattle.columnar_sums.specs.Counting.{ones}
 use Rattle.columnar_sums.specs.RankColumns.{ranks_format, IsAt}
 
 -- where a cursor over the counts c, words a and tail b stands
-pub record Stands (c a b : List ℕ) (index rest pos count : ℕ) : Type 0 where
+pub record CursorStands (c a b : List ℕ) (index rest pos count : ℕ) : Type 0 where
   pub ranked : IsSound ranks_format (both (slice c) (both (slice a) (slice b)))
   pub inside : pos ≤ length (bits_in a b)
   pub floor : 64 * index ≤ pos

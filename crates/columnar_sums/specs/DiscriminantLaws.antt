@@ -165,8 +165,8 @@ rows_cut n vs =
     let r = earlier-take n [] vs in
     sym (tuples-take n (map (unsigned_row w8) vs) (map word_row (earlier [] vs)) ∙ rw (p, q, r) refl)
 
-pub row_at : (i : ℕ) (vs : List ℕ) (v : ℕ) → slice_get vs i ≡ Some v → slice_get (variant_rows [] vs) i ≡ Some (tuple (unsigned_row w8 v) (word_row (times v (take i vs))))
-row_at i vs v h =
+pub variant_row_at : (i : ℕ) (vs : List ℕ) (v : ℕ) → slice_get vs i ≡ Some v → slice_get (variant_rows [] vs) i ≡ Some (tuple (unsigned_row w8 v) (word_row (times v (take i vs))))
+variant_row_at i vs v h =
     slice_get-tuples i (map (unsigned_row w8) vs) (map word_row (earlier [] vs)) _ _
     (slice_get-map (unsigned_row w8) vs i ∙ rw h refl)
     (slice_get-map word_row (earlier [] vs) i ∙ rw (earlier-get i [] vs v h) refl)
@@ -224,12 +224,12 @@ forms_sound {vs} {bs} w h =
     })
 
 -- a sound content is of two slices
-pub record TwoSlices (c : Content) : Type 0 where
+pub record FormSlices (c : Content) : Type 0 where
   pub variants : List ℕ
   pub offsets : List ℕ
   pub is : c ≡ both (slice variants) (slice offsets)
 
-pub forms_form : (c : Content) → IsSound discriminant_format c → TwoSlices c
+pub forms_form : (c : Content) → IsSound discriminant_format c → FormSlices c
 forms_form c s =
     let w = two_form discriminant_two c s in
     let h = two_parts discriminant_two w.left w.right (rw w.is at s) in

@@ -20,7 +20,7 @@ use Rattle.columnar_core.specs.WordViews.{word, words_in, le_bytes}
 use Rattle.columnar_core.specs.WordViewLaws.{length-words_in, length-le_bytes, word_back, words_back, words_pushed, words_cut, word_is}
 use Rattle.columnar_sums.specs.Discriminants.{times, earlier, is_mixed, has_form, variants_in, variants_of, variant_rows, discriminant_format, owned_forms, sole}
 use Rattle.columnar_sums.specs.RankLaws.{same_numbers, numbers_same}
-use Rattle.columnar_sums.specs.DiscriminantLaws.{times_most, times_one, times-replicate, times_absent, times_all, mixed_from, mixed_less, same_from, mixed_more, mixed_two, same_replicate, same_last, length-earlier, earlier-append, earlier-take, earlier-get, earlier-replicate, length-variant_rows, row_at, Form, nothing, common, mixed, has_common, has_mixed, SoundForms, forms_parts, forms_sound, forms_took, forms_cut}
+use Rattle.columnar_sums.specs.DiscriminantLaws.{times_most, times_one, times-replicate, times_absent, times_all, mixed_from, mixed_less, same_from, mixed_more, mixed_two, same_replicate, same_last, length-earlier, earlier-append, earlier-take, earlier-get, earlier-replicate, length-variant_rows, variant_row_at, Form, nothing, common, mixed, has_common, has_mixed, SoundForms, forms_parts, forms_sound, forms_took, forms_cut}
 
 -- reads
 
@@ -128,7 +128,7 @@ pub record IsRowOf (ks : List ℕ) (i v m : ℕ) : Type 0 where
   pub before : m ≡ times v (take i ks)
 
 pub row_of : {ks : List ℕ} {i v m : ℕ} → IsRowOf ks i v m → slice_get (variant_rows [] ks) i ≡ Some (tuple (unsigned_row w8 v) (word_row m))
-row_of {ks} {i} {v} {m} r = rw r.before (row_at i ks v r.variant)
+row_of {ks} {i} {v} {m} r = rw r.before (variant_row_at i ks v r.variant)
 
 pub common_row : {vs bs : List ℕ} (i : ℕ) → SoundForms vs bs → length vs ≡ 0 → i < length (variant_rows [] (variants_in vs (words_in bs))) → IsRowOf (variants_in vs (words_in bs)) i (word bs 0 - 1) i
 common_row {vs} {bs} i s n l =

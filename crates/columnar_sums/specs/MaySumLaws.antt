@@ -16,7 +16,7 @@ use Rattle.columnar_sums.specs.Options.{weave, somes, value_of, options_format, 
 use Rattle.columnar_sums.specs.RankColumns.{ranks_bits, ranks_format}
 use Rattle.columnar_sums.specs.ResultLaws.{results_parts, results_refuses_more, results_form, length-results}
 use Rattle.columnar_sums.specs.Results.{weave_results, oks, errs, ok_part, err_part, beside_format, results_format}
-use Rattle.columnar_sums.specs.Unary.{bits_of, ends_of, falses, runs, falls, is_misplaced}
+use Rattle.columnar_sums.specs.Unary.{unary_bits, ends_of, falses, runs, falls, is_misplaced}
 use Rattle.columnar_sums.specs.UnaryColumns.{unaries_format}
 use Rattle.columnar_sums.specs.UnaryLaws.{unary_parts, unary_refuse_more, unary_bounds}
 use Rattle.columnar_sums.specs.UnaryLists.{set_truths, last-falses, runs-append, falls-append}
@@ -91,7 +91,7 @@ numbers_of (n ∷ ns) = ap (λ ms. n ∷ ms) (numbers_of ns)
 unaries_denied : (e : Excess) (c : Content) (rs : List Row) → IsSound unaries_format c → refuses_more unaries_format e c rs ≡ true → unary_limit e (unaries_format.rows c ++ rs)
 unaries_denied e c rs s h =
     let p = unary_parts ranks_format s in
-    let b : List Bool = bits_of ranks_format c in
+    let b : List Bool = unary_bits ranks_format c in
     let old : List ℕ = ends_of 0 b in
     let w : numbers (map number old ++ rs) ≡ old ++ numbers rs = map-append number_of (map number old) rs ∙ ap (λ us. us ++ numbers rs) (numbers_of old) in
     let l : last_or 0 old ≡ falses 0 b = last-falses true 0 0 b (λ i. refl) p.ended in

@@ -114,8 +114,8 @@ load_more new mid old i j e h d =
     sym (map-id _) ∙ map-range_with_len_more (λ (x : ℕ). x) (i + 1) (j - i) (j + 1) (omega arith) ∙ ap (λ (x : List ℕ). x ++ (j + 1) ∷ []) (map-id _) in
     d ∙ ap (λ (x : List ℕ). x ++ (j + 1) ∷ []) e ∙ append_assoc old (range_with_len (i + 1) (j - i)) ((j + 1) ∷ []) ∙ ap (λ (x : List ℕ). old ++ x) (sym m ∙ ap (range_with_len (i + 1)) s)
 
-pub inside : (ws : List ℕ) (i r p z q : ℕ) → IsAt ws i r p → 0 < r → r < 2 ^ 64 → z ≡ trailing_zeros w64 r → q ≡ 64 * i + z → length ws ≤ 2 ^ 58 → bit_in ws (64 * length ws - 1) ≡ false → q + 1 < 2 ^ 64
-inside ws i r p z q h pos fits ez eq short last =
+pub place_inside : (ws : List ℕ) (i r p z q : ℕ) → IsAt ws i r p → 0 < r → r < 2 ^ 64 → z ≡ trailing_zeros w64 r → q ≡ 64 * i + z → length ws ≤ 2 ^ 58 → bit_in ws (64 * length ws - 1) ≡ false → q + 1 < 2 ^ 64
+place_inside ws i r p z q h pos fits ez eq short last =
     let t = bit_at-trailing_zeros w64 r pos fits in
     let low : z < 64 = omega (arith, t.0) in
     let l = lowest ws i r p z q h pos fits ez eq in

@@ -20,7 +20,7 @@ use Rattle.columnar_bits.specs.BitLaws.{get_or-bits_of, bit_in_tail, bit_above, 
 use Rattle.columnar_bits.specs.BoolColumns.{last_word, last_count, bit_count, bits_in, bools_format, SoundBools}
 use Rattle.columnar_bits.specs.BoolLaws.{bools_parts, bools_sound, bools_form, bools_lawful, bools_storable, bits_length, words_of_bits}
 use Rattle.columnar_sums.specs.Counting.{ones, place, ones_below, counts_of, AreCounts, CountWords}
-use Rattle.columnar_sums.specs.CountLaws.{ones_truths, ones_below_mono, ones_yes, ones_no, place_some, place_none, inside}
+use Rattle.columnar_sums.specs.CountLaws.{ones_truths, ones_below_mono, ones_yes, ones_no, place_some, place_none, set_inside}
 use Rattle.columnar_sums.specs.RankColumns.{counts_match, ranks_format, IsNextTrue, AreFalseFrom, AreClear}
 
 -- counts as a test
@@ -186,7 +186,7 @@ ones_flat b p (suc m) h l =
 
 pub ones_next : (b : List Bool) (p q : ℕ) → IsNextTrue b p q → ones b (q + 1) ≡ ones b p + 1
 ones_next b p q h =
-    let l = inside b q h.1 in let from = h.0 in let e : p + (q - p) ≡ q = omega arith in
+    let l = set_inside b q h.1 in let from = h.0 in let e : p + (q - p) ≡ q = omega arith in
     ones_yes b q l h.1 ∙ ap (λ (x : ℕ). x + 1) (sym (ap (ones b) e) ∙ ones_flat b p (q - p) (λ k a d. h.2 k a (omega arith)) (omega arith))
 
 pub ones_none : (b : List Bool) (p q : ℕ) → AreFalseFrom b p → p ≤ q → q ≤ length b → ones b q ≡ ones b p

@@ -12,8 +12,8 @@ is_set (truth b) = b
 is_set _ = false
 
 -- the bits of a column of truth values
-abbrev pub bits_of : Format → Content → List Bool
-bits_of f c = map is_set (f.rows c)
+abbrev pub unary_bits : Format → Content → List Bool
+unary_bits f c = map is_set (f.rows c)
 
 -- how many falses stand before each true, with n before the first bit
 abbrev pub ends_of : ℕ → List Bool → List ℕ
@@ -39,14 +39,14 @@ upto [] (suc k) = 0
 upto (true ∷ bs) (suc k) = upto bs k + 1
 upto (false ∷ bs) (suc k) = upto bs (suc k) + 1
 
-abbrev pub zeros : ℕ → List Bool
-zeros zero = []
-zeros (suc n) = false ∷ zeros n
+abbrev pub all_false : ℕ → List Bool
+all_false zero = []
+all_false (suc n) = false ∷ all_false n
 
 -- the bits that offsets are, after an offset `from`
 abbrev pub runs : ℕ → List ℕ → List Bool
 runs from [] = []
-runs from (n ∷ ns) = zeros (n - from) ++ true ∷ runs n ns
+runs from (n ∷ ns) = all_false (n - from) ++ true ∷ runs n ns
 
 -- is one of the offsets below the one before it
 abbrev pub falls : ℕ → List ℕ → Bool
@@ -58,16 +58,16 @@ is_misplaced too_many = false
 is_misplaced misplaced = true
 
 -- the last of the first n offsets
-abbrev pub end_at : Format → Content → ℕ → ℕ
-end_at f c n = last_or 0 (take n (ends_of 0 (bits_of f c)))
+abbrev pub unary_end : Format → Content → ℕ → ℕ
+unary_end f c n = last_or 0 (take n (ends_of 0 (unary_bits f c)))
 
 -- the bits can't take the runs, or an offset is below the one before it
 abbrev pub unary_refuses : Format → Excess → Content → ℕ → List Row → Bool
-unary_refuses f e c n rs = f.refuses e c (upto (bits_of f c) n) (map truth (runs (end_at f c n) (numbers rs))) || (is_misplaced e && falls (end_at f c n) (numbers rs))
+unary_refuses f e c n rs = f.refuses e c (upto (unary_bits f c) n) (map truth (runs (unary_end f c n) (numbers rs))) || (is_misplaced e && falls (unary_end f c n) (numbers rs))
 
 -- the bits' rules, and then that the last bit is true
 abbrev pub unary_broken : Format → Content → List Fault
-unary_broken f c = f.broken c ++ unless (last_bit true (bits_of f c)) (fault 11 0)
+unary_broken f c = f.broken c ++ unless (last_bit true (unary_bits f c)) (fault 11 0)
 
 -- offsets over a column of truth values
 abbrev pub unary : Format → Format
@@ -77,8 +77,8 @@ unary f = record {
   aligns = f.aligns;
   turns = f.turns;
   broken = unary_broken f;
-  rows = λ c. map number (ends_of 0 (bits_of f c));
-  extent = λ c n. f.extent c (upto (bits_of f c) n);
+  rows = λ c. map number (ends_of 0 (unary_bits f c));
+  extent = λ c n. f.extent c (upto (unary_bits f c) n);
   build = f.build;
   alike = row_eq;
   kin = row_eq;

@@ -11,9 +11,9 @@ use Rattle.std.specs.Int.Bits.{or_zero_l}
 use Rattle.columnar_bits.specs.BitLaws.{truths_push, truths_grow, bit_set, bit_kept, set_below, bit_above, length-truths}
 use Rattle.columnar_bits.specs.BoolLaws.{words_grown}
 use Rattle.columnar_sums.specs.Counting.{ones, AreCounts}
-use Rattle.columnar_sums.specs.CountLaws.{ones_zero, ones_true, ones_false, ones_no, ones_yes, inside}
+use Rattle.columnar_sums.specs.CountLaws.{ones_zero, ones_true, ones_false, ones_no, ones_yes, set_inside}
 use Rattle.columnar_sums.specs.RankColumns.{ranks_format, ranks_bits, IsNextTrue, AreFalseFrom, Standing}
-use Rattle.columnar_sums.specs.Unary.{is_set, bits_of, ends_of, falses, last_bit, upto, zeros, runs, falls, unary, ends_left, ends_after}
+use Rattle.columnar_sums.specs.Unary.{is_set, unary_bits, ends_of, falses, last_bit, upto, all_false, runs, falls, unary, ends_left, ends_after}
 use Rattle.columnar_sums.specs.UnaryLists.{set_truths, falses-ends}
 use Rattle.columnar_sums.specs.UnaryColumns.{repeated}
 
@@ -21,7 +21,7 @@ pub four : ranks_format.turns ≤ 8
 four = omega arith
 
 -- the bits of a column of bits and counts
-pub ranks_bits_are : (c : Content) → bits_of ranks_format c ≡ ranks_bits c
+pub ranks_bits_are : (c : Content) → unary_bits ranks_format c ≡ ranks_bits c
 ranks_bits_are c = set_truths (ranks_bits c)
 
 -- there is an offset for each true
@@ -61,30 +61,30 @@ upto_found (false ∷ b) (suc p) h = ap (λ (t : ℕ). upto (false ∷ b) (suc t
 pub falses_are : (b : List Bool) → falses 0 b ≡ length b - ones b (length b)
 falses_are b = let h = falses-ends 0 b in let k = ones_ends 0 b in omega arith
 
-pub last_is : (c : Bool) (b : List Bool) → 0 < length b → last_bit c b ≡ slice_index_or b (length b - 1) false
-last_is c [] l = absurd (omega arith)
-last_is c (x ∷ []) l = refl
-last_is c (x ∷ (y ∷ b)) l =
+pub last_bit_is : (c : Bool) (b : List Bool) → 0 < length b → last_bit c b ≡ slice_index_or b (length b - 1) false
+last_bit_is c [] l = absurd (omega arith)
+last_bit_is c (x ∷ []) l = refl
+last_bit_is c (x ∷ (y ∷ b)) l =
     let e : suc (suc (length b)) - 1 ≡ suc (length b) = omega arith in
     let d : suc (length b) - 1 ≡ length b = omega arith in
-    let h : last_bit x (y ∷ b) ≡ slice_index_or (y ∷ b) (suc (length b) - 1) false = last_is x (y ∷ b) (omega arith) in
+    let h : last_bit x (y ∷ b) ≡ slice_index_or (y ∷ b) (suc (length b) - 1) false = last_bit_is x (y ∷ b) (omega arith) in
     rw e (rw d at h)
 
 -- ---- falses after others
 
-zeros_push : (n : ℕ) → zeros n ++ false ∷ [] ≡ zeros (suc n)
+zeros_push : (n : ℕ) → all_false n ++ false ∷ [] ≡ all_false (suc n)
 zeros_push zero = refl
 zeros_push (suc n) = ap (λ (t : List Bool). false ∷ t) (zeros_push n)
 
-pub zeros_more : (m n : ℕ) → zeros m ++ zeros n ≡ zeros (m + n)
+pub zeros_more : (m n : ℕ) → all_false m ++ all_false n ≡ all_false (m + n)
 zeros_more zero n = let e : 0 + n ≡ n = omega arith in rw e refl
 zeros_more (suc m) n = let e : suc m + n ≡ suc (m + n) = omega arith in rw e (ap (λ (t : List Bool). false ∷ t) (zeros_more m n))
 
-pub length-zeros : (n : ℕ) → length (zeros n) ≡ n
+pub length-zeros : (n : ℕ) → length (all_false n) ≡ n
 length-zeros zero = refl
 length-zeros (suc n) = ap suc (length-zeros n)
 
-pub truths_zero : (n : ℕ) → truths (bit 0) n ≡ zeros n
+pub truths_zero : (n : ℕ) → truths (bit 0) n ≡ all_false n
 unfolding truths
 truths_zero zero = refl
 truths_zero (suc n) =
@@ -93,7 +93,7 @@ truths_zero (suc n) =
     rw (e, h, truths_zero n, zeros_push n) at (truths_push (bit 0) n)
 
 -- and then a true, as a number
-pub truths_run : (n : ℕ) → n < 64 → truths (bit (1 * 2 ^ n % 2 ^ 64)) (n + 1) ≡ zeros n ++ true ∷ []
+pub truths_run : (n : ℕ) → n < 64 → truths (bit (1 * 2 ^ n % 2 ^ 64)) (n + 1) ≡ all_false n ++ true ∷ []
 truths_run n l =
     let z : bit_or 0 (1 * 2 ^ n % 2 ^ 64) ≡ 1 * 2 ^ n % 2 ^ 64 = or_zero_l (1 * 2 ^ n % 2 ^ 64) in
     rw (truths_zero n) at (truths_grow (bit 0) (bit (1 * 2 ^ n % 2 ^ 64)) n true (λ k m. rw z at (bit_kept 0 n k l m)) (rw z at (bit_set 0 n l)))
@@ -106,18 +106,18 @@ run_below n l = rw (or_zero_l (1 * 2 ^ n % 2 ^ 64)) at (set_below 0 n l (zero_be
     zero_below (suc n) = let h = zero_below n in omega arith
 
 -- no true is after them
-ones_none : (m p : ℕ) → ones (zeros m) p ≡ 0
+ones_none : (m p : ℕ) → ones (all_false m) p ≡ 0
 unfolding ones
 ones_none zero zero = refl
 ones_none zero (suc p) = refl
 ones_none (suc m) zero = refl
-ones_none (suc m) (suc p) = ones_false (zeros m) p ∙ ones_none m p
+ones_none (suc m) (suc p) = ones_false (all_false m) p ∙ ones_none m p
 
-pub ones_after : (b : List Bool) (m p : ℕ) → length b ≤ p → ones (b ++ zeros m) p ≡ ones b (length b)
+pub ones_after : (b : List Bool) (m p : ℕ) → length b ≤ p → ones (b ++ all_false m) p ≡ ones b (length b)
 ones_after [] m p l = ones_none m p ∙ sym (ones_zero [])
 ones_after (x ∷ b) m zero l = absurd (omega arith)
-ones_after (true ∷ b) m (suc p) l = ones_true (b ++ zeros m) p ∙ ap suc (ones_after b m p (omega arith)) ∙ sym (ones_true b (length b))
-ones_after (false ∷ b) m (suc p) l = ones_false (b ++ zeros m) p ∙ ones_after b m p (omega arith) ∙ sym (ones_false b (length b))
+ones_after (true ∷ b) m (suc p) l = ones_true (b ++ all_false m) p ∙ ap suc (ones_after b m p (omega arith)) ∙ sym (ones_true b (length b))
+ones_after (false ∷ b) m (suc p) l = ones_false (b ++ all_false m) p ∙ ones_after b m p (omega arith) ∙ sym (ones_false b (length b))
 
 pub length-repeated : (n x : ℕ) → length (repeated n x) ≡ n
 length-repeated zero x = refl
@@ -141,23 +141,23 @@ counts_kept b ds cs h e =
     (omega arith, λ i m. h.1 i m ∙ sym (ap (λ (x : List Bool). count_by (λ (y : Bool). y) x) (take-append-le (1024 * (i + 1)) b ds (omega arith))))
 
 -- the counts of bits with falses after them
-pub counts_run : (b : List Bool) (cs : List ℕ) (m n : ℕ) → AreCounts b cs → n ≡ (length b + m) / 1024 - length cs → AreCounts (b ++ zeros m) (cs ++ repeated n (ones b (length b)))
+pub counts_run : (b : List Bool) (cs : List ℕ) (m n : ℕ) → AreCounts b cs → n ≡ (length b + m) / 1024 - length cs → AreCounts (b ++ all_false m) (cs ++ repeated n (ones b (length b)))
 unfolding AreCounts ones
 counts_run b cs m n h en =
     let e = h.0 in
-    let lb : length (b ++ zeros m) ≡ length b + m = length-append b (zeros m) ∙ ap (λ (t : ℕ). length b + t) (length-zeros m) in
+    let lb : length (b ++ all_false m) ≡ length b + m = length-append b (all_false m) ∙ ap (λ (t : ℕ). length b + t) (length-zeros m) in
     let lc : length (cs ++ repeated n (ones b (length b))) ≡ length cs + n = length-append cs (repeated n (ones b (length b))) ∙ ap (λ (t : ℕ). length cs + t) (length-repeated n (ones b (length b))) in (
       omega arith,
       λ i k.
-          ⊎_elim (λ (a : i < length cs). get_or_append_left cs (repeated n (ones b (length b))) 0 i a ∙ h.1 i a ∙ sym (ap (λ (x : List Bool). count_by (λ (y : Bool). y) x) (take-append-le (1024 * (i + 1)) b (zeros m) (omega arith))))
+          ⊎_elim (λ (a : i < length cs). get_or_append_left cs (repeated n (ones b (length b))) 0 i a ∙ h.1 i a ∙ sym (ap (λ (x : List Bool). count_by (λ (y : Bool). y) x) (take-append-le (1024 * (i + 1)) b (all_false m) (omega arith))))
           (λ (a : length cs ≤ i).
           get_or-append_right cs (repeated n (ones b (length b))) (length cs) i 0 refl a ∙ get-repeated n (ones b (length b)) (i - length cs) 0 (omega arith) ∙ sym (ones_after b m (1024 * (i + 1)) (omega arith)))
           (cases_lt i (length cs)),
     )
 
-pub falses_more : (x y z : List Bool) (done some : ℕ) → y ≡ x ++ zeros done → z ≡ y ++ truths (bit 0) some → z ≡ x ++ zeros (done + some)
+pub falses_more : (x y z : List Bool) (done some : ℕ) → y ≡ x ++ all_false done → z ≡ y ++ truths (bit 0) some → z ≡ x ++ all_false (done + some)
 falses_more x y z done some p q =
-    q ∙ ap (λ (t : List Bool). t ++ truths (bit 0) some) p ∙ append_assoc x (zeros done) (truths (bit 0) some) ∙ ap (λ (t : List Bool). x ++ t) (ap (λ (t : List Bool). zeros done ++ t) (truths_zero some) ∙ zeros_more done some)
+    q ∙ ap (λ (t : List Bool). t ++ truths (bit 0) some) p ∙ append_assoc x (all_false done) (truths (bit 0) some) ∙ ap (λ (t : List Bool). x ++ t) (ap (λ (t : List Bool). all_false done ++ t) (truths_zero some) ∙ zeros_more done some)
 
 pub counted_more : (w ys zs : List ℕ) (n total : ℕ) → words_in (le_bytes ys) ≡ w ++ repeated n total → zs ≡ ys ++ total ∷ [] → total < 2 ^ 64 → words_in (le_bytes zs) ≡ w ++ repeated (n + 1) total
 counted_more w ys zs n total p q l =
@@ -187,7 +187,7 @@ pub record NextEnd (b : List Bool) (pos q : ℕ) : Type 0 where
 
 pub next_end : (b : List Bool) (pos q : ℕ) → IsNextTrue b pos q → NextEnd b pos q
 next_end b pos q h =
-    let l : q < length b = inside b q h.1 in
+    let l : q < length b = set_inside b q h.1 in
     let e : ones b q ≡ ones b pos = ones_skip b pos q h.0 (omega arith) h.2 in
     let f = ends_found 0 b q h.1 in
     let d : 0 + (q - ones b q) ≡ q - ones b pos = omega (arith, e) in
@@ -210,7 +210,7 @@ pub last_read : (b : List Bool) (n : ℕ) (v : Bool) → n ≡ length b → (n �
 last_read b n v e z h =
     let l : 0 < length b = omega arith in
     let k : slice_get b (n - 1) ≡ Some v = truth_back b (n - 1) v h in
-    sym (last_is true b l ∙ ap (λ (t : ℕ). slice_index_or b t false) (let d : length b - 1 ≡ n - 1 = omega arith in d) ∙ get_is b (n - 1) v k)
+    sym (last_bit_is true b l ∙ ap (λ (t : ℕ). slice_index_or b t false) (let d : length b - 1 ≡ n - 1 = omega arith in d) ∙ get_is b (n - 1) v k)
   where
     truth_back : (b : List Bool) (i : ℕ) (v : Bool) → slice_get (map truth b) i ≡ Some (truth v) → slice_get b i ≡ Some v
     truth_back [] i v h = cc

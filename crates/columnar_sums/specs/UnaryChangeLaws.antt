@@ -22,10 +22,10 @@ use Rattle.columnar_sums.specs.Counting.{ones}
 use Rattle.columnar_sums.specs.RankColumns.{ranks_format, ranks_bits, IsNextTrue, AreFalseFrom}
 use Rattle.columnar_sums.specs.RankLaws.{SoundRanks, ranks_parts, ranks_sound, ranks_lawful}
 use Rattle.columnar_sums.specs.RankChangeLaws.{Ranked, ranks_took, ranks_refused}
-use Rattle.columnar_sums.specs.Unary.{is_set, bits_of, ends_of, falses, last_bit, upto, zeros, runs, falls, unary, unary_broken}
+use Rattle.columnar_sums.specs.Unary.{is_set, unary_bits, ends_of, falses, last_bit, upto, all_false, runs, falls, unary, unary_broken}
 use Rattle.columnar_sums.specs.UnaryLists.{set_truths, upto-within, last-falses}
 use Rattle.columnar_sums.specs.UnaryLaws.{SoundUnary, numbers_back, unary_refused, unary_parts, unary_sound, length-offsets, unary_took, unary_stayed, unary_misplaced, unary_refuse_more, unary_cut, unary_rises}
-use Rattle.columnar_sums.specs.UnaryBitLaws.{counts_kept, ones_ends, ends_found, upto_found, falses_are, last_is, length-zeros, counts_run}
+use Rattle.columnar_sums.specs.UnaryBitLaws.{counts_kept, ones_ends, ends_found, upto_found, falses_are, last_bit_is, length-zeros, counts_run}
 use Rattle.columnar_sums.specs.UnaryRangeLaws.{RangeBits, range_bits, runs_back, ends_rise, upto_at, end_from, end_there}
 use Rattle.columnar_sums.specs.UnaryColumns.{unaries_format, repeated, all_falses}
 
@@ -59,7 +59,7 @@ unaries_word c a b i p l h e = rw (word_is (p - i) (omega arith)) (unaries_row c
 abbrev pub last_end : List ℕ → List ℕ → ℕ
 last_end a b = length (bits_in a b) - ones (bits_in a b) (length (bits_in a b))
 
-pub falses_of : (c a b : List ℕ) → falses 0 (bits_of ranks_format (three c a b)) ≡ last_end a b
+pub falses_of : (c a b : List ℕ) → falses 0 (unary_bits ranks_format (three c a b)) ≡ last_end a b
 falses_of c a b = ap (falses 0) (set_truths (bits_in a b)) ∙ falses_are (bits_in a b)
 
 pub unaries_rise : (c a b : List ℕ) (end : ℕ) → IsSound unaries_format (three c a b) → rises 0 (numbers (unaries_format.rows (three c a b))) end ≡ nat_eq (last_end a b) end
@@ -67,10 +67,10 @@ unaries_rise c a b end s = unary_rises ranks_format end s ∙ ap (λ (t : ℕ). 
 
 -- the offsets are the ends of the bits
 pub ends_are : (c a b : List ℕ) → numbers (unaries_format.rows (three c a b)) ≡ ends_of 0 (bits_in a b)
-ends_are c a b = numbers_back (ends_of 0 (bits_of ranks_format (three c a b))) ∙ ap (ends_of 0) (set_truths (bits_in a b))
+ends_are c a b = numbers_back (ends_of 0 (unary_bits ranks_format (three c a b))) ∙ ap (ends_of 0) (set_truths (bits_in a b))
 
 pub last_is_end : (c a b : List ℕ) → IsSound unaries_format (three c a b) → last_or 0 (numbers (unaries_format.rows (three c a b))) ≡ last_end a b
-last_is_end c a b s = ap (last_or 0) (numbers_back (ends_of 0 (bits_of ranks_format (three c a b)))) ∙ last-falses true 0 0 (bits_of ranks_format (three c a b)) (λ h. refl) (unary_parts ranks_format s).ended ∙ falses_of c a b
+last_is_end c a b s = ap (last_or 0) (numbers_back (ends_of 0 (unary_bits ranks_format (three c a b)))) ∙ last-falses true 0 0 (unary_bits ranks_format (three c a b)) (λ h. refl) (unary_parts ranks_format s).ended ∙ falses_of c a b
 
 -- ---- growth
 
@@ -85,11 +85,11 @@ or_false : (a b : Bool) → a ≡ false → b ≡ false → (a || b) ≡ false
 or_false true b p q = cc
 or_false false b p q = q
 
-pub run_took : {c a b c' a' b' : List ℕ} (item run : ℕ) → IsSound unaries_format (three c a b) → last_end a b ≤ item → run ≡ item - last_end a b → item < 2 ^ 64 → Ranked c a b c' a' b' (zeros run ++ true ∷ []) → Took unaries_format (three c a b) (three c' a' b') (word_row item ∷ [])
+pub run_took : {c a b c' a' b' : List ℕ} (item run : ℕ) → IsSound unaries_format (three c a b) → last_end a b ≤ item → run ≡ item - last_end a b → item < 2 ^ 64 → Ranked c a b c' a' b' (all_false run ++ true ∷ []) → Took unaries_format (three c a b) (three c' a' b') (word_row item ∷ [])
 run_took {c} {a} {b} {c'} {a'} {b'} item run s l e w g =
     let f = falses_of c a b in
-    let k : falls (falses 0 (bits_of ranks_format (three c a b))) (item ∷ []) ≡ false = rw f (or_false (nat_lt item (last_end a b)) false (le-ltb item (last_end a b) l) refl) in
-    let h : Took ranks_format (three c a b) (three c' a' b') (map truth (runs (falses 0 (bits_of ranks_format (three c a b))) (item ∷ []))) = rw (f, ← e) (ranks_took g) in
+    let k : falls (falses 0 (unary_bits ranks_format (three c a b))) (item ∷ []) ≡ false = rw f (or_false (nat_lt item (last_end a b)) false (le-ltb item (last_end a b) l) refl) in
+    let h : Took ranks_format (three c a b) (three c' a' b') (map truth (runs (falses 0 (unary_bits ranks_format (three c a b))) (item ∷ []))) = rw (f, ← e) (ranks_took g) in
     rw (word_is item w) (unary_took ranks_format (item ∷ []) row_eq_exact s k h)
 
 pub run_misplaced : {c a b : List ℕ} (item : ℕ) → IsSound unaries_format (three c a b) → item < last_end a b → item < 2 ^ 64 → Refused unaries_format (three c a b) (three c a b) (word_row item ∷ []) Offset
@@ -103,8 +103,8 @@ run_too_long {c} {a} {b} item run s l e w h = record {
   stayed = unchanged s;
   cause =
       let f = falses_of c a b in
-      let rs : List Row = map truth (zeros run ++ true ∷ []) in
-      let n : length rs ≡ run + 1 = length-map (zeros run ++ true ∷ []) truth ∙ length-append (zeros run) (true ∷ []) ∙ omega (arith, length-zeros run) in
+      let rs : List Row = map truth (all_false run ++ true ∷ []) in
+      let n : length rs ≡ run + 1 = length-map (all_false run ++ true ∷ []) truth ∙ length-append (all_false run) (true ∷ []) ∙ omega (arith, length-zeros run) in
       let k : past_count too_many (length (map truth (bits_in a b)) + length rs) ≡ true = bools_past a b rs (omega arith) in
       unary_refuse_more ranks_format too_many (unary_parts ranks_format s) (word_row item ∷ []) ∙ (let m : item % 2 ^ 64 ≡ item = omega arith in rw (f, m, ← e, k) refl);
 }
@@ -113,7 +113,7 @@ pub run_refused : {c a b : List ℕ} {y : Content} (item : ℕ) → IsSound unar
 run_refused item s g = record { stayed = unary_stayed ranks_format s g; cause = tt }
 
 -- falses after, with the counts of the chunks that they complete
-pub falses_ranked : {c a b c' a' b' : List ℕ} (m n : ℕ) → SoundRanks c a b → SoundBools a' b' → bits_in a' b' ≡ bits_in a b ++ zeros m → n ≡ (length (bits_in a b) + m) / 1024 - length (words_in c) → words_in c' ≡ words_in c ++ repeated n (ones (bits_in a b) (length (bits_in a b))) → length c' % 8 ≡ 0 → Ranked c a b c' a' b' (zeros m)
+pub falses_ranked : {c a b c' a' b' : List ℕ} (m n : ℕ) → SoundRanks c a b → SoundBools a' b' → bits_in a' b' ≡ bits_in a b ++ all_false m → n ≡ (length (bits_in a b) + m) / 1024 - length (words_in c) → words_in c' ≡ words_in c ++ repeated n (ones (bits_in a b) (length (bits_in a b))) → length c' % 8 ≡ 0 → Ranked c a b c' a' b' (all_false m)
 falses_ranked {c} {a} {b} {c'} {a'} {b'} m n s t e k w l = record {
   sound = record { whole = l; bools = t; are_counts = rw (e, w) (counts_run (bits_in a b) (words_in c) m n s.are_counts k) };
   bits = e;
@@ -123,7 +123,7 @@ falses_ranked {c} {a} {b} {c'} {a'} {b'} m n s t e k w l = record {
 
 pub unaries_cut : {c a b : List ℕ} {y : Content} (n end : ℕ) → IsSound unaries_format (three c a b) → n ≤ length (unaries_format.rows (three c a b)) → end ≡ upto (bits_in a b) n → WasCut ranks_format (three c a b) y end → WasCut unaries_format (three c a b) y n
 unaries_cut {c} {a} {b} {y} n end s l e g =
-    let d : end ≡ upto (bits_of ranks_format (three c a b)) n = rw (set_truths (bits_in a b)) e in
+    let d : end ≡ upto (unary_bits ranks_format (three c a b)) n = rw (set_truths (bits_in a b)) e in
     unary_cut ranks_format s l (rw d at g)
 
 pub cut_within : (c a b : List ℕ) (n : ℕ) → upto (bits_in a b) n ≤ length (ranks_format.rows (three c a b))
@@ -137,18 +137,18 @@ cut_place a b n p l h e =
 -- ---- tests
 
 pub judged_bits : (f : Format) (c : Content) (o : ℕ) (z : Fault) → Some z ≡ first (moved o (f.broken c)) → Some z ≡ first (moved o (unary_broken f c))
-judged_bits f c o z h = rw (map-append (moved_one o) (f.broken c) (unless (last_bit true (bits_of f c)) (fault 11 0))) (sym (first_found (moved o (f.broken c)) (moved o (unless (last_bit true (bits_of f c)) (fault 11 0))) z (sym h)))
+judged_bits f c o z h = rw (map-append (moved_one o) (f.broken c) (unless (last_bit true (unary_bits f c)) (fault 11 0))) (sym (first_found (moved o (f.broken c)) (moved o (unless (last_bit true (unary_bits f c)) (fault 11 0))) z (sym h)))
 
-pub judged_open : (f : Format) (c : Content) (o : ℕ) → None ≡ first (moved o (f.broken c)) → last_bit true (bits_of f c) ≡ false → Some (fault 11 o) ≡ first (moved o (unary_broken f c))
+pub judged_open : (f : Format) (c : Content) (o : ℕ) → None ≡ first (moved o (f.broken c)) → last_bit true (unary_bits f c) ≡ false → Some (fault 11 o) ≡ first (moved o (unary_broken f c))
 judged_open f c o h e =
     let n = first_none (moved o (f.broken c)) (sym h) in
     let k : o + 0 ≡ o = omega arith in
-    rw (map-append (moved_one o) (f.broken c) (unless (last_bit true (bits_of f c)) (fault 11 0)), n, e, k) refl
+    rw (map-append (moved_one o) (f.broken c) (unless (last_bit true (unary_bits f c)) (fault 11 0)), n, e, k) refl
 
-pub judged_ended : (f : Format) (c : Content) (o : ℕ) → None ≡ first (moved o (f.broken c)) → last_bit true (bits_of f c) ≡ true → None ≡ first (moved o (unary_broken f c))
+pub judged_ended : (f : Format) (c : Content) (o : ℕ) → None ≡ first (moved o (f.broken c)) → last_bit true (unary_bits f c) ≡ true → None ≡ first (moved o (unary_broken f c))
 judged_ended f c o h e =
     let n = first_none (moved o (f.broken c)) (sym h) in
-    rw (map-append (moved_one o) (f.broken c) (unless (last_bit true (bits_of f c)) (fault 11 0)), n, e) refl
+    rw (map-append (moved_one o) (f.broken c) (unless (last_bit true (unary_bits f c)) (fault 11 0)), n, e) refl
 
 -- ---- by the calls
 
@@ -171,8 +171,8 @@ pub bits_fit : (o : ℕ) (ss : List (List ℕ)) → Fits unaries_format o ss →
 bits_fit o ss h = record { room = h.room; sound = (unary_parts ranks_format h.sound).bits }
 
 -- falses, and then a true
-pub run_bits : (x u v : List Bool) (n : ℕ) → u ≡ x ++ zeros n → v ≡ u ++ true ∷ [] → v ≡ x ++ (zeros n ++ true ∷ [])
-run_bits x u v n p q = q ∙ ap (λ (t : List Bool). t ++ true ∷ []) p ∙ append_assoc x (zeros n) (true ∷ [])
+pub run_bits : (x u v : List Bool) (n : ℕ) → u ≡ x ++ all_false n → v ≡ u ++ true ∷ [] → v ≡ x ++ (all_false n ++ true ∷ [])
+run_bits x u v n p q = q ∙ ap (λ (t : List Bool). t ++ true ∷ []) p ∙ append_assoc x (all_false n) (true ∷ [])
 
 -- growth that was refused after what had been taken, and taken back
 pub run_undone : (x x' y z w : Content) (rs : List Row) (n : ℕ) → x' ≡ x → IsSound ranks_format x → Grew ranks_format x' y rs → Stayed ranks_format y z → n ≡ length (ranks_format.rows x) → WasCut ranks_format z w n → Stayed ranks_format x w
@@ -200,19 +200,19 @@ pub range_took : {c a b c' a' b' : List ℕ} (p q r : List ℕ) (m n lower start
 range_took {c} {a} {b} {c'} {a'} {b'} p q r m n lower start from to s l k h e d u g =
     let ds : List Bool = slice_range (bits_in q r) from to in
     let w = range_is p q r m n lower start from to l k h d u in
-    let f : falses 0 (bits_of ranks_format (three c a b)) ≡ start = falses_of c a b ∙ sym (last_is_end c a b s) ∙ e in
-    let t : Took ranks_format (three c a b) (three c' a' b') (map truth (runs (falses 0 (bits_of ranks_format (three c a b))) (ends_of start ds))) = rw (f, runs_back start ds w.ended) (ranks_took g) in
-    let v : falls (falses 0 (bits_of ranks_format (three c a b))) (ends_of start ds) ≡ false = rw f (ends_rise start ds) in
+    let f : falses 0 (unary_bits ranks_format (three c a b)) ≡ start = falses_of c a b ∙ sym (last_is_end c a b s) ∙ e in
+    let t : Took ranks_format (three c a b) (three c' a' b') (map truth (runs (falses 0 (unary_bits ranks_format (three c a b))) (ends_of start ds))) = rw (f, runs_back start ds w.ended) (ranks_took g) in
+    let v : falls (falses 0 (unary_bits ranks_format (three c a b))) (ends_of start ds) ≡ false = rw f (ends_rise start ds) in
     rw (ends_are p q r, ← w.rows) (unary_took ranks_format (ends_of start ds) row_eq_exact s v t)
 
 pub range_refused : {c a b : List ℕ} {y : Content} {error : GrowError} (p q r : List ℕ) (m n lower start from to : ℕ) → IsSound unaries_format (three c a b) → m ≤ n → n ≤ length (unaries_format.rows (three p q r)) → slice_get (0 ∷ numbers (unaries_format.rows (three p q r))) m ≡ Some lower → last_or 0 (numbers (unaries_format.rows (three c a b))) ≡ start → from ≡ lower + m → to ≡ upto (bits_in q r) n → Stayed ranks_format (three c a b) y → IsOfGrowth error → (error ≡ Length → 2 ^ 64 ≤ length (bits_in a b) + length (slice_range (bits_in q r) from to)) → Refused unaries_format (three c a b) y (take (n - m) (drop m (shifted lower start (numbers (unaries_format.rows (three p q r)))))) error
 range_refused {c} {a} {b} {y} {error} p q r m n lower start from to s l k h e d u st kind cause =
     let ds : List Bool = slice_range (bits_in q r) from to in
     let w = range_is p q r m n lower start from to l k h d u in
-    let f : falses 0 (bits_of ranks_format (three c a b)) ≡ start = falses_of c a b ∙ sym (last_is_end c a b s) ∙ e in
+    let f : falses 0 (unary_bits ranks_format (three c a b)) ≡ start = falses_of c a b ∙ sym (last_is_end c a b s) ∙ e in
     let z : length (map truth ds) ≡ length ds = length-map ds truth in
     let t : Refused ranks_format (three c a b) y (map truth ds) error = ranks_refused (map truth ds) error st kind (λ x. rw z (cause x)) in
-    let v : Refused ranks_format (three c a b) y (map truth (runs (falses 0 (bits_of ranks_format (three c a b))) (numbers (map number (ends_of start ds))))) error = rw (f, numbers_back (ends_of start ds), runs_back start ds w.ended) t in
+    let v : Refused ranks_format (three c a b) y (map truth (runs (falses 0 (unary_bits ranks_format (three c a b))) (numbers (map number (ends_of start ds))))) error = rw (f, numbers_back (ends_of start ds), runs_back start ds w.ended) t in
     rw (ends_are p q r, ← w.rows) (unary_refused ranks_format (map number (ends_of start ds)) s v)
 
 -- a refused copy of the bits

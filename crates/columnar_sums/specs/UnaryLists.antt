@@ -4,7 +4,7 @@ use Rattle.std.specs.Prelude.{nat_lt, nat_eq}
 use Rattle.std.proofs.lemmas.Bool.{le-ltb, ltb-false}
 use Rattle.columnar_core.specs.Row.{truth}
 use Rattle.columnar_core.specs.Bounds.{last_or}
-use Rattle.columnar_sums.specs.Unary.{is_set, ends_of, falses, last_bit, upto, zeros, runs, falls}
+use Rattle.columnar_sums.specs.Unary.{is_set, ends_of, falses, last_bit, upto, all_false, runs, falls}
 
 -- truth values, as rows and back
 pub set_truths : (bs : List Bool) → map is_set (map truth bs) ≡ bs
@@ -89,7 +89,7 @@ cut-ended b n (false ∷ bs) (suc k) l h = let e : upto bs (suc k) + 1 ≡ suc (
 
 -- ---- runs
 
-pub ends-zeros : (n k : ℕ) (bs : List Bool) → ends_of n (zeros k ++ bs) ≡ ends_of (n + k) bs
+pub ends-zeros : (n k : ℕ) (bs : List Bool) → ends_of n (all_false k ++ bs) ≡ ends_of (n + k) bs
 ends-zeros n zero bs = let e : n + 0 ≡ n = omega arith in rw e refl
 ends-zeros n (suc k) bs = let e : n + suc k ≡ n + 1 + k = omega arith in rw e (ends-zeros (n + 1) k bs)
 
@@ -103,7 +103,7 @@ last-true b (x ∷ xs) ys = last-true x xs ys
 
 pub runs-ended : (from : ℕ) (ns : List ℕ) → last_bit true (runs from ns) ≡ true
 runs-ended from [] = refl
-runs-ended from (n ∷ ns) = last-true true (zeros (n - from)) (runs n ns) ∙ runs-ended n ns
+runs-ended from (n ∷ ns) = last-true true (all_false (n - from)) (runs n ns) ∙ runs-ended n ns
 
 or_false : (a b : Bool) → (a || b) ≡ false → (a ≡ false) × (b ≡ false)
 or_false true b h = cc
@@ -119,7 +119,7 @@ ends-runs from (n ∷ ns) h =
 
 pub runs-append : (from : ℕ) (xs ys : List ℕ) → runs from (xs ++ ys) ≡ runs from xs ++ runs (last_or from xs) ys
 runs-append from [] ys = refl
-runs-append from (x ∷ xs) ys = rw (runs-append x xs ys) (sym (append_assoc (zeros (x - from)) (true ∷ runs x xs) (runs (last_or x xs) ys)))
+runs-append from (x ∷ xs) ys = rw (runs-append x xs ys) (sym (append_assoc (all_false (x - from)) (true ∷ runs x xs) (runs (last_or x xs) ys)))
 
 or_more : (a b c : Bool) → (a || (b || c)) ≡ ((a || b) || c)
 or_more true b c = refl

@@ -9,7 +9,7 @@ use Rattle.columnar_core.specs.BoundLaws.{last_at}
 use Rattle.columnar_sums.specs.Counting.{ones}
 use Rattle.columnar_sums.specs.CountLaws.{ones_zero, ones_true, ones_false}
 use Rattle.columnar_sums.specs.RankColumns.{IsNextTrue, AreFalseFrom}
-use Rattle.columnar_sums.specs.Unary.{ends_of, last_bit, upto, zeros, runs, falls}
+use Rattle.columnar_sums.specs.Unary.{ends_of, last_bit, upto, all_false, runs, falls}
 use Rattle.columnar_sums.specs.UnaryLists.{ends_cut, cut-ended, upto-within}
 use Rattle.columnar_sums.specs.UnaryBitLaws.{ones_ends, ends_found, ones_skip, no_end}
 
@@ -67,11 +67,11 @@ end_there b m from l e h =
 -- ---- bits of a range
 
 -- the bits of offsets are the runs of these
-zeros_then : (j : ℕ) (ds : List Bool) → zeros (suc j) ++ ds ≡ zeros j ++ false ∷ ds
+zeros_then : (j : ℕ) (ds : List Bool) → all_false (suc j) ++ ds ≡ all_false j ++ false ∷ ds
 zeros_then zero ds = refl
 zeros_then (suc j) ds = ap (λ (t : List Bool). false ∷ t) (zeros_then j ds)
 
-runs_from : (c : Bool) (from j : ℕ) (ds : List Bool) → (c ≡ true → j ≡ 0) → last_bit c ds ≡ true → runs from (ends_of (from + j) ds) ≡ zeros j ++ ds
+runs_from : (c : Bool) (from j : ℕ) (ds : List Bool) → (c ≡ true → j ≡ 0) → last_bit c ds ≡ true → runs from (ends_of (from + j) ds) ≡ all_false j ++ ds
 runs_from c from j [] z h = let e : j ≡ 0 = z h in rw e refl
 runs_from c from j (true ∷ ds) z h =
     let e : from + j - from ≡ j = omega arith in
@@ -80,7 +80,7 @@ runs_from c from j (true ∷ ds) z h =
     rw (e, r) refl
 runs_from c from j (false ∷ ds) z h =
     let d : from + suc j ≡ from + j + 1 = omega arith in
-    let r : runs from (ends_of (from + j + 1) ds) ≡ zeros (suc j) ++ ds = rw d at (runs_from false from (suc j) ds (λ p. cc) h) in
+    let r : runs from (ends_of (from + j + 1) ds) ≡ all_false (suc j) ++ ds = rw d at (runs_from false from (suc j) ds (λ p. cc) h) in
     r ∙ zeros_then j ds
 
 pub runs_back : (from : ℕ) (ds : List Bool) → last_bit true ds ≡ true → runs from (ends_of from ds) ≡ ds

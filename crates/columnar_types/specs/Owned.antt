@@ -3,7 +3,7 @@ use Rattle.std.specs.Prelude.{ℕ, Bool, true, false, not, List, [], ◌∷◌, 
 use Rattle.std.specs.Str.{is_utf8}
 use Rattle.columnar_base.specs.Row.{Row, some, ok, err, first_of, second_of, items_of}
 use Rattle.columnar_base.specs.Solos.{only_of}
-use Rattle.columnar_base.specs.Texts.{bytes_of}
+use Rattle.columnar_base.specs.Texts.{text_bytes}
 use Rattle.columnar_base.specs.declared.fault.OwnError.{OwnError}
 use Rattle.columnar_base.specs.declared.fault.OwnError.TheVariants.{Memory, Utf8, WrongLength}
 
@@ -21,7 +21,7 @@ abbrev pub always_fit : Unfit → Row → Bool
 always_fit u r = false
 
 abbrev pub text_unfit : Unfit → Row → Bool
-text_unfit no_text r = not (is_utf8 (bytes_of r))
+text_unfit no_text r = not (is_utf8 (text_bytes r))
 text_unfit other_length r = false
 
 -- the value of an option is so

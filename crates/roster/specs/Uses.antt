@@ -40,8 +40,8 @@ abbrev pub shown : (Row → ℕ) → Format → Content → List ℕ
 shown ages f c = slice_lines f.aligns (slices_of c) ++ sum_line (ages_sum ages (f.rows c))
 
 -- the text shows some bytes that are accepted
-abbrev pub Shows : Format → List ℕ → Type 0
-Shows f text = (bytes : List ℕ) × (Accepts f bytes × (text ≡ shown roster_ages f (f.build (framed_slices bytes))))
+abbrev pub ShowsAges : Format → List ℕ → Type 0
+ShowsAges f text = (bytes : List ℕ) × (Accepts f bytes × (text ≡ shown roster_ages f (f.build (framed_slices bytes))))
 
 -- the text tells the number of rows of bytes that are accepted
 abbrev pub TellsRows : Format → List ℕ → List ℕ → Type 0
@@ -57,27 +57,27 @@ Judges f old bytes status text = ((status ≡ 0) × (TellsRows f bytes text ⊎ 
 
 -- What answers a use: the status, and the text on the output. `f` and `old` are the formats of the roster's columns and
 -- of their earlier form.
-abbrev pub Answers : Format → Format → Use → ℕ → List ℕ → Type 0
-Answers f old shows status text = (status ≡ 0) × Shows f text
-Answers f old begins status text = (status ≡ 0) × (text ≡ seven_lines)
-Answers f old writes status text = (status ≡ 0) × (text ≡ [])
-Answers f old checks status text = (bytes : List ℕ) × Judges f old bytes status text
-Answers f old misuses status text = ⊥
+abbrev pub AnswersUse : Format → Format → Use → ℕ → List ℕ → Type 0
+AnswersUse f old shows status text = (status ≡ 0) × ShowsAges f text
+AnswersUse f old begins status text = (status ≡ 0) × (text ≡ seven_lines)
+AnswersUse f old writes status text = (status ≡ 0) × (text ≡ [])
+AnswersUse f old checks status text = (bytes : List ℕ) × Judges f old bytes status text
+AnswersUse f old misuses status text = ⊥
 
 -- an answer to a use that the program has, or none where the words ask for nothing that it does
 abbrev pub Answered : Format → Format → Use → Option (Result Answer Failure) → Type 0
-Answered f old asked (Some (Ok answer)) = Answers f old asked answer.status (string_bytes answer.text)
+Answered f old asked (Some (Ok answer)) = AnswersUse f old asked answer.status (string_bytes answer.text)
 Answered f old asked (Some (Err failure)) = asked ≢ misuses
 Answered f old asked None = asked ≡ misuses
 
 -- What went to the output of a use that was not done: nothing, or a beginning of what answers it.
 abbrev pub Began : Format → Format → Use → Option (List ℕ) → Option (List ℕ) → Type 0
-Began f old asked before after = Keeps before after ⊎ ((status : ℕ) × ((text : List ℕ) × (Answers f old asked status text × AppendsBeginning before after text)))
+Began f old asked before after = Keeps before after ⊎ ((status : ℕ) × ((text : List ℕ) × (AnswersUse f old asked status text × AppendsBeginning before after text)))
 
 -- What an outcome tells of a use, and of what went to the output: it was done, and what answers it went out; it failed;
 -- or the words ask for nothing that the program does, and nothing went out.
 abbrev pub Ends : Format → Format → Use → Outcome → Option (List ℕ) → Option (List ℕ) → Type 0
-Ends f old asked (Done status) before after = (text : List ℕ) × (Answers f old asked status text × Appends before after text)
+Ends f old asked (Done status) before after = (text : List ℕ) × (AnswersUse f old asked status text × Appends before after text)
 Ends f old asked (Failed failure) before after = (asked ≢ misuses) × Began f old asked before after
 Ends f old asked Misused before after = (asked ≡ misuses) × Keeps before after
 

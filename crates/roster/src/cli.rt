@@ -8,7 +8,7 @@ ghost use Rattle.columnar.specs.Row.{number};
 ghost use Rattle.columnar.specs.Sent.{AppendsBeginning};
 ghost use Rattle.columnar.specs.Stashes.{stash_content};
 ghost use Rattle.roster.specs.Told.{outcome_line, seven_lines};
-ghost use Rattle.roster.specs.Uses.{use_of, Answered, Ends, Given, Hears, Judges, Shows};
+ghost use Rattle.roster.specs.Uses.{use_of, Answered, Ends, Given, Hears, Judges, ShowsAges};
 
 use crate::group::Group;
 use crate::roster::{Columns, OldColumns, Person, Unbuilt, bytes_of, everyone, tell_view};
@@ -126,7 +126,7 @@ fn stash_of<C: Stored>(alloc: Global, bytes: Vec<u8>) -> Stash<C, Vec<u8>>
 
 // The slices of the roster, and the sum of the ages, read back from its bytes.
 fn show(alloc: Global) -> Result<Answer, Failure>
-    ensures { IfOk result (λ answer. (answer.status ≡ 0) × Shows ⟦<Columns as Column>⟧.format (string_bytes answer.text)) }
+    ensures { IfOk result (λ answer. (answer.status ≡ 0) × ShowsAges ⟦<Columns as Column>⟧.format (string_bytes answer.text)) }
 {
     let opened = stash_of::<Columns>(alloc, roster_bytes(alloc)?);
     let text = tell_view(alloc, &opened.borrow())?;

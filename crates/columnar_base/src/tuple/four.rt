@@ -7,7 +7,7 @@ ghost use Rattle.columnar_base.specs.Change.{Refused};
 ghost use Rattle.columnar_base.specs.TupleLaws.{pair_lawful};
 ghost use Rattle.columnar_base.specs.LongTuples.{nested, tuple_format};
 ghost use Rattle.columnar_base.specs.LongTupleLaws.{tuple_lawful};
-ghost use Rattle.columnar_base.specs.Entries.{Entered, Level, joined};
+ghost use Rattle.columnar_base.specs.Entries.{Entered, Level, joined_entry};
 
 use crate::fault::GrowError;
 use crate::storage::{Reserve, Storage, Truncate};
@@ -180,8 +180,8 @@ pub fn enter_four<
     requires sound { IsSound (nested A.format (B.format ∷ C.format ∷ D.format ∷ [])) (both (A.content first.old) (both (B.content second.old) (both (C.content third.old) (D.content fourth.old)))) }
     requires valid { P.valid p × (Q.valid q × (R.valid r × S.valid s)) }
     requires level { Level (P.entry p) (Q.entry q ∷ R.entry r ∷ S.entry s ∷ []) }
-    ensures ok { OnOk result (Entered (nested A.format (B.format ∷ C.format ∷ D.format ∷ [])) (both (A.content first.old) (both (B.content second.old) (both (C.content third.old) (D.content fourth.old)))) (both (A.content first.new) (both (B.content second.new) (both (C.content third.new) (D.content fourth.new)))) (joined (P.entry p) (Q.entry q ∷ R.entry r ∷ S.entry s ∷ []))) }
-    ensures err { IfErr result (λ e. Refused (nested A.format (B.format ∷ C.format ∷ D.format ∷ [])) (both (A.content first.old) (both (B.content second.old) (both (C.content third.old) (D.content fourth.old)))) (both (A.content first.new) (both (B.content second.new) (both (C.content third.new) (D.content fourth.new)))) (joined (P.entry p) (Q.entry q ∷ R.entry r ∷ S.entry s ∷ [])).rows e) }
+    ensures ok { OnOk result (Entered (nested A.format (B.format ∷ C.format ∷ D.format ∷ [])) (both (A.content first.old) (both (B.content second.old) (both (C.content third.old) (D.content fourth.old)))) (both (A.content first.new) (both (B.content second.new) (both (C.content third.new) (D.content fourth.new)))) (joined_entry (P.entry p) (Q.entry q ∷ R.entry r ∷ S.entry s ∷ []))) }
+    ensures err { IfErr result (λ e. Refused (nested A.format (B.format ∷ C.format ∷ D.format ∷ [])) (both (A.content first.old) (both (B.content second.old) (both (C.content third.old) (D.content fourth.old)))) (both (A.content first.new) (both (B.content second.new) (both (C.content third.new) (D.content fourth.new)))) (joined_entry (P.entry p) (Q.entry q ∷ R.entry r ∷ S.entry s ∷ [])).rows e) }
 {
     let before = first.len();
     p.enter(first)?;

@@ -7,7 +7,7 @@ ghost use Rattle.columnar_base.specs.Change.{Refused};
 ghost use Rattle.columnar_base.specs.TupleLaws.{pair_lawful};
 ghost use Rattle.columnar_base.specs.LongTuples.{nested, tuple_format};
 ghost use Rattle.columnar_base.specs.LongTupleLaws.{tuple_lawful};
-ghost use Rattle.columnar_base.specs.Entries.{Entered, Level, joined};
+ghost use Rattle.columnar_base.specs.Entries.{Entered, Level, joined_entry};
 
 use crate::fault::GrowError;
 use crate::storage::{Reserve, Storage, Truncate};
@@ -230,8 +230,8 @@ pub fn enter_six<
     requires sound { IsSound (nested A.format (B.format ∷ C.format ∷ D.format ∷ E.format ∷ F.format ∷ [])) (both (A.content first.old) (both (B.content second.old) (both (C.content third.old) (both (D.content fourth.old) (both (E.content fifth.old) (F.content sixth.old)))))) }
     requires valid { P.valid p × (Q.valid q × (R.valid r × (S.valid s × (T.valid t × U.valid u)))) }
     requires level { Level (P.entry p) (Q.entry q ∷ R.entry r ∷ S.entry s ∷ T.entry t ∷ U.entry u ∷ []) }
-    ensures ok { OnOk result (Entered (nested A.format (B.format ∷ C.format ∷ D.format ∷ E.format ∷ F.format ∷ [])) (both (A.content first.old) (both (B.content second.old) (both (C.content third.old) (both (D.content fourth.old) (both (E.content fifth.old) (F.content sixth.old)))))) (both (A.content first.new) (both (B.content second.new) (both (C.content third.new) (both (D.content fourth.new) (both (E.content fifth.new) (F.content sixth.new)))))) (joined (P.entry p) (Q.entry q ∷ R.entry r ∷ S.entry s ∷ T.entry t ∷ U.entry u ∷ []))) }
-    ensures err { IfErr result (λ e. Refused (nested A.format (B.format ∷ C.format ∷ D.format ∷ E.format ∷ F.format ∷ [])) (both (A.content first.old) (both (B.content second.old) (both (C.content third.old) (both (D.content fourth.old) (both (E.content fifth.old) (F.content sixth.old)))))) (both (A.content first.new) (both (B.content second.new) (both (C.content third.new) (both (D.content fourth.new) (both (E.content fifth.new) (F.content sixth.new)))))) (joined (P.entry p) (Q.entry q ∷ R.entry r ∷ S.entry s ∷ T.entry t ∷ U.entry u ∷ [])).rows e) }
+    ensures ok { OnOk result (Entered (nested A.format (B.format ∷ C.format ∷ D.format ∷ E.format ∷ F.format ∷ [])) (both (A.content first.old) (both (B.content second.old) (both (C.content third.old) (both (D.content fourth.old) (both (E.content fifth.old) (F.content sixth.old)))))) (both (A.content first.new) (both (B.content second.new) (both (C.content third.new) (both (D.content fourth.new) (both (E.content fifth.new) (F.content sixth.new)))))) (joined_entry (P.entry p) (Q.entry q ∷ R.entry r ∷ S.entry s ∷ T.entry t ∷ U.entry u ∷ []))) }
+    ensures err { IfErr result (λ e. Refused (nested A.format (B.format ∷ C.format ∷ D.format ∷ E.format ∷ F.format ∷ [])) (both (A.content first.old) (both (B.content second.old) (both (C.content third.old) (both (D.content fourth.old) (both (E.content fifth.old) (F.content sixth.old)))))) (both (A.content first.new) (both (B.content second.new) (both (C.content third.new) (both (D.content fourth.new) (both (E.content fifth.new) (F.content sixth.new)))))) (joined_entry (P.entry p) (Q.entry q ∷ R.entry r ∷ S.entry s ∷ T.entry t ∷ U.entry u ∷ [])).rows e) }
 {
     let before = first.len();
     p.enter(first)?;

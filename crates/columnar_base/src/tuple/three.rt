@@ -7,7 +7,7 @@ ghost use Rattle.columnar_base.specs.Change.{Refused};
 ghost use Rattle.columnar_base.specs.TupleLaws.{pair_lawful};
 ghost use Rattle.columnar_base.specs.LongTuples.{nested, tuple_format};
 ghost use Rattle.columnar_base.specs.LongTupleLaws.{tuple_lawful};
-ghost use Rattle.columnar_base.specs.Entries.{Entered, Level, joined};
+ghost use Rattle.columnar_base.specs.Entries.{Entered, Level, joined_entry};
 
 use crate::fault::GrowError;
 use crate::storage::{Reserve, Storage, Truncate};
@@ -148,8 +148,8 @@ pub fn enter_three<
     requires sound { IsSound (nested A.format (B.format ∷ C.format ∷ [])) (both (A.content first.old) (both (B.content second.old) (C.content third.old))) }
     requires valid { P.valid p × (Q.valid q × R.valid r) }
     requires level { Level (P.entry p) (Q.entry q ∷ R.entry r ∷ []) }
-    ensures ok { OnOk result (Entered (nested A.format (B.format ∷ C.format ∷ [])) (both (A.content first.old) (both (B.content second.old) (C.content third.old))) (both (A.content first.new) (both (B.content second.new) (C.content third.new))) (joined (P.entry p) (Q.entry q ∷ R.entry r ∷ []))) }
-    ensures err { IfErr result (λ e. Refused (nested A.format (B.format ∷ C.format ∷ [])) (both (A.content first.old) (both (B.content second.old) (C.content third.old))) (both (A.content first.new) (both (B.content second.new) (C.content third.new))) (joined (P.entry p) (Q.entry q ∷ R.entry r ∷ [])).rows e) }
+    ensures ok { OnOk result (Entered (nested A.format (B.format ∷ C.format ∷ [])) (both (A.content first.old) (both (B.content second.old) (C.content third.old))) (both (A.content first.new) (both (B.content second.new) (C.content third.new))) (joined_entry (P.entry p) (Q.entry q ∷ R.entry r ∷ []))) }
+    ensures err { IfErr result (λ e. Refused (nested A.format (B.format ∷ C.format ∷ [])) (both (A.content first.old) (both (B.content second.old) (C.content third.old))) (both (A.content first.new) (both (B.content second.new) (C.content third.new))) (joined_entry (P.entry p) (Q.entry q ∷ R.entry r ∷ [])).rows e) }
 {
     let before = first.len();
     p.enter(first)?;

@@ -4,7 +4,7 @@ ghost use Rattle.columnar_base.specs.Format.{Fits, IsSound, slices_of};
 ghost use Rattle.columnar_base.specs.TwoPartsLaws.{two_counted};
 ghost use Rattle.columnar_core.specs.Store.{slices_in};
 ghost use Rattle.columnar_sums.specs.RankColumns.{ranks_bits, ranks_content, ranks_format};
-ghost use Rattle.columnar_lookback.specs.Repeats.{starts};
+ghost use Rattle.columnar_lookback.specs.Repeats.{starts_set};
 ghost use Rattle.columnar_lookback.specs.RepeatLaws.{repeats_storable};
 
 use super::Repeats;
@@ -25,7 +25,7 @@ use std::alloc::Global;
 // Is the first bit set, if there is one, in slices that were accepted?
 fn starts_in(store: &DecodedStore<'_>, offset: usize) -> bool
     requires { Fits ranks_format offset (slices_in store.now) }
-    ensures { result ≡ starts (ranks_bits (ranks_format.build (drop offset (slices_in store.now)))) }
+    ensures { result ≡ starts_set (ranks_bits (ranks_format.build (drop offset (slices_in store.now)))) }
 {
     let mut at = offset;
     let bits = RankSelect::<View<'_, u64>, View<'_, u64>, View<'_, u64>>::from_store(
@@ -37,7 +37,7 @@ fn starts_in(store: &DecodedStore<'_>, offset: usize) -> bool
 // Is the first bit set, if there is one?
 fn is_started<CC: Words, VC: Words, WC: Words>(bits: &RankSelect<CC, VC, WC>) -> bool
     requires { IsSound ranks_format (ranks_content CC.bytes VC.bytes WC.bytes bits.now) }
-    ensures { result ≡ starts (ranks_bits (ranks_content CC.bytes VC.bytes WC.bytes bits.now)) }
+    ensures { result ≡ starts_set (ranks_bits (ranks_content CC.bytes VC.bytes WC.bytes bits.now)) }
 {
     bits.len() == 0 || bits.get(0)
 }

@@ -1,8 +1,8 @@
 //! Trees that are read in place, node by node.
 ghost use Rattle.std.specs.Prelude.{◌≡◌, ◌<◌, length, slice_get, Some};
 ghost use Rattle.columnar_base.specs.Format.{both, slice, IsSound};
-ghost use Rattle.columnar_nested.specs.NodeRefs.{number_of, ref_row, ref_valid};
-ghost use Rattle.columnar_nested.specs.TreeRows.{value_of, kids_of};
+ghost use Rattle.columnar_nested.specs.NodeRefs.{node_number, ref_row, ref_valid};
+ghost use Rattle.columnar_nested.specs.TreeRows.{tree_value, kids_of};
 ghost use Rattle.columnar_nested.specs.Trees.{trees_format};
 ghost use Rattle.columnar_nested.specs.TreesLaws.{same_trees};
 
@@ -43,7 +43,7 @@ impl<V: Index, B: NodeBounds> TreesRef<V, B> {
     /// The row of the node's own value.
     pub fn value(&self) -> V::Ref
         requires { ⟦<TreesRef<V, B> as Item>⟧.valid self.now }
-        ensures row { V.Ref.meaning result ≡ value_of (⟦<TreesRef<V, B> as Item>⟧.meaning self.now) }
+        ensures row { V.Ref.meaning result ≡ tree_value (⟦<TreesRef<V, B> as Item>⟧.meaning self.now) }
         ensures valid { V.Ref.valid result }
     {
         self.values.get(self.index)
@@ -58,7 +58,7 @@ impl<V: Column + Copy, B: NodeBounds + Copy> TreesRef<V, B> {
         requires in_range { index < length (kids_of (⟦<TreesRef<V, B> as Item>⟧.meaning self.now)) }
         ensures kid { slice_get (kids_of (⟦<TreesRef<V, B> as Item>⟧.meaning self.now)) index ≡ Some (⟦<TreesRef<V, B> as Item>⟧.meaning result) }
         ensures valid { ⟦<TreesRef<V, B> as Item>⟧.valid result }
-        ensures later { number_of self.now < number_of result }
+        ensures later { node_number self.now < node_number result }
     {
         let child = self.lower + index;
         TreesRef {

@@ -7,7 +7,7 @@ ghost use Rattle.columnar_core.specs.Elements.{word_row};
 ghost use Rattle.columnar_core.specs.Faults.{verdict};
 ghost use Rattle.columnar_core.specs.Change.{Copied, Refused, Took};
 ghost use Rattle.columnar_primitive.specs.Held.{counted};
-ghost use Rattle.columnar_primitive.specs.Fixed.{fixed_broken, fixed_format, fixed_rows, passes, strays, IsCauseOf, IsLimit};
+ghost use Rattle.columnar_primitive.specs.Fixed.{fixed_broken, fixed_format, fixed_rows, passes, strays, IsFixedCause, IsLimit};
 ghost use Rattle.columnar_primitive.specs.Tried.{Tried};
 ghost use Rattle.columnar_primitive.specs.FixedLaws.{fixed_lawful, fixed_storable, fixed_bounds};
 
@@ -108,7 +108,7 @@ fn count_with<const K: u64>(count: u64, added: u64, item: u64) -> Result<u64, Gr
     ensures limit { IfErr result IsLimit }
     ensures length { (result ≡ Err GrowError.Length) ↔ IsTrue (passes K (count + added)) }
     ensures offset { (result ≡ Err GrowError.Offset) ↔ (IsFalse (passes K (count + added)) × (item ≡ K * (count + 1) → ⊥)) }
-    ensures err { IfErr result (λ e. (rs : List Row) → added ≤ length rs + 1 → IsCauseOf K e count (number item ∷ rs)) }
+    ensures err { IfErr result (λ e. (rs : List Row) → added ≤ length rs + 1 → IsFixedCause K e count (number item ∷ rs)) }
 {
     let sum = match count.checked_add(added) {
         Some(sum) => sum,

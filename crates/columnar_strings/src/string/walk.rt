@@ -4,7 +4,7 @@ ghost use Rattle.std.specs.Int.{to_le_bytes, w8};
 ghost use Rattle.columnar_base.specs.Format.{both, IsSound};
 ghost use Rattle.columnar_base.specs.Elements.{elements};
 ghost use Rattle.columnar_base.specs.Texts.{text_row};
-ghost use Rattle.columnar_lists.specs.Walks.{Stands};
+ghost use Rattle.columnar_lists.specs.Walks.{WalkStands};
 ghost use Rattle.columnar_strings.specs.Strings.{strings_format};
 
 use super::Strings;
@@ -20,7 +20,7 @@ pub struct StringIter<'a, W: Column> {
     bounds: W,
     ranges: Ranges,
     ghost sound: { IsSound (strings_format W.format) (both (W.content bounds) (elements (to_le_bytes w8) values.now)) },
-    ghost stands: { Stands (W.format.rows (W.content bounds)) ranges },
+    ghost stands: { WalkStands (W.format.rows (W.content bounds)) ranges },
 }
 
 impl<'a, W: Offsets> StringIter<'a, W> {

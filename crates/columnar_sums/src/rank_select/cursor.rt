@@ -172,13 +172,13 @@ impl<'a, CC: Words, VC: Words, WC: Words> Model for Cursor<'a, CC, VC, WC> {
     ghost use Rattle.std.specs.Prelude.{length};
     ghost use Rattle.columnar_core.specs.WordViews.{words_in};
     ghost use Rattle.columnar_sums.specs.RankColumns.{bits_ranked, Standing};
-    ghost use Rattle.columnar_sums.specs.Cursors.{Stands};
+    ghost use Rattle.columnar_sums.specs.Cursors.{CursorStands};
 
     ghost Value = { Standing };
 
     ghost view = { λ c. record { bits = bits_ranked VC.bytes WC.bytes c.column.now; pos = c.place.pos; word = c.place.index; counts = length (words_in (CC.bytes c.column.now.counts)) } };
 
-    ghost invariant = { λ c. Stands (CC.bytes c.column.now.counts) (VC.bytes c.column.now.values.values) (WC.bytes c.column.now.values.tail) c.place.index c.place.rest c.place.pos c.rank };
+    ghost invariant = { λ c. CursorStands (CC.bytes c.column.now.counts) (VC.bytes c.column.now.values.values) (WC.bytes c.column.now.values.tail) c.place.index c.place.rest c.place.pos c.rank };
 }
 
 impl<'a, CC: Words, VC: Words, WC: Words> Cursor<'a, CC, VC, WC> {

@@ -8,7 +8,7 @@ ghost use Rattle.columnar_bits.specs.BoolColumns.{bools_format, owned_content, o
 ghost use Rattle.columnar_sums.specs.Counting.{ones};
 ghost use Rattle.columnar_sums.specs.RankColumns.{ranks_format, ranks_content, bits_ranked, owned_ranks, ranked_bits};
 ghost use Rattle.columnar_sums.specs.RankLaws.{ranks_lawful};
-ghost use Rattle.columnar_sums.specs.Unary.{zeros};
+ghost use Rattle.columnar_sums.specs.Unary.{all_false};
 ghost use Rattle.columnar_sums.specs.UnaryLaws.{unary_lawful};
 ghost use Rattle.columnar_sums.specs.UnaryColumns.{unaries_format, owned_unaries, repeated};
 
@@ -36,7 +36,7 @@ type Viewed<'a> = Unaries<View<'a, u64>, View<'a, u64>, View<'a, u64>>;
 fn push_short(values: &mut Bools<Vec<u64>, [u64; 2]>, count: usize) -> Result<(), GrowError>
     requires sound { IsSound bools_format (owned_content values.old) }
     requires few { count < 64 }
-    ensures ok { OnOk result (owned_bits values.new ≡ owned_bits values.old ++ (zeros count ++ true ∷ [])) }
+    ensures ok { OnOk result (owned_bits values.new ≡ owned_bits values.old ++ (all_false count ++ true ∷ [])) }
     ensures err { OnErr result (owned_content values.new ≡ owned_content values.old) }
     ensures sound { IsSound bools_format (owned_content values.new) }
     ensures memory { IfErr result (λ e. e ≡ GrowError.Memory) }
@@ -51,7 +51,7 @@ fn push_short(values: &mut Bools<Vec<u64>, [u64; 2]>, count: usize) -> Result<()
 fn push_falses(values: &mut Bools<Vec<u64>, [u64; 2]>, count: usize) -> Result<(), GrowError>
     requires sound { IsSound bools_format (owned_content values.old) }
     requires short { length (owned_bits values.old) + count < 2 ^ 64 }
-    ensures ok { OnOk result (owned_bits values.new ≡ owned_bits values.old ++ zeros count) }
+    ensures ok { OnOk result (owned_bits values.new ≡ owned_bits values.old ++ all_false count) }
     ensures err { OnErr result (Stayed bools_format (owned_content values.old) (owned_content values.new)) }
     ensures sound { IsSound bools_format (owned_content values.new) }
     ensures memory { IfErr result (λ e. e ≡ GrowError.Memory) }
@@ -120,7 +120,7 @@ fn total_of(bits: &Held, start: usize, count: usize) -> u64
 fn extend_falses(bits: &mut Held, count: usize) -> Result<(), GrowError>
     requires sound { IsSound ranks_format (owned_ranks bits.old) }
     requires short { length (ranked_bits bits.old) + count < 2 ^ 64 }
-    ensures ok { OnOk result (ranked_bits bits.new ≡ ranked_bits bits.old ++ zeros count) }
+    ensures ok { OnOk result (ranked_bits bits.new ≡ ranked_bits bits.old ++ all_false count) }
     ensures err { OnErr result (Stayed ranks_format (owned_ranks bits.old) (owned_ranks bits.new)) }
     ensures sound { IsSound ranks_format (owned_ranks bits.new) }
     ensures memory { IfErr result (λ e. e ≡ GrowError.Memory) }
@@ -143,7 +143,7 @@ fn extend_falses(bits: &mut Held, count: usize) -> Result<(), GrowError>
 fn push_run(bits: &mut Held, count: usize) -> Result<(), GrowError>
     requires sound { IsSound ranks_format (owned_ranks bits.old) }
     requires short { length (ranked_bits bits.old) + count + 1 < 2 ^ 64 }
-    ensures ok { OnOk result (ranked_bits bits.new ≡ ranked_bits bits.old ++ (zeros count ++ true ∷ [])) }
+    ensures ok { OnOk result (ranked_bits bits.new ≡ ranked_bits bits.old ++ (all_false count ++ true ∷ [])) }
     ensures err { OnErr result (Stayed ranks_format (owned_ranks bits.old) (owned_ranks bits.new)) }
     ensures sound { IsSound ranks_format (owned_ranks bits.new) }
     ensures memory { IfErr result (λ e. e ≡ GrowError.Memory) }
@@ -162,7 +162,7 @@ fn push_run(bits: &mut Held, count: usize) -> Result<(), GrowError>
 fn push_long(bits: &mut Held, count: usize) -> Result<(), GrowError>
     requires sound { IsSound ranks_format (owned_ranks bits.old) }
     requires short { length (ranked_bits bits.old) + count + 1 < 2 ^ 64 }
-    ensures ok { OnOk result (ranked_bits bits.new ≡ ranked_bits bits.old ++ (zeros count ++ true ∷ [])) }
+    ensures ok { OnOk result (ranked_bits bits.new ≡ ranked_bits bits.old ++ (all_false count ++ true ∷ [])) }
     ensures err { OnErr result (Stayed ranks_format (owned_ranks bits.old) (owned_ranks bits.new)) }
     ensures sound { IsSound ranks_format (owned_ranks bits.new) }
     ensures memory { IfErr result (λ e. e ≡ GrowError.Memory) }

@@ -1,6 +1,6 @@
 use Rattle.std.proofs.Common.{◌≡◌, ◌+◌, ◌-◌, take, drop, arith, length-append}
 use Rattle.columnar_base.specs.ChangeLaws.{passed_on, unchanged, undone}
-use Rattle.columnar_lists.specs.ListLaws.{range_of, range_held, range_length, range_copied, range_refused_values, range_refused_bounds, took_length, lists_parts, lists_last, lists_within_le}
+use Rattle.columnar_lists.specs.ListLaws.{list_range, range_held, range_length, range_copied, range_refused_values, range_refused_bounds, took_length, lists_parts, lists_last, lists_within_le}
 use Rattle.columnar_lists.proofs.parts.copy_lists_tallied.Goals as goal
 use Rattle.columnar_lists.proofs.parts.copy_lists_tallied.Goals.{in-Ok, in-Err}
 
@@ -26,15 +26,15 @@ pub extend_from_self-requires-clause-view_sound : goal.extend_from_self-requires
 extend_from_self-requires-clause-view_sound g c = (lists_parts g.W.Column.format g.V.Column.format c.requires.view_sound).values
 
 pub extend_from_self-requires-clause-ordered : goal.extend_from_self-requires-clause-ordered
-extend_from_self-requires-clause-ordered g c = (range_of g.W.Column.format g.V.Column.format c.args.range.start c.args.range.«end» c.requires.view_sound c.requires.ordered c.start_of-lower.ensures c.start_of-upper.ensures).ordered
+extend_from_self-requires-clause-ordered g c = (list_range g.W.Column.format g.V.Column.format c.args.range.start c.args.range.«end» c.requires.view_sound c.requires.ordered c.start_of-lower.ensures c.start_of-upper.ensures).ordered
 
 pub extend_from_self-requires-clause-in_range : goal.extend_from_self-requires-clause-in_range
-extend_from_self-requires-clause-in_range g c = (range_of g.W.Column.format g.V.Column.format c.args.range.start c.args.range.«end» c.requires.view_sound c.requires.ordered c.start_of-lower.ensures c.start_of-upper.ensures).within
+extend_from_self-requires-clause-in_range g c = (list_range g.W.Column.format g.V.Column.format c.args.range.start c.args.range.«end» c.requires.view_sound c.requires.ordered c.start_of-lower.ensures c.start_of-upper.ensures).within
 
 pub returns-in_err-extend_from_self-clause-err : goal.returns-in_err-extend_from_self-clause-err
 returns-in_err-extend_from_self-clause-err g c =
     rw (passed_on c.from_residual.result c.from_residual.ensures.1) (
-    let r = range_of g.W.Column.format g.V.Column.format c.args.range.start c.args.range.«end» c.requires.view_sound c.requires.ordered c.start_of-lower.ensures c.start_of-upper.ensures in
+    let r = list_range g.W.Column.format g.V.Column.format c.args.range.start c.args.range.«end» c.requires.view_sound c.requires.ordered c.start_of-lower.ensures c.start_of-upper.ensures in
     range_refused_values g.BC.Column.format g.TC.Column.format c.requires.sound r (unchanged (lists_parts g.BC.Column.format g.TC.Column.format c.requires.sound).bounds) c.in_err-extend_from_self.ensures.err)
 
 pub len-end-requires : goal.len-end-requires
@@ -57,7 +57,7 @@ extend_shifted_tallied-requires-clause-in_range g c = lists_within_le g.W.Column
 
 pub extend_shifted_tallied-requires-clause-held : goal.extend_shifted_tallied-requires-clause-held
 extend_shifted_tallied-requires-clause-held g c =
-    let r = range_of g.W.Column.format g.V.Column.format c.args.range.start c.args.range.«end» c.requires.view_sound c.requires.ordered c.start_of-lower.ensures c.start_of-upper.ensures in
+    let r = list_range g.W.Column.format g.V.Column.format c.args.range.start c.args.range.«end» c.requires.view_sound c.requires.ordered c.start_of-lower.ensures c.start_of-upper.ensures in
     let n = took_length {us = take (c.start_of-upper.result - c.start_of-lower.result) (drop c.start_of-lower.result (g.V.Column.format.rows (g.V.Column.content c.args.items)))} c.in_ok-extend_from_self.ensures.ok.took in
     let e : c.len-end.result ≡ c.len-before.result + (c.start_of-upper.result - c.start_of-lower.result) = omega (arith, n, range_length r, c.len-end.ensures, c.len-before.ensures) in
     range_held r c.len-before.result c.len-end.result e (omega arith)
@@ -70,7 +70,7 @@ truncate-requires-clause-in_range g c = rw c.in_ok-extend_from_self.ensures.ok.t
 
 pub returns-clause-ok : goal.returns-clause-ok
 returns-clause-ok g c =
-    let r = range_of g.W.Column.format g.V.Column.format c.args.range.start c.args.range.«end» c.requires.view_sound c.requires.ordered c.start_of-lower.ensures c.start_of-upper.ensures in
+    let r = list_range g.W.Column.format g.V.Column.format c.args.range.start c.args.range.«end» c.requires.view_sound c.requires.ordered c.start_of-lower.ensures c.start_of-upper.ensures in
     elim c.match-extend_shifted_tallied.branch [
       | in-Ok w ↦ rw (w.values-is, w.result-is) (range_copied g.BC.Column.format g.TC.Column.format g.met.BC.Offsets.bounds c.requires.sound r c.start_of-lower.ensures c.in_ok-extend_from_self.ensures.ok (rw c.len-before.ensures at w.in-Ok.ensures.ok))
       | in-Err w ↦ rw w.result-is tt
@@ -78,7 +78,7 @@ returns-clause-ok g c =
 
 pub returns-clause-err : goal.returns-clause-err
 returns-clause-err g c =
-    let r = range_of g.W.Column.format g.V.Column.format c.args.range.start c.args.range.«end» c.requires.view_sound c.requires.ordered c.start_of-lower.ensures c.start_of-upper.ensures in
+    let r = list_range g.W.Column.format g.V.Column.format c.args.range.start c.args.range.«end» c.requires.view_sound c.requires.ordered c.start_of-lower.ensures c.start_of-upper.ensures in
     elim c.match-extend_shifted_tallied.branch [
       | in-Ok w ↦ rw w.result-is tt
       | in-Err w ↦ rw (w.values-is, w.result-is) (range_refused_bounds g.BC.Column.format g.TC.Column.format c.requires.sound r (rw c.len-before.ensures at w.in-Err.ensures.err) (undone {mid = g.TC.Column.content c.extend_from_self.new.self} g.met.TC.Truncate.lawful (lists_parts g.BC.Column.format g.TC.Column.format c.requires.sound).values c.in_ok-extend_from_self.ensures.ok.took.grew (rw c.len-before.ensures at w.truncate.ensures)))

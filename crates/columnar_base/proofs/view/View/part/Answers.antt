@@ -1,6 +1,6 @@
 use Rattle.std.proofs.Common.{◌-◌}
 use Rattle.columnar_base.specs.ElementLaws.{length-typed, elements_sound}
-use Rattle.columnar_base.specs.ViewLaws.{part_within, part_rows, part_sound, part_typed}
+use Rattle.columnar_base.specs.ViewLaws.{part_within, view_part_rows, part_sound, part_typed}
 use Rattle.columnar_base.proofs.view.View.part.Goals as goal
 
 pub between-requires-clause-in_range : goal.between-requires-clause-in_range
@@ -19,4 +19,4 @@ pub returns-in-Bytes-clause-sound : goal.returns-in-Bytes-clause-sound
 returns-in-Bytes-clause-sound g c = rw (c.from_le_bytes.ensures, c.bytes_between.ensures) (part_sound g.T.Element.size g.T.Element.row_of c.in-Bytes.bytes.now c.args.lower c.args.upper c.requires.ordered (rw c.in-Bytes.is at c.requires.in_range))
 
 pub returns-in-Bytes-clause-rows : goal.returns-in-Bytes-clause-rows
-returns-in-Bytes-clause-rows g c = rw (c.from_le_bytes.ensures, c.bytes_between.ensures, c.in-Bytes.is) (part_rows g.T.Element.size g.T.Element.row_of c.in-Bytes.bytes.now c.args.lower c.args.upper g.met.T.Element.element.positive c.requires.ordered (rw c.in-Bytes.is at c.requires.in_range))
+returns-in-Bytes-clause-rows g c = rw (c.from_le_bytes.ensures, c.bytes_between.ensures, c.in-Bytes.is) (view_part_rows g.T.Element.size g.T.Element.row_of c.in-Bytes.bytes.now c.args.lower c.args.upper g.met.T.Element.element.positive c.requires.ordered (rw c.in-Bytes.is at c.requires.in_range))

@@ -1,7 +1,7 @@
 use Rattle.std.proofs.Common.{ℕ, ◌+◌, ◌*◌, ◌≤◌, ◌∙◌, refl, subst, arith, length}
 use Rattle.std.specs.Int.{w64, trailing_zeros}
 use Rattle.columnar_sums.specs.RankColumns.{AreClear}
-use Rattle.columnar_sums.specs.PlaceLaws.{move_on, none_here, lowest, after_found, inside, load_more, IsLowest}
+use Rattle.columnar_sums.specs.PlaceLaws.{move_on, none_here, lowest, after_found, place_inside, load_more, IsLowest}
 use Rattle.columnar_sums.proofs.rank_select.cursor.next_in.Goals as goal
 
 pub returns-then-place-len-clause-none : goal.returns-then-place-len-clause-none
@@ -25,7 +25,7 @@ loop-place-preserved g c =
 pub overflow_add-place-2 : goal.overflow_add-place-2
 overflow_add-place-2 g c =
     let p = c.loop-place.place in
-    let e = inside c.args.words.now p.index p.rest p.pos (trailing_zeros w64 p.rest) (64 * p.index + trailing_zeros w64 p.rest) c.loop-place.invariant.at (omega arith) (omega arith) refl refl c.requires.short c.requires.last in
+    let e = place_inside c.args.words.now p.index p.rest p.pos (trailing_zeros w64 p.rest) (64 * p.index + trailing_zeros w64 p.rest) c.loop-place.invariant.at (omega arith) (omega arith) refl refl c.requires.short c.requires.last in
     omega arith
 
 pub returns-clause-at : goal.returns-clause-at

@@ -1,6 +1,6 @@
 use Rattle.std.proofs.Common.{◌≡◌, ◌<◌, ◌^◌, ◌-◌, ap, sym, arith}
 use Rattle.columnar_bits.specs.BoolLaws.{bits_length}
-use Rattle.columnar_sums.specs.CountLaws.{inside}
+use Rattle.columnar_sums.specs.CountLaws.{set_inside}
 use Rattle.columnar_sums.specs.RankColumns.{bits_ranked}
 use Rattle.columnar_sums.specs.RankLaws.{ranks_parts}
 use Rattle.columnar_sums.specs.Unary.{upto}
@@ -11,7 +11,7 @@ pub overflow_add-result : goal.overflow_add-result
 overflow_add-result g c =
     let b = bits_ranked g.VC.Words.bytes g.WC.Words.bytes c.args.self.now.bits in
     let s = (ranks_parts (unaries_ranked c.requires.sound)).bools.short in
-    omega (arith, s, inside b c.place_of.result c.place_of.ensures.set, bits_length (g.VC.Words.bytes c.args.self.now.bits.values.values) (g.WC.Words.bytes c.args.self.now.bits.values.tail))
+    omega (arith, s, set_inside b c.place_of.result c.place_of.ensures.set, bits_length (g.VC.Words.bytes c.args.self.now.bits.values.values) (g.WC.Words.bytes c.args.self.now.bits.values.tail))
 
 pub returns-then-n-eq0 : goal.returns-then-n-eq0
 returns-then-n-eq0 g c =

@@ -1,13 +1,13 @@
 use Rattle.std.proofs.Common.{◌-◌, ◌≡◌, ◌≤◌, ◌++◌}
 use Rattle.columnar_core.specs.Format.{IsSound}
 use Rattle.columnar_bits.specs.BoolColumns.{bools_format, owned_content, owned_bits}
-use Rattle.columnar_sums.specs.Unary.{zeros}
+use Rattle.columnar_sums.specs.Unary.{all_false}
 use Rattle.columnar_sums.proofs.unaries.grow.push_falses.Given as goal
 
 abbrev pub invariant-loop-done : goal.invariant-loop-done
 invariant-loop-done l =
     record {
-      bits : owned_bits l.values ≡ owned_bits l.fn.values ++ zeros l.done;
+      bits : owned_bits l.values ≡ owned_bits l.fn.values ++ all_false l.done;
       sound : IsSound bools_format (owned_content l.values);
       within : l.done ≤ l.count;
     }

@@ -4,7 +4,7 @@ use Rattle.columnar_bits.specs.BoolColumns.{bits_in}
 use Rattle.columnar_bits.specs.BoolLaws.{bools_parts}
 use Rattle.columnar_sums.specs.RankLaws.{ranks_parts, ranks_sound}
 use Rattle.columnar_sums.specs.RankChangeLaws.{length-truths_rows}
-use Rattle.columnar_sums.specs.Unary.{zeros}
+use Rattle.columnar_sums.specs.Unary.{all_false}
 use Rattle.columnar_sums.specs.UnaryBitLaws.{length-zeros}
 use Rattle.columnar_sums.specs.UnaryChangeLaws.{short_ranked}
 use Rattle.columnar_sums.proofs.unaries.grow.push_run.Goals as goal
@@ -13,6 +13,6 @@ pub returns-then-len-count-lt1023-clause-sound : goal.returns-then-len-count-lt1
 returns-then-len-count-lt1023-clause-sound c =
     let a : List ℕ = le_bytes c.args.bits.now.values.values.items in
     let b : List ℕ = le_bytes c.args.bits.now.values.tail in
-    let n : length (zeros c.args.count ++ true ∷ []) ≡ c.args.count + 1 = length-append (zeros c.args.count) (true ∷ []) ∙ omega (arith, length-zeros c.args.count) in
-    let l : (length (bits_in a b) + length (zeros c.args.count ++ true ∷ [])) / 1024 ≡ length (bits_in a b) / 1024 = omega (arith, n, c.len.ensures, length-truths_rows a b, c.if-len-count-lt1023.true) in
-    ranks_sound (short_ranked (zeros c.args.count ++ true ∷ []) (ranks_parts c.requires.sound) (bools_parts c.push_short.ensures.sound) c.in_ok-push_short.ensures.ok l).sound
+    let n : length (all_false c.args.count ++ true ∷ []) ≡ c.args.count + 1 = length-append (all_false c.args.count) (true ∷ []) ∙ omega (arith, length-zeros c.args.count) in
+    let l : (length (bits_in a b) + length (all_false c.args.count ++ true ∷ [])) / 1024 ≡ length (bits_in a b) / 1024 = omega (arith, n, c.len.ensures, length-truths_rows a b, c.if-len-count-lt1023.true) in
+    ranks_sound (short_ranked (all_false c.args.count ++ true ∷ []) (ranks_parts c.requires.sound) (bools_parts c.push_short.ensures.sound) c.in_ok-push_short.ensures.ok l).sound

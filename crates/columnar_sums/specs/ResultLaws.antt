@@ -37,8 +37,8 @@ pub record SoundResults (a b : Format) (x y z : Content) : Type 0 where
   pub err_level : zeros (ranks_bits x) (length (ranks_bits x)) ≡ length (b.rows z)
 
 -- values and errors, one after the other
-pub sides_two : (a b : Format) → TwoParts (beside_format a b) a b (λ x y. true) 10
-sides_two a b = record { count = refl; sizes = refl; aligns = refl; build = λ ss. refl; broken = λ c. refl }
+pub beside_two : (a b : Format) → TwoParts (beside_format a b) a b (λ x y. true) 10
+beside_two a b = record { count = refl; sizes = refl; aligns = refl; build = λ ss. refl; broken = λ c. refl }
 
 -- bits that are counted, and then these
 pub results_two : (a b : Format) → TwoParts (results_format a b) ranks_format (beside_format a b) (results_level a b) 10
@@ -47,13 +47,13 @@ results_two a b = record { count = refl; sizes = refl; aligns = refl; build = λ
 pub results_parts : (a b : Format) {x y z : Content} → IsSound (results_format a b) (both x (both y z)) → SoundResults a b x y z
 results_parts a b {x} {y} {z} s =
     let p = two_parts (results_two a b) x (both y z) s in
-    let q = two_parts (sides_two a b) y z p.right in
+    let q = two_parts (beside_two a b) y z p.right in
     let l = and_parts (nat_eq (ones (ranks_bits x) (length (ranks_bits x))) (length (a.rows y))) (nat_eq (zeros (ranks_bits x) (length (ranks_bits x))) (length (b.rows z))) p.own in
     record { bits = p.left; oks = q.left; errs = q.right; ok_level = eqb-true _ _ l.0; err_level = eqb-true _ _ l.1 }
 
 pub results_sound : (a b : Format) {x y z : Content} → SoundResults a b x y z → IsSound (results_format a b) (both x (both y z))
 results_sound a b {x} {y} {z} s =
-    let q = two_sound (sides_two a b) y z (record { left = s.oks; right = s.errs; own = refl }) in
+    let q = two_sound (beside_two a b) y z (record { left = s.oks; right = s.errs; own = refl }) in
     two_sound (results_two a b) x (both y z) (record { left = s.bits; right = q; own = and_from _ _ (eq-eqb _ _ s.ok_level) (eq-eqb _ _ s.err_level) })
 
 -- a sound content has three parts
@@ -67,7 +67,7 @@ pub results_form : (a b : Format) (c : Content) → IsSound (results_format a b)
 results_form a b c s =
     let f = two_form (results_two a b) c s in
     let p = two_parts (results_two a b) f.left f.right (rw f.is at s) in
-    let g = two_form (sides_two a b) f.right p.right in
+    let g = two_form (beside_two a b) f.right p.right in
     record { bits = f.left; oks = g.left; errs = g.right; is = f.is ∙ ap (both f.left) g.is }
 
 -- as many rows as bits
@@ -129,7 +129,7 @@ results_lawful a b la lb = record {
 }
 
 pub results_storable : (a b : Format) → IsStorable a → IsStorable b → IsStorable (results_format a b)
-results_storable a b p q = two_storable (results_two a b) (omega arith) ranks_storable (two_storable (sides_two a b) (omega arith) p q)
+results_storable a b p q = two_storable (results_two a b) (omega arith) ranks_storable (two_storable (beside_two a b) (omega arith) p q)
 
 -- equal formats of parts make equal formats
 pub same_results : {a a' b b' : Format} → a ≡ a' → b ≡ b' → results_format a b ≡ results_format a' b'
@@ -423,16 +423,16 @@ results_level_at a b o ss v h =
 
 -- its parts are representable, and fit where it does
 pub oks_representable : (a b : Format) → representable (results_format a b) ≡ true → representable a ≡ true
-oks_representable a b h = representable_left (sides_two a b) (representable_right (results_two a b) h)
+oks_representable a b h = representable_left (beside_two a b) (representable_right (results_two a b) h)
 
 pub errs_representable : (a b : Format) → representable (results_format a b) ≡ true → representable b ≡ true
-errs_representable a b h = representable_right (sides_two a b) (representable_right (results_two a b) h)
+errs_representable a b h = representable_right (beside_two a b) (representable_right (results_two a b) h)
 
 pub oks_fit : (a b : Format) (o : ℕ) (ss : List (List ℕ)) → Fits (results_format a b) o ss → Fits a (o + 3) ss
-oks_fit a b o ss h = two_fits_left (sides_two a b) (o + 3) ss (two_fits_right (results_two a b) o ss h)
+oks_fit a b o ss h = two_fits_left (beside_two a b) (o + 3) ss (two_fits_right (results_two a b) o ss h)
 
 pub errs_fit : (a b : Format) (o : ℕ) (ss : List (List ℕ)) → Fits (results_format a b) o ss → Fits b (o + 3 + a.count) ss
-errs_fit a b o ss h = two_fits_right (sides_two a b) (o + 3) ss (two_fits_right (results_two a b) o ss h)
+errs_fit a b o ss h = two_fits_right (beside_two a b) (o + 3) ss (two_fits_right (results_two a b) o ss h)
 
 pub results_turns : (ra rb old mid later new m n o : ℕ) → mid ≤ old + 4 * m → later ≤ mid + (ra * n + rb * o) → new ≤ later + 16 → 16 ≤ m → new ≤ old + (5 * m + (ra * n + rb * o))
 results_turns ra rb old mid later new m n o p q r h = omega arith

@@ -4,13 +4,14 @@ use Rattle.std.specs.Prelude.{nat_eq, Some}
 use Rattle.std.proofs.lemmas.Bool.{eq-eqb, ne_eqb}
 use Rattle.columnar_core.specs.Format.{Format, Content, slice, both, part, plain, fault, first, moved, two_broken}
 use Rattle.columnar_core.specs.TwoParts.{TwoParts}
-use Rattle.columnar_variants.specs.Variants.{Bank, join, beside}
+use Rattle.columnar_variants.specs.Variants.{Bank, join}
 use Rattle.columnar_variants.specs.VariantBytes.{own_broken}
 use Rattle.columnar_variants.specs.VariantByteLaws.{beside_built}
 use Rattle.columnar_variants.specs.BankChanges.{told_as}
+use Rattle.columnar_sums.specs.Results.{beside_format}
 
 -- two parts of any numbers of rows
-pub beside_parts_two : (a b : Format) → TwoParts (beside a b) a b (λ x y. true) 0
+pub beside_parts_two : (a b : Format) → TwoParts (beside_format a b) a b (λ x y. true) 0
 beside_parts_two a b = record { count = refl; sizes = refl; aligns = refl; build = λ ss. refl; broken = no_rule a b }
   where
     no_rule : (a b : Format) (c : Content) → two_broken a b (λ x y. true) 10 c ≡ two_broken a b (λ x y. true) 0 c

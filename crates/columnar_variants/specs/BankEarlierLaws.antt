@@ -15,14 +15,16 @@ use Rattle.columnar_core.specs.EarlierLaws.{earlier_le}
 use Rattle.columnar_core.specs.declared.fault.GrowError.{GrowError}
 use Rattle.columnar_sums.specs.Discriminants.{times, variants_of}
 use Rattle.columnar_sums.specs.DiscriminantLaws.{times_most}
-use Rattle.columnar_variants.specs.Variants.{Bank, IsBank, leaf, join, leaf_table, join_table, beside, of_case, chosen, variants_format}
-use Rattle.columnar_variants.specs.VariantLaws.{variants_parts, variants_sound, variants_number, length-chosen, chosen-same, beside_two, beside_parts}
+use Rattle.columnar_variants.specs.Variants.{Bank, IsBank, leaf, join, leaf_table, join_table, of_case, chosen, variants_format}
+use Rattle.columnar_variants.specs.VariantLaws.{variants_parts, variants_sound, variants_number, length-chosen, chosen-same, beside_parts}
 use Rattle.columnar_variants.specs.VariantRows.{IsBare}
 use Rattle.columnar_variants.specs.VariantRowLaws.{beside_sound}
 use Rattle.columnar_variants.specs.VariantCopyLaws.{of_chosen}
 use Rattle.columnar_variants.specs.LawfulVariants.{variants_form}
 use Rattle.columnar_variants.specs.BankLaws.{same_leaf, same_join, same_variants}
 use Rattle.columnar_variants.specs.BankEarlier.{IsEarlierBank, IsBankMadeOf, IsBankCause, IsTrueOfBare}
+use Rattle.columnar_sums.specs.Results.{beside_format}
+use Rattle.columnar_sums.specs.ResultLaws.{beside_two}
 
 -- laws
 
@@ -76,7 +78,7 @@ first_not a b {f} {error} h = λ c s e.
     let t = two_form (beside_two a b.sides) c s in
     let x = t.left in
     let y = t.right in
-    let s' : IsSound (beside a b.sides) (both x y) = rw t.is at s in
+    let s' : IsSound (beside_format a b.sides) (both x y) = rw t.is at s in
     let e' : IsBare (join a b) (both x y) = rw t.is at e in
     let q : IsBankCause (join a b) (both x y) f error = record {
       format = a;
@@ -92,7 +94,7 @@ later_not a b {f} {error} h = λ c s e.
     let t = two_form (beside_two a b.sides) c s in
     let x = t.left in
     let y = t.right in
-    let s' : IsSound (beside a b.sides) (both x y) = rw t.is at s in
+    let s' : IsSound (beside_format a b.sides) (both x y) = rw t.is at s in
     let e' : IsBare (join a b) (both x y) = rw t.is at e in
     let u = h y (beside_parts a b.sides s').1 (λ v l. e' (suc v) (omega arith)) in
     let q : IsBankCause (join a b) (both x y) f error = record {

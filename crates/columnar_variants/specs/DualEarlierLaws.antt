@@ -15,12 +15,13 @@ use Rattle.columnar_core.specs.declared.fault.GrowError.{GrowError}
 use Rattle.columnar_sums.specs.Discriminants.{times, variants_of}
 use Rattle.columnar_sums.specs.DiscriminantLaws.{times_most}
 use Rattle.columnar_variants.specs.Variants.{of_case, chosen}
-use Rattle.columnar_variants.specs.VariantLaws.{variants_parts, variants_sound, variants_number, length-chosen, chosen-same, beside_two}
+use Rattle.columnar_variants.specs.VariantLaws.{variants_parts, variants_sound, variants_number, length-chosen, chosen-same}
 use Rattle.columnar_variants.specs.VariantRowLaws.{beside_sound}
 use Rattle.columnar_variants.specs.VariantCopyLaws.{of_chosen}
 use Rattle.columnar_variants.specs.LawfulVariants.{variants_form}
 use Rattle.columnar_variants.specs.Duals.{dual_bank, dual_content, dual_format}
 use Rattle.columnar_variants.specs.DualLaws.{dual_law, same_duals, firsts_sound, seconds_sound}
+use Rattle.columnar_sums.specs.ResultLaws.{beside_two}
 
 pub earlier_dual : (a' a b' b : Format) → IsEarlier a' a → IsEarlier b' b → IsEarlier (dual_format a' b') (dual_format a b)
 earlier_dual a' a b' b g h = ⊎_elim (λ (l : a'.count < a.count). inl (let m = earlier_le b' b h in omega arith))

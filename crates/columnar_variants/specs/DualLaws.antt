@@ -4,12 +4,13 @@ use Rattle.columnar_core.specs.TwoPartsLaws.{two_counted, representable_left, re
 use Rattle.columnar_variants.specs.VariantByteLaws.{sides_representable, sides_fit, beside_first, beside_second}
 use Rattle.columnar_sums.specs.DiscriminantLaws.{discriminant_lawful, discriminant_storable}
 use Rattle.columnar_variants.specs.Variants.{leaf, IsBank}
-use Rattle.columnar_variants.specs.VariantLaws.{leaf_bank, join_bank, beside_two, beside_parts, variants_parts, variants_stayed, first_stayed, later_stayed, leaf_stayed}
+use Rattle.columnar_variants.specs.VariantLaws.{leaf_bank, join_bank, beside_parts, variants_parts, variants_stayed, first_stayed, later_stayed, leaf_stayed}
 use Rattle.columnar_core.specs.Change.{Stayed}
 use Rattle.columnar_core.specs.ChangeLaws.{stayed_twice}
 use Rattle.columnar_sums.specs.Discriminants.{discriminant_format}
 use Rattle.columnar_variants.specs.LawfulVariants.{leaf_lawful, join_lawful, join_storable, variants_lawful, variants_storable}
 use Rattle.columnar_variants.specs.Duals.{dual_bank, dual_content, dual_format}
+use Rattle.columnar_sums.specs.ResultLaws.{beside_two}
 
 pub dual_law : (a b : Format) → IsBank (dual_bank a b)
 dual_law a b = join_bank a (leaf b) (leaf_bank b)

@@ -10,9 +10,11 @@ use Rattle.columnar_core.specs.TwoPartsLaws.{two_form, two_storable}
 use Rattle.columnar_core.specs.TupleLaws.{or_both}
 use Rattle.columnar_core.specs.Elements.{past_count}
 use Rattle.columnar_sums.specs.Discriminants.{times, variants_of, discriminant_format, form_lengths, variant_rows}
-use Rattle.columnar_variants.specs.Variants.{Bank, IsBank, IsLawfulBank, leaf, join, join_table, by_variant, beside, variants_format, variants_alike, variants_rows, variants_refuses, variants_extent, bare_case, of_case, chosen, is_below, level_broken}
-use Rattle.columnar_variants.specs.VariantLaws.{variants_parts, variants_len, length-chosen, beside_parts, beside_two, inner, inner_two}
+use Rattle.columnar_variants.specs.Variants.{Bank, IsBank, IsLawfulBank, leaf, join, join_table, by_variant, variants_format, variants_alike, variants_rows, variants_refuses, variants_extent, bare_case, of_case, chosen, is_below, level_broken}
+use Rattle.columnar_variants.specs.VariantLaws.{variants_parts, variants_len, length-chosen, beside_parts, inner, inner_two}
 use Rattle.columnar_variants.specs.VariantListLaws.{of_case-append}
+use Rattle.columnar_sums.specs.Results.{beside_format}
+use Rattle.columnar_sums.specs.ResultLaws.{beside_two}
 
 pub leaf_lawful : (a : Format) → IsLawful a → IsLawfulBank (leaf a)
 leaf_lawful a law = record {
@@ -23,7 +25,7 @@ leaf_lawful a law = record {
   more = λ e c n f g h k w. rw (k 0) (law.more e c (n 0) (f 0) (g 0) w);
 }
 
-join_full : (a : Format) (b : Bank) → IsLawful a → IsLawfulBank b → (c : Content) (n : ℕ → ℕ) → IsSound (beside a b.sides) c → ((v : ℕ) → v < suc b.size → n v ≡ length (join_table a b c v)) → (join a b).room c n ≡ lengths c
+join_full : (a : Format) (b : Bank) → IsLawful a → IsLawfulBank b → (c : Content) (n : ℕ → ℕ) → IsSound (beside_format a b.sides) c → ((v : ℕ) → v < suc b.size → n v ≡ length (join_table a b c v)) → (join a b).room c n ≡ lengths c
 join_full a b la lb (both x y) n s h =
     let p = beside_parts a b.sides s in
     let e : a.extent x (n 0) ≡ lengths x = rw (h 0 (omega arith)) (la.full x p.0) in

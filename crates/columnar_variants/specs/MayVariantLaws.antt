@@ -12,13 +12,11 @@ use Rattle.columnar_sums.specs.Discriminants.{times, variants_of}
 use Rattle.columnar_variants.specs.Duals.{dual_format}
 use Rattle.columnar_variants.specs.MayVariants.{BankLimit, IsLimitedBank, leaf_limit, join_limit, variants_limit}
 use Rattle.columnar_variants.specs.VariantCopyLaws.{of_chosen}
-use Rattle.columnar_variants.specs.VariantLaws.{variants_parts, variants_count, variants_number, beside_two, leaf_bank, join_bank}
+use Rattle.columnar_variants.specs.VariantLaws.{variants_parts, variants_count, variants_number, leaf_bank, join_bank}
 use Rattle.columnar_variants.specs.VariantListLaws.{times_of_all, of_case-append}
-use Rattle.columnar_variants.specs.Variants.{Bank, IsBank, leaf, join, join_table, beside, chosen, of_case, variants_format, variants_rows}
-
--- it has no rows of its own
-pub beside_limited : (a b : Format) → IsLimited (beside a b) no_limit
-beside_limited a b = nothing_limited {f = beside a b} (λ e c n rs. refl)
+use Rattle.columnar_variants.specs.Variants.{Bank, IsBank, leaf, join, join_table, chosen, of_case, variants_format, variants_rows}
+use Rattle.columnar_sums.specs.Results.{beside_format}
+use Rattle.columnar_sums.specs.ResultLaws.{beside_two}
 
 -- banks
 
@@ -28,7 +26,7 @@ leaf_limited a {m} l = record {
   denied = λ e c n f s h k. l.denied e c (f 0) s (ap (λ i. a.refuses e c i (f 0)) (sym (h 0 (omega arith))) ∙ k);
 }
 
-join_denied : (a : Format) (b : Bank) {m : Limit} {p : BankLimit} → IsLimited a m → IsLimitedBank b p → (e : Excess) (c : Content) (n : ℕ → ℕ) (f : ℕ → List Row) → IsSound (beside a b.sides) c → ((v : ℕ) → v < suc b.size → n v ≡ length (join_table a b c v)) → (join a b).refuses e c n f ≡ true → join_limit m p e (λ v. join_table a b c v ++ f v)
+join_denied : (a : Format) (b : Bank) {m : Limit} {p : BankLimit} → IsLimited a m → IsLimitedBank b p → (e : Excess) (c : Content) (n : ℕ → ℕ) (f : ℕ → List Row) → IsSound (beside_format a b.sides) c → ((v : ℕ) → v < suc b.size → n v ≡ length (join_table a b c v)) → (join a b).refuses e c n f ≡ true → join_limit m p e (λ v. join_table a b c v ++ f v)
 join_denied a b {m} {p} l lb e (both x y) n f s h k =
     let q = two_parts (beside_two a b.sides) x y s in
     ⊎_elim

@@ -7,10 +7,12 @@ use Rattle.columnar_base.specs.FaultLaws.{first_found, first_none}
 use Rattle.columnar_base.specs.TwoParts.{both_broken}
 use Rattle.columnar_base.specs.TwoPartsLaws.{two_moved, two_turns, both_left, both_right, both_none, judged_part, judged_fine, representable_left, two_fits_left, two_fits_right}
 use Rattle.columnar_sums.specs.Discriminants.{times, variants_of, discriminant_format}
-use Rattle.columnar_variants.specs.Variants.{Bank, leaf, join, beside, variants_format, are_below, is_below}
-use Rattle.columnar_variants.specs.VariantLaws.{inner_two, beside_two, variants_parts, variants_len}
+use Rattle.columnar_variants.specs.Variants.{Bank, leaf, join, variants_format, are_below, is_below}
+use Rattle.columnar_variants.specs.VariantLaws.{inner_two, variants_parts, variants_len}
 use Rattle.columnar_variants.specs.VariantCounts.{are_told}
 use Rattle.columnar_variants.specs.VariantBytes.{own_broken}
+use Rattle.columnar_sums.specs.Results.{beside_format}
+use Rattle.columnar_sums.specs.ResultLaws.{beside_two}
 
 pub own_parts : (o : ℕ) (below told : Bool) → below ≡ true → told ≡ false → Some (fault 10 o) ≡ first (moved o (own_broken below told))
 own_parts o below told p q = let k : o + 0 ≡ o = omega arith in rw (p, q, k) refl
@@ -47,17 +49,17 @@ variants_own b x y o below told v n m p q h =
     h ∙ (rw (p, q) (sym e))
 
 -- two parts one after the other
-pub beside_fault : (a b : Format) (x y : Content) (o : ℕ) (z : Fault) → Some z ≡ first (both_broken a b x y o) → Some z ≡ first (moved o ((beside a b).broken (both x y)))
+pub beside_fault : (a b : Format) (x y : Content) (o : ℕ) (z : Fault) → Some z ≡ first (both_broken a b x y o) → Some z ≡ first (moved o ((beside_format a b).broken (both x y)))
 beside_fault a b x y o z h = judged_part (beside_two a b) x y o z h
 
-pub beside_fine : (a b : Format) (x y : Content) (o : ℕ) → None ≡ first (both_broken a b x y o) → None ≡ first (moved o ((beside a b).broken (both x y)))
+pub beside_fine : (a b : Format) (x y : Content) (o : ℕ) → None ≡ first (both_broken a b x y o) → None ≡ first (moved o ((beside_format a b).broken (both x y)))
 beside_fine a b x y o h = judged_fine (beside_two a b) x y o h refl
 
 -- over the slices of a store
 pub variants_built : (b : Bank) (ss : List (List ℕ)) (o : ℕ) → (variants_format b).build (drop o ss) ≡ both (b.sides.build (drop o ss)) (discriminant_format.build (drop (o + b.sides.count) ss))
 variants_built b ss o = rw (drop-drop b.sides.count o ss) refl
 
-pub beside_built : (a b : Format) (ss : List (List ℕ)) (o : ℕ) → (beside a b).build (drop o ss) ≡ both (a.build (drop o ss)) (b.build (drop (o + a.count) ss))
+pub beside_built : (a b : Format) (ss : List (List ℕ)) (o : ℕ) → (beside_format a b).build (drop o ss) ≡ both (a.build (drop o ss)) (b.build (drop (o + a.count) ss))
 beside_built a b ss o = rw (drop-drop a.count o ss) refl
 
 -- the parts of a representable type
@@ -89,11 +91,11 @@ variants_own_at b ss o m y below told v e w n f p q h =
     (subst (λ k. None ≡ first (moved (o + b.sides.count) (discriminant_format.broken k))) (sym u) (subst (λ k. None ≡ first (moved k (discriminant_format.broken (discriminant_format.build (drop k ss))))) e f))
     p q h)
 
-pub beside_fault_at : (a b : Format) (ss : List (List ℕ)) (o : ℕ) (z : Fault) → Some z ≡ first (both_broken a b (a.build (drop o ss)) (b.build (drop (o + a.count) ss)) o) → Some z ≡ first (moved o ((beside a b).broken ((beside a b).build (drop o ss))))
-beside_fault_at a b ss o z h = from_built (beside a b) o (Some z) (beside_built a b ss o) (beside_fault a b (a.build (drop o ss)) (b.build (drop (o + a.count) ss)) o z h)
+pub beside_fault_at : (a b : Format) (ss : List (List ℕ)) (o : ℕ) (z : Fault) → Some z ≡ first (both_broken a b (a.build (drop o ss)) (b.build (drop (o + a.count) ss)) o) → Some z ≡ first (moved o ((beside_format a b).broken ((beside_format a b).build (drop o ss))))
+beside_fault_at a b ss o z h = from_built (beside_format a b) o (Some z) (beside_built a b ss o) (beside_fault a b (a.build (drop o ss)) (b.build (drop (o + a.count) ss)) o z h)
 
-pub beside_fine_at : (a b : Format) (ss : List (List ℕ)) (o : ℕ) → None ≡ first (both_broken a b (a.build (drop o ss)) (b.build (drop (o + a.count) ss)) o) → None ≡ first (moved o ((beside a b).broken ((beside a b).build (drop o ss))))
-beside_fine_at a b ss o h = from_built (beside a b) o None (beside_built a b ss o) (beside_fine a b (a.build (drop o ss)) (b.build (drop (o + a.count) ss)) o h)
+pub beside_fine_at : (a b : Format) (ss : List (List ℕ)) (o : ℕ) → None ≡ first (both_broken a b (a.build (drop o ss)) (b.build (drop (o + a.count) ss)) o) → None ≡ first (moved o ((beside_format a b).broken ((beside_format a b).build (drop o ss))))
+beside_fine_at a b ss o h = from_built (beside_format a b) o None (beside_built a b ss o) (beside_fine a b (a.build (drop o ss)) (b.build (drop (o + a.count) ss)) o h)
 
 ap2_and : (p p' q q' : Bool) → p ≡ p' → q ≡ q' → (p && q) ≡ (p' && q')
 ap2_and p p' q q' e f = rw (e, f) refl
@@ -122,10 +124,10 @@ forms_fit b o m ss e h = rw e (record {
   sound = (variants_parts b (rw (variants_built b ss o) at h.sound)).forms;
 })
 
-pub beside_first : (a b : Format) (o : ℕ) (ss : List (List ℕ)) → Fits (beside a b) o ss → Fits a o ss
+pub beside_first : (a b : Format) (o : ℕ) (ss : List (List ℕ)) → Fits (beside_format a b) o ss → Fits a o ss
 beside_first a b o ss h = two_fits_left (beside_two a b) o ss h
 
-pub beside_second : (a b : Format) (o : ℕ) (ss : List (List ℕ)) → Fits (beside a b) o ss → Fits b (o + a.count) ss
+pub beside_second : (a b : Format) (o : ℕ) (ss : List (List ℕ)) → Fits (beside_format a b) o ss → Fits b (o + a.count) ss
 beside_second a b o ss h = two_fits_right (beside_two a b) o ss h
 
 -- as many rows as variants
@@ -138,7 +140,7 @@ variants_content b ss o m {x} {y} p q e =
     let k : y ≡ discriminant_format.build (drop (o + b.sides.count) ss) = subst (λ i. y ≡ discriminant_format.build (drop i ss)) e q in
     two_contents p k ∙ sym (variants_built b ss o)
 
-pub beside_content : (a b : Format) (ss : List (List ℕ)) (o m : ℕ) {x y : Content} → x ≡ a.build (drop o ss) → y ≡ b.build (drop m ss) → m ≡ o + a.count → both x y ≡ (beside a b).build (drop o ss)
+pub beside_content : (a b : Format) (ss : List (List ℕ)) (o m : ℕ) {x y : Content} → x ≡ a.build (drop o ss) → y ≡ b.build (drop m ss) → m ≡ o + a.count → both x y ≡ (beside_format a b).build (drop o ss)
 beside_content a b ss o m {x} {y} p q e =
     let k : y ≡ b.build (drop (o + a.count) ss) = subst (λ i. y ≡ b.build (drop i ss)) e q in
     two_contents p k ∙ sym (beside_built a b ss o)
@@ -147,5 +149,5 @@ beside_content a b ss o m {x} {y} p q e =
 pub variants_held : (b : Bank) (ss : List (List ℕ)) (o m : ℕ) → m ≡ o + b.sides.count → bytes_held ((variants_format b).build (drop o ss)) ≡ bytes_held (b.sides.build (drop o ss)) + bytes_held (discriminant_format.build (drop m ss))
 variants_held b ss o m e = ap bytes_held (variants_built b ss o) ∙ ap (λ k. bytes_held (b.sides.build (drop o ss)) + bytes_held (discriminant_format.build (drop k ss))) (sym e)
 
-pub beside_held : (a b : Format) (ss : List (List ℕ)) (o : ℕ) → bytes_held ((beside a b).build (drop o ss)) ≡ bytes_held (a.build (drop o ss)) + bytes_held (b.build (drop (o + a.count) ss))
+pub beside_held : (a b : Format) (ss : List (List ℕ)) (o : ℕ) → bytes_held ((beside_format a b).build (drop o ss)) ≡ bytes_held (a.build (drop o ss)) + bytes_held (b.build (drop (o + a.count) ss))
 beside_held a b ss o = ap bytes_held (beside_built a b ss o)

@@ -17,11 +17,12 @@ use Rattle.columnar_base.specs.declared.fault.GrowError.{GrowError}
 use Rattle.columnar_core.specs.Elements.{past_count}
 use Rattle.columnar_sums.specs.Discriminants.{times, variants_of, discriminant_format, form_lengths}
 use Rattle.columnar_variants.specs.Variants.{Bank, IsBank, BankStayed, leaf, join, leaf_table, join_table, variants_format, of_case, chosen, are_below, variants_alike}
-use Rattle.columnar_variants.specs.VariantLaws.{counts_within, variants_parts, variants_sound, length-chosen, chosen-take, chosen-same, chosen-append, beside_two, variants_stayed}
+use Rattle.columnar_variants.specs.VariantLaws.{counts_within, variants_parts, variants_sound, length-chosen, chosen-take, chosen-same, chosen-append, variants_stayed}
 use Rattle.columnar_variants.specs.VariantListLaws.{times_next, range_length, below-take, below-drop, below_both, none_beyond, index_front, index_past, index_take, index_drop, alike_at, take_next, of_case-append, past_grows}
 use Rattle.columnar_sums.specs.DiscriminantLaws.{times-append, length-variant_rows}
 use Rattle.std.proofs.lemmas.List.{nil_from_length}
 use Rattle.columnar_variants.specs.VariantCopies.{BankCopied, headed, range_of, HasRange, BankDenied}
+use Rattle.columnar_sums.specs.ResultLaws.{beside_two}
 
 leaf_here : (a : Format) (x x' : Content) (rs : List Row) → a.rows x' ≡ a.rows x ++ rs → (v : ℕ) → v < 1 → leaf_table a x' v ≡ leaf_table a x v ++ rs
 leaf_here a x x' rs h zero l = h

@@ -9,8 +9,9 @@ use Rattle.columnar_core.specs.Change.{WasCut}
 use Rattle.columnar_core.specs.Elements.{past_count}
 use Rattle.columnar_sums.specs.Discriminants.{times, variants_of, discriminant_format, form_lengths}
 use Rattle.columnar_variants.specs.Variants.{Bank, IsBank, BankCut, leaf, join, leaf_table, join_table, variants_format, of_case}
-use Rattle.columnar_variants.specs.VariantLaws.{variants_parts, variants_sound, chosen-take, chosen-same, beside_two}
+use Rattle.columnar_variants.specs.VariantLaws.{variants_parts, variants_sound, chosen-take, chosen-same}
 use Rattle.columnar_variants.specs.VariantListLaws.{take_less, fewer, below-take, none_beyond, index_take}
+use Rattle.columnar_sums.specs.ResultLaws.{beside_two}
 
 leaf_front : (a : Format) (x x' : Content) (k : ℕ) (n : ℕ → ℕ) → n 0 ≡ k → a.rows x' ≡ take k (a.rows x) → (v : ℕ) → v < 1 → leaf_table a x' v ≡ take (n v) (leaf_table a x v)
 leaf_front a x x' k n e h zero l = rw e h

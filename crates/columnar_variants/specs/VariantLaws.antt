@@ -16,9 +16,11 @@ use Rattle.std.proofs.lemmas.List.{take-append-le, take-append-drop}
 use Rattle.columnar_core.specs.Elements.{past_count}
 use Rattle.columnar_base.specs.declared.fault.GrowError.{GrowError}
 use Rattle.columnar_sums.specs.Discriminants.{times, variants_of, discriminant_format, form_lengths, variant_rows}
-use Rattle.columnar_variants.specs.Variants.{case, cell, chosen, beside, Bank, leaf, join, leaf_table, join_table, variants_format, is_below, are_below, level_broken, of_case, IsBank, BankTook, BankStayed, BankRefused}
+use Rattle.columnar_variants.specs.Variants.{case, cell, chosen, Bank, leaf, join, leaf_table, join_table, variants_format, is_below, are_below, level_broken, of_case, IsBank, BankTook, BankStayed, BankRefused}
 use Rattle.columnar_variants.specs.VariantListLaws.{times_before, times_within, times_last, times_other_last, below_get, below-append, index_read, index_last, index_front, of_case_here, of_case_other}
 use Rattle.columnar_sums.specs.DiscriminantLaws.{times-append, length-variant_rows}
+use Rattle.columnar_sums.specs.Results.{beside_format}
+use Rattle.columnar_sums.specs.ResultLaws.{beside_two}
 
 -- numbers and lists alone
 
@@ -94,9 +96,6 @@ variants_read b x y i v o r h e g =
 
 -- banks
 
-pub beside_two : (a b : Format) → TwoParts (beside a b) a b (λ x y. true) 10
-beside_two a b = record { count = refl; sizes = refl; aligns = refl; build = λ ss. refl; broken = λ c. refl }
-
 leaf_tells : (a : Format) (c : Content) (n : ℕ → ℕ) → (leaf a).told c n ≡ true → (v : ℕ) → v < 1 → length (leaf_table a c v) ≡ n v
 leaf_tells a c n h zero l = eqb-true _ _ h
 leaf_tells a c n h (suc v) l = absurd (omega arith)
@@ -123,7 +122,7 @@ join_agrees a b law e (slice bs) n m f g h k = refl
 join_agrees a b law e (part i u x) n m f g h k = refl
 join_agrees a b law e (plain rs) n m f g h k = refl
 
-join_back : (a : Format) (b : Bank) → IsBank b → (c : Content) (n : ℕ → ℕ) → IsSound (beside a b.sides) c → ((v : ℕ) → v < suc b.size → length (join_table a b c v) ≡ n v) → (join a b).told c n ≡ true
+join_back : (a : Format) (b : Bank) → IsBank b → (c : Content) (n : ℕ → ℕ) → IsSound (beside_format a b.sides) c → ((v : ℕ) → v < suc b.size → length (join_table a b c v) ≡ n v) → (join a b).told c n ≡ true
 join_back a b law (both x y) n s h =
     let p = two_parts (beside_two a b.sides) x y s in
     and_from _ _ (eq-eqb _ _ (h 0 (omega arith))) (law.tells_back y (λ v. n (suc v)) p.right (λ v l. h (suc v) (omega arith)))
@@ -362,7 +361,7 @@ variants_full b law {x} {x'} {y} k {r} q {error} s t w =
 
 -- what a container of variants asks
 
-pub beside_parts : (a b : Format) {x y : Content} → IsSound (beside a b) (both x y) → IsSound a x × IsSound b y
+pub beside_parts : (a b : Format) {x y : Content} → IsSound (beside_format a b) (both x y) → IsSound a x × IsSound b y
 beside_parts a b {x} {y} s = let p = two_parts (beside_two a b) x y s in (p.left, p.right)
 
 pub variants_len : (b : Bank) (x y : Content) → length (variant_rows [] (variants_of y)) ≡ length ((variants_format b).rows (both x y))

@@ -3,11 +3,13 @@ use Rattle.std.proofs.Common.{◌≡◌, ℕ, zero, suc, ◌<◌, [], length, re
 use Rattle.columnar_core.specs.Format.{Format, Content, both, IsSound}
 use Rattle.columnar_core.specs.TwoPartsLaws.{two_sound}
 use Rattle.columnar_sums.specs.Discriminants.{times, variants_of, discriminant_format}
-use Rattle.columnar_variants.specs.Variants.{Bank, IsBank, leaf, join, leaf_table, join_table, beside, variants_format}
-use Rattle.columnar_variants.specs.VariantLaws.{variants_sound, beside_two}
+use Rattle.columnar_variants.specs.Variants.{Bank, IsBank, leaf, join, leaf_table, join_table, variants_format}
+use Rattle.columnar_variants.specs.VariantLaws.{variants_sound}
 use Rattle.columnar_variants.specs.VariantRows.{IsBare}
+use Rattle.columnar_sums.specs.Results.{beside_format}
+use Rattle.columnar_sums.specs.ResultLaws.{beside_two}
 
-pub beside_sound : (a b : Format) {x y : Content} → IsSound a x → IsSound b y → IsSound (beside a b) (both x y)
+pub beside_sound : (a b : Format) {x y : Content} → IsSound a x → IsSound b y → IsSound (beside_format a b) (both x y)
 beside_sound a b {x} {y} s t = two_sound (beside_two a b) x y (record { left = s; right = t; own = refl })
 
 pub leaf_bare : (a : Format) {x : Content} → a.rows x ≡ [] → IsBare (leaf a) x

@@ -7,26 +7,11 @@ use Rattle.columnar_core.specs.Change.{IsTrueOf}
 use Rattle.columnar_base.specs.declared.fault.GrowError.{GrowError}
 use Rattle.columnar_core.specs.Elements.{past_count}
 use Rattle.columnar_sums.specs.Discriminants.{times, variants_of, form_lengths, discriminant_format}
+use Rattle.columnar_sums.specs.Results.{beside_format}
 
 -- the row of a value of variant v
 abbrev pub case : ℕ → Row → Row
 case v r = tuple (number v) r
-
--- two parts one after the other, with no rule in common and no rows
-abbrev pub beside : Format → Format → Format
-beside a b = record {
-  count = a.count + b.count;
-  sizes = a.sizes ++ b.sizes;
-  aligns = a.aligns ++ b.aligns;
-  turns = 16;
-  broken = two_broken a b (λ x y. true) 10;
-  rows = λ c. [];
-  extent = λ c n. [];
-  build = λ ss. both (a.build ss) (b.build (drop a.count ss));
-  alike = row_eq;
-  kin = row_eq;
-  refuses = λ e c n rs. false;
-}
 
 -- The columns of the values, one for each variant.
 --   sides: all of them, one after the other; size: how many
@@ -92,7 +77,7 @@ by_variant p q (suc v) = q v
 
 abbrev pub join : Format → Bank → Bank
 join a b = record {
-  sides = beside a b.sides;
+  sides = beside_format a b.sides;
   size = suc b.size;
   table = join_table a b;
   told = join_told a b;

@@ -9,7 +9,7 @@ use Rattle.columnar_core.specs.TwoPartsLaws.{two_right, two_fine, two_own, judge
 use Rattle.columnar_sums.specs.CountLaws.{ones_le}
 use Rattle.columnar_sums.specs.OptionLaws.{ranks_bytes}
 use Rattle.columnar_sums.specs.RankColumns.{ranks_format, ranks_content, ranks_bits}
-use Rattle.columnar_sums.specs.ResultLaws.{sides_two, results_two, results_level_from, results_level_back, oks_representable, errs_representable, results_turns}
+use Rattle.columnar_sums.specs.ResultLaws.{beside_two, results_two, results_level_from, results_level_back, oks_representable, errs_representable, results_turns}
 use Rattle.columnar_sums.proofs.result.bytes.check_results.Goals as goal
 use Rattle.columnar_sums.proofs.result.bytes.check_results.Goals.{else-trues-len-via-then-trues-len+else-rows-trues, else-trues-len-via-else-trues-len}
 
@@ -25,7 +25,7 @@ returns-in_err-check_two-clause-exact g c =
     let y = g.SC.Column.content c.args.oks.now in
     let w = g.TC.Column.content c.args.errs.now in
     let z = fault_of c.in_err-check_two.field-0.0 in
-    rw (passed_on c.from_residual-in_err-check_two.result c.from_residual-in_err-check_two.ensures.1) (two_right (results_two g.SC.Column.format g.TC.Column.format) x (both y w) c.args.from z c.in_ok-check_from_tallied.ensures.exact (judged_part (sides_two g.SC.Column.format g.TC.Column.format) y w (c.args.from + 3) z c.in_err-check_two.ensures.exact))
+    rw (passed_on c.from_residual-in_err-check_two.result c.from_residual-in_err-check_two.ensures.1) (two_right (results_two g.SC.Column.format g.TC.Column.format) x (both y w) c.args.from z c.in_ok-check_from_tallied.ensures.exact (judged_part (beside_two g.SC.Column.format g.TC.Column.format) y w (c.args.from + 3) z c.in_err-check_two.ensures.exact))
 
 pub overflow_sub-rows : goal.overflow_sub-rows
 overflow_sub-rows g c =
@@ -38,7 +38,7 @@ returns-then-rows-trues-clause-exact g c =
     let y = g.SC.Column.content c.args.oks.now in
     let w = g.TC.Column.content c.args.errs.now in
     let t = results_level_from g.SC.Column.format g.TC.Column.format x y w _ _ _ _ c.trues_tallied-trues.ensures.value c.len-rows.ensures c.len.ensures c.len-then-trues-len.ensures c.if-trues-len.true c.if-rows-trues.true in
-    two_fine (results_two g.SC.Column.format g.TC.Column.format) x (both y w) c.args.from c.in_ok-check_from_tallied.ensures.exact (judged_fine (sides_two g.SC.Column.format g.TC.Column.format) y w (c.args.from + 3) c.in_ok-check_two.ensures.exact refl) t
+    two_fine (results_two g.SC.Column.format g.TC.Column.format) x (both y w) c.args.from c.in_ok-check_from_tallied.ensures.exact (judged_fine (beside_two g.SC.Column.format g.TC.Column.format) y w (c.args.from + 3) c.in_ok-check_two.ensures.exact refl) t
 
 pub returns-then-rows-trues-clause-turns : goal.returns-then-rows-trues-clause-turns
 returns-then-rows-trues-clause-turns g c =
@@ -54,7 +54,7 @@ returns-else-trues-len-clause-exact g c =
       | else-trues-len-via-then-trues-len+else-rows-trues v ↦ v.if-rows-trues.false (k ∙ sym v.len-then-trues-len.ensures)
       | else-trues-len-via-else-trues-len v ↦ v.if-trues-len.false (h ∙ sym c.len.ensures)
     ]) in
-    two_own (results_two g.SC.Column.format g.TC.Column.format) x (both y w) c.args.from c.in_ok-check_from_tallied.ensures.exact (judged_fine (sides_two g.SC.Column.format g.TC.Column.format) y w (c.args.from + 3) c.in_ok-check_two.ensures.exact refl) t
+    two_own (results_two g.SC.Column.format g.TC.Column.format) x (both y w) c.args.from c.in_ok-check_from_tallied.ensures.exact (judged_fine (beside_two g.SC.Column.format g.TC.Column.format) y w (c.args.from + 3) c.in_ok-check_two.ensures.exact refl) t
 
 pub returns-else-trues-len-clause-turns : goal.returns-else-trues-len-clause-turns
 returns-else-trues-len-clause-turns g c =

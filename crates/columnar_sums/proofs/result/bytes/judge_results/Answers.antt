@@ -10,7 +10,7 @@ use Rattle.columnar_core.specs.TwoPartsLaws.{two_right_at, two_fine_at, two_own_
 use Rattle.columnar_sums.specs.CountLaws.{ones_le}
 use Rattle.columnar_sums.specs.OptionLaws.{ranks_bytes}
 use Rattle.columnar_sums.specs.RankColumns.{ranks_format, ranks_bits}
-use Rattle.columnar_sums.specs.ResultLaws.{sides_two, results_two, results_level_from, results_level_back, results_level_at, oks_representable, errs_representable, results_turns}
+use Rattle.columnar_sums.specs.ResultLaws.{beside_two, results_two, results_level_from, results_level_back, results_level_at, oks_representable, errs_representable, results_turns}
 use Rattle.columnar_sums.proofs.result.bytes.judge_results.Goals as goal
 use Rattle.columnar_sums.proofs.result.bytes.judge_results.Goals.{else-trues-oks-via-then-trues-oks+else-rows-trues, else-trues-oks-via-else-trues-oks}
 
@@ -24,7 +24,7 @@ pub returns-in_err-judge_two-clause-exact : goal.returns-in_err-judge_two-clause
 returns-in_err-judge_two-clause-exact g c =
     let ss = slices_in c.args.store.now in
     let z = fault_of c.in_err-judge_two.field-0.0 in
-    rw (passed_on c.from_residual-in_err-judge_two.result c.from_residual-in_err-judge_two.ensures.1) (two_right_at (results_two g.SC.Column.format g.TC.Column.format) ss c.args.offset z c.in_ok-judge_tallied.ensures.exact (judged_part_at (sides_two g.SC.Column.format g.TC.Column.format) ss (c.args.offset + 3) z c.in_err-judge_two.ensures.exact))
+    rw (passed_on c.from_residual-in_err-judge_two.result c.from_residual-in_err-judge_two.ensures.1) (two_right_at (results_two g.SC.Column.format g.TC.Column.format) ss c.args.offset z c.in_ok-judge_tallied.ensures.exact (judged_part_at (beside_two g.SC.Column.format g.TC.Column.format) ss (c.args.offset + 3) z c.in_err-judge_two.ensures.exact))
 
 pub returns-in_err-judge_two-clause-turns : goal.returns-in_err-judge_two-clause-turns
 returns-in_err-judge_two-clause-turns g c = omega (arith, c.in_ok-judge_tallied.ensures.turns, c.in_err-judge_two.ensures.turns)
@@ -50,7 +50,7 @@ returns-then-rows-trues-clause-exact g c =
     let b = g.TC.Column.format in
     let o = c.args.offset in
     let t = results_level_at a b o ss true (results_level_from a b (ranks_format.build (drop o ss)) (a.build (drop (o + 3) ss)) (b.build (drop (o + 3 + a.count) ss)) _ _ _ _ c.trues_in-trues.ensures.value c.rows_in-rows.ensures c.rows_in-oks.ensures (rw c.slice_count.ensures at c.rows_in-errs.ensures) c.if-trues-oks.true c.if-rows-trues.true) in
-    two_fine_at (results_two a b) ss o c.in_ok-judge_tallied.ensures.exact (judged_fine_at (sides_two a b) ss (o + 3) c.in_ok-judge_two.ensures.exact refl) t
+    two_fine_at (results_two a b) ss o c.in_ok-judge_tallied.ensures.exact (judged_fine_at (beside_two a b) ss (o + 3) c.in_ok-judge_two.ensures.exact refl) t
 
 pub returns-then-rows-trues-clause-turns : goal.returns-then-rows-trues-clause-turns
 returns-then-rows-trues-clause-turns g c =
@@ -67,7 +67,7 @@ returns-else-trues-oks-clause-exact g c =
       | else-trues-oks-via-then-trues-oks+else-rows-trues w ↦ w.if-rows-trues.false k
       | else-trues-oks-via-else-trues-oks w ↦ w.if-trues-oks.false h
     ])) in
-    two_own_at (results_two a b) ss o c.in_ok-judge_tallied.ensures.exact (judged_fine_at (sides_two a b) ss (o + 3) c.in_ok-judge_two.ensures.exact refl) t
+    two_own_at (results_two a b) ss o c.in_ok-judge_tallied.ensures.exact (judged_fine_at (beside_two a b) ss (o + 3) c.in_ok-judge_two.ensures.exact refl) t
 
 pub returns-else-trues-oks-clause-turns : goal.returns-else-trues-oks-clause-turns
 returns-else-trues-oks-clause-turns g c =

@@ -1,5 +1,5 @@
-//! Columns: lists of rows that are stored in a few flat slices of bytes. The definitions, the faults, and the traits
-//! that name no view.
+//! Columns: lists of rows that are stored in a few flat slices of bytes. The definitions, the faults, the traits that ask
+//! nothing of bytes, and views of elements.
 #![tactic(auto)]
 
 mod borrowed;

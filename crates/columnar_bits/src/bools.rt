@@ -144,7 +144,7 @@ fn taken(values: View<'_, u64>, tail: View<'_, u64>, index: usize, count: usize)
 impl<VC: Words, TC: Words> Bools<VC, TC> {
     /// The number whose lowest bits are the `count` bits from `index` on, the first lowest. Asks that there are as
     /// many, and at most 64.
-    #[tactic(auto, using(crate::specs::BitLaws::number_of))]
+    #[tactic(auto, using(crate::specs::BitLaws::bits_number))]
     pub fn bits_at(&self, index: usize, count: usize) -> u64
         requires sound { IsSound bools_format (bools_content VC.bytes TC.bytes self.now) }
         requires short { count ≤ 64 }

@@ -36,11 +36,13 @@ bit_after ws i u v n k l m h s = ⊎_elim (λ e. same e) (λ e. other e) (cases_
     same e =
         let f : i < length (truths (bit_in ws) n) = omega (arith, m, length-truths (bit_in ws) n) in
         rw e (get_or-set_same (truths (bit_in ws) n) i v false f ∙ (sym s.0 ∙ sym (bit_in_word (slice_set ws (i / 64) u) (i / 64) (i % 64) i (omega arith) (omega arith) ∙ ap (λ (x : ℕ). bit x (i % 64)) (get_or-set_same ws (i / 64) u 0 l))))
+
     elsewhere : (k ≡ i → ⊥) → bit_in ws k ≡ bit_in (slice_set ws (i / 64) u) k
     elsewhere e = ⊎_elim
         (λ q. bit_in_word ws (i / 64) (k % 64) k (omega arith) (omega (arith, q)) ∙ (sym (s.1 (k % 64) (omega arith) (λ r. e (omega (arith, q, r)))) ∙ sym (bit_in_word (slice_set ws (i / 64) u) (i / 64) (k % 64) k (omega arith) (omega (arith, q)) ∙ ap (λ (x : ℕ). bit x (k % 64)) (get_or-set_same ws (i / 64) u 0 l))))
         (λ q. bit_in_word ws (k / 64) (k % 64) k (omega arith) (omega arith) ∙ sym (bit_in_word (slice_set ws (i / 64) u) (k / 64) (k % 64) k (omega arith) (omega arith) ∙ ap (λ (x : ℕ). bit x (k % 64)) (get_or-set_other ws (i / 64) (k / 64) u 0 q)))
         (cases_eq (k / 64) (i / 64))
+
     other : (k ≡ i → ⊥) → get_or (slice_set (truths (bit_in ws) n) i v) k false ≡ bit_in (slice_set ws (i / 64) u) k
     other e = get_or-set_other (truths (bit_in ws) n) i k v false e ∙ (get_or-truths (bit_in ws) n k false h ∙ elsewhere e)
 

@@ -1,4 +1,5 @@
-//! Columns in a store of bytes: how their slices are read, and how they go out to a writer.
+//! Columns and bytes: columns that lend their slices to a writer and are read in place from those of a store, and what
+//! needs such views of a column: copies of ranges of rows, tuples, boxes, and columns made of an older form.
 #![tactic(auto)]
 
 pub mod boxed;

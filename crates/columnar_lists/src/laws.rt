@@ -17,7 +17,7 @@ pub fn cut_where_bounds_rise()
 {}
 
 /// Bounds cut values in one way only.
-#[tactic(auto, using(crate::specs::CutIs::one_cut))]
+#[tactic(auto, using(crate::specs::PieceLaws::one_cut))]
 pub fn cut_in_one_way()
     ensures { (bounds : List ℕ) (values : List Row) (xs ys : List (List Row)) → IsCut bounds values xs → IsCut bounds values ys → xs ≡ ys }
 {}

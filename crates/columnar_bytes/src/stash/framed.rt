@@ -39,7 +39,6 @@ impl<C: Stored, B: ByteStore> Checked<C, B> {
 }
 
 impl<'v, C: Stored> Column for Framed<'v, C> {
-
     ghost format = { byte_format C.format };
 
     ghost content = { framed_content };

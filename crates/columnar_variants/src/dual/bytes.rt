@@ -72,8 +72,7 @@ pub fn judge_dual<SC: Stored, TC: Stored, L>(
         TC::rows_in(store, offset + firsts),
     ];
     let indexes = <Discriminant<&[u8], View<'_, u64>> as FromBytes<'_>>::from_store(
-        store,
-        &mut after,
+        store, &mut after,
     );
     judge_counts(&indexes, &lengths, offset, tally)
 }

@@ -1,1 +1,1 @@
-pub mod Valid
+pub mod ValidLaws

@@ -1,5 +1,5 @@
 //! Items that may be pushed whatever they are.
-ghost use Rattle.bench.specs.Valid.{option_always, result_always, nth_always};
+ghost use Rattle.bench.specs.ValidLaws.{option_always, result_always, nth_always};
 
 use columnar_base::traits::Item;
 use columnar_variants::cases::{Cases, Last, Nth};

@@ -2,5 +2,5 @@ pub mod Bits
 pub mod BitLaws
 pub mod BoolColumns
 pub mod BoolLaws
-pub mod BoolBytes
+pub mod BoolByteLaws
 pub mod MayBitLaws

@@ -7,7 +7,7 @@ pub mod ByteLaws
 pub mod Sent
 pub mod SentLaws
 pub mod SliceBytes
-pub mod NumberSlices
+pub mod NumberSliceLaws
 pub mod ArraySlices
 pub mod ArraySliceLaws
 pub mod Slices

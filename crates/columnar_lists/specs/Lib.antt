@@ -1,10 +1,10 @@
 pub mod Lists
 pub mod CutLaws
 pub mod ListLaws
-pub mod ListPushes
+pub mod ListPushLaws
 pub mod Cut
 pub mod PieceLaws
-pub mod EarlierLists
+pub mod EarlierListLaws
 pub mod Walks
 pub mod WalksLeft
 pub mod WalkLaws

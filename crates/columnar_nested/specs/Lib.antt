@@ -17,7 +17,7 @@ pub mod TreeRowLaws
 pub mod ShapeLaws
 pub mod Refs
 pub mod RefLaws
-pub mod Push
+pub mod PushStepLaws
 pub mod Trees
 pub mod TreesLaws
 pub mod NodeRefs

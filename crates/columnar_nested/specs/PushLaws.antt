@@ -16,7 +16,7 @@ use Rattle.columnar_nested.specs.Forest.{width, roots, levels}
 use Rattle.columnar_nested.specs.Nodes.{below}
 use Rattle.columnar_nested.specs.ToldLaws.{order-roots, length-roots}
 use Rattle.columnar_nested.specs.TreeValues.{trees_as_forest, added_values, added_bounds, values_in}
-use Rattle.columnar_nested.specs.Push.{turn_values, turn_bounds, count_values, width-as_forest}
+use Rattle.columnar_nested.specs.PushStepLaws.{turn_values, turn_bounds, count_values, width-as_forest}
 use Rattle.columnar_nested.specs.PushTurns.{Laid}
 use Rattle.columnar_nested.specs.Trees.{nodes_format}
 use Rattle.columnar_nested.specs.declared.tree.Tree.{Tree}

@@ -5,7 +5,7 @@ use Rattle.std.proofs.lemmas.List.Sums.{sum_by-cons, sum-map}
 use Rattle.columnar_nested.specs.Forest.{Node, side_by_side, in_line, levels, level_order}
 use Rattle.columnar_nested.specs.ForestLaws.{levels-joined}
 use Rattle.columnar_nested.specs.TreeValues.{node_of, trees_as_forest, in_order, values_in}
-use Rattle.columnar_nested.specs.Push.{in_order-step, as_forest-append, node_of-out}
+use Rattle.columnar_nested.specs.PushStepLaws.{in_order-step, as_forest-append, node_of-out}
 use Rattle.columnar_nested.specs.Weights.{total, weight, count, value_sum, uncopied}
 use Rattle.columnar_nested.specs.declared.tree.Tree.{Tree}
 use Rattle.columnar_nested.specs.declared.tree.Tree.TheViews.{out-Tree}

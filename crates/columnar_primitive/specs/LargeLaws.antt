@@ -9,7 +9,7 @@ use Rattle.columnar_base.specs.Numbers.{wrapped, unsigned_row, unsigned_row_of, 
 use Rattle.columnar_base.specs.NumberLaws.{unsigned_element, number_back}
 use Rattle.columnar_base.specs.Arrays.{array_row}
 use Rattle.columnar_base.specs.ArrayLaws.{array_row_is}
-use Rattle.columnar_core.specs.NumberSlices.{bytes_of_number}
+use Rattle.columnar_core.specs.NumberSliceLaws.{bytes_of_number}
 use Rattle.columnar_primitive.specs.Larges.{large_bytes, as_u128, as_i128}
 
 -- each is a byte

@@ -17,7 +17,7 @@ pub mod FixedLaws
 pub mod HeldLaws
 pub mod Stride
 pub mod StrideLaws
-pub mod StrideCopies
+pub mod StrideCopyLaws
 pub mod Tried
 pub mod TriedLaws
 pub mod MayMultiples

@@ -21,12 +21,12 @@ pub mod Discriminants
 pub mod DiscriminantLaws
 pub mod FormLaws
 pub mod Unary
-pub mod UnaryLists
+pub mod UnaryListLaws
 pub mod UnaryLaws
 pub mod UnaryColumns
 pub mod UnaryBitLaws
 pub mod UnaryRangeLaws
 pub mod UnaryChangeLaws
-pub mod EarlierSums
+pub mod EarlierSumLaws
 pub mod MaySums
 pub mod MaySumLaws

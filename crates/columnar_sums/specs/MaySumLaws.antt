@@ -19,7 +19,7 @@ use Rattle.columnar_sums.specs.Results.{weave_results, oks, errs, ok_part, err_p
 use Rattle.columnar_sums.specs.Unary.{unary_bits, ends_of, falses, runs, falls, is_misplaced}
 use Rattle.columnar_sums.specs.UnaryColumns.{unaries_format}
 use Rattle.columnar_sums.specs.UnaryLaws.{unary_parts, unary_refuse_more, unary_bounds}
-use Rattle.columnar_sums.specs.UnaryLists.{set_truths, last-falses, runs-append, falls-append}
+use Rattle.columnar_sums.specs.UnaryListLaws.{set_truths, last-falses, runs-append, falls-append}
 use Rattle.columnar_sums.specs.UnaryRangeLaws.{runs_back}
 use Rattle.columnar_sums.specs.WeaveLaws.{somes-append, somes-weave}
 use Rattle.columnar_sums.specs.WeaveBothLaws.{oks-append, errs-append, oks-woven, errs-woven}

@@ -14,7 +14,7 @@ use Rattle.columnar_sums.specs.Counting.{ones, AreCounts}
 use Rattle.columnar_sums.specs.CountLaws.{ones_zero, ones_true, ones_false, ones_no, ones_yes, set_inside}
 use Rattle.columnar_sums.specs.RankColumns.{ranks_format, ranks_bits, IsNextTrue, AreFalseFrom, Standing}
 use Rattle.columnar_sums.specs.Unary.{is_set, unary_bits, ends_of, falses, last_bit, upto, all_false, runs, falls, unary, ends_left, ends_after}
-use Rattle.columnar_sums.specs.UnaryLists.{set_truths, falses-ends}
+use Rattle.columnar_sums.specs.UnaryListLaws.{set_truths, falses-ends}
 use Rattle.columnar_sums.specs.UnaryColumns.{repeated}
 
 pub four : ranks_format.turns ≤ 8

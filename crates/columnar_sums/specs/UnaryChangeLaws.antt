@@ -23,7 +23,7 @@ use Rattle.columnar_sums.specs.RankColumns.{ranks_format, ranks_bits, IsNextTrue
 use Rattle.columnar_sums.specs.RankLaws.{SoundRanks, ranks_parts, ranks_sound, ranks_lawful}
 use Rattle.columnar_sums.specs.RankChangeLaws.{Ranked, ranks_took, ranks_refused}
 use Rattle.columnar_sums.specs.Unary.{is_set, unary_bits, ends_of, falses, last_bit, upto, all_false, runs, falls, unary, unary_broken}
-use Rattle.columnar_sums.specs.UnaryLists.{set_truths, upto-within, last-falses}
+use Rattle.columnar_sums.specs.UnaryListLaws.{set_truths, upto-within, last-falses}
 use Rattle.columnar_sums.specs.UnaryLaws.{SoundUnary, numbers_back, unary_refused, unary_parts, unary_sound, length-offsets, unary_took, unary_stayed, unary_misplaced, unary_refuse_more, unary_cut, unary_rises}
 use Rattle.columnar_sums.specs.UnaryBitLaws.{counts_kept, ones_ends, ends_found, upto_found, falses_are, last_bit_is, length-zeros, counts_run}
 use Rattle.columnar_sums.specs.UnaryRangeLaws.{RangeBits, range_bits, runs_back, ends_rise, upto_at, end_from, end_there}

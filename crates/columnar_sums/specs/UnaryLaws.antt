@@ -13,7 +13,7 @@ use Rattle.columnar_core.specs.ChangeLaws.{grew_exactly, true_from}
 use Rattle.columnar_core.specs.Bounds.{rises, numbers, last_or, IsBounds}
 use Rattle.columnar_core.specs.declared.fault.GrowError.{GrowError}
 use Rattle.columnar_sums.specs.Unary.{is_set, unary_bits, ends_of, falses, last_bit, upto, runs, falls, is_misplaced, unary_end, unary_refuses, unary}
-use Rattle.columnar_sums.specs.UnaryLists.{set_truths, ends-append, last-falses, falses-ends, upto-within, upto-all, upto-append, upto-mono, ends_cut, upto-cut, cut-ended, last-append, runs-ended, ends-runs, runs-append, falls-append, last-or-append}
+use Rattle.columnar_sums.specs.UnaryListLaws.{set_truths, ends-append, last-falses, falses-ends, upto-within, upto-all, upto-append, upto-mono, ends_cut, upto-cut, cut-ended, last-append, runs-ended, ends-runs, runs-append, falls-append, last-or-append}
 
 -- what the soundness of offsets in unary is made of
 pub record SoundUnary (f : Format) (c : Content) : Type 0 where

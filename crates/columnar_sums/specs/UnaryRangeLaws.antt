@@ -10,7 +10,7 @@ use Rattle.columnar_sums.specs.Counting.{ones}
 use Rattle.columnar_sums.specs.CountLaws.{ones_zero, ones_true, ones_false}
 use Rattle.columnar_sums.specs.RankColumns.{IsNextTrue, AreFalseFrom}
 use Rattle.columnar_sums.specs.Unary.{ends_of, last_bit, upto, all_false, runs, falls}
-use Rattle.columnar_sums.specs.UnaryLists.{ends_cut, cut-ended, upto-within}
+use Rattle.columnar_sums.specs.UnaryListLaws.{ends_cut, cut-ended, upto-within}
 use Rattle.columnar_sums.specs.UnaryBitLaws.{ones_ends, ends_found, ones_skip, no_end}
 
 -- ---- where offsets stand

@@ -1,6 +1,6 @@
 //! Offsets in unary, options and results that are made of an earlier form.
 ghost use Rattle.columnar_core.specs.Bounds.{last_or};
-ghost use Rattle.columnar_sums.specs.EarlierSums.{unary_fewer, earlier_options, earlier_results};
+ghost use Rattle.columnar_sums.specs.EarlierSumLaws.{unary_fewer, earlier_options, earlier_results};
 
 use crate::discriminant::Discriminant;
 use crate::option::Options;

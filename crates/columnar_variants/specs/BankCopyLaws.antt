@@ -11,7 +11,7 @@ use Rattle.columnar_variants.specs.VariantListLaws.{times_range}
 use Rattle.columnar_variants.specs.VariantLaws.{leaf_stayed}
 use Rattle.columnar_variants.specs.VariantCopies.{BankCopied, BankDenied, HasRange, range_of}
 use Rattle.columnar_variants.specs.VariantCopyLaws.{has_range, leaf_copied, join_copied, variants_copied, variants_front, chosen_range, leaf_denied, first_denied, later_denied, variants_denied, variants_overfull}
-use Rattle.columnar_variants.specs.BankChanges.{one_more, bank_unchanged}
+use Rattle.columnar_variants.specs.BankChangeLaws.{one_more, bank_unchanged}
 use Rattle.columnar_variants.specs.DualCopyLaws.{same_range, refused_as, copied_as}
 use Rattle.columnar_variants.specs.BankCopies.{ranges}
 

@@ -20,7 +20,7 @@ use Rattle.columnar_variants.specs.VariantLaws.{variants_parts, variants_sound, 
 use Rattle.columnar_variants.specs.VariantRows.{IsBare}
 use Rattle.columnar_variants.specs.VariantRowLaws.{beside_sound}
 use Rattle.columnar_variants.specs.VariantCopyLaws.{of_chosen}
-use Rattle.columnar_variants.specs.LawfulVariants.{variants_form}
+use Rattle.columnar_variants.specs.LawfulVariantLaws.{variants_form}
 use Rattle.columnar_variants.specs.BankLaws.{same_leaf, same_join, same_variants}
 use Rattle.columnar_variants.specs.BankEarlier.{IsEarlierBank, IsBankMadeOf, IsBankCause, IsTrueOfBare}
 use Rattle.columnar_sums.specs.Results.{beside_format}

@@ -18,7 +18,7 @@ use Rattle.columnar_variants.specs.Variants.{of_case, chosen}
 use Rattle.columnar_variants.specs.VariantLaws.{variants_parts, variants_sound, variants_number, length-chosen, chosen-same}
 use Rattle.columnar_variants.specs.VariantRowLaws.{beside_sound}
 use Rattle.columnar_variants.specs.VariantCopyLaws.{of_chosen}
-use Rattle.columnar_variants.specs.LawfulVariants.{variants_form}
+use Rattle.columnar_variants.specs.LawfulVariantLaws.{variants_form}
 use Rattle.columnar_variants.specs.Duals.{dual_bank, dual_content, dual_format}
 use Rattle.columnar_variants.specs.DualLaws.{dual_law, same_duals, firsts_sound, seconds_sound}
 use Rattle.columnar_sums.specs.ResultLaws.{beside_two}

@@ -8,7 +8,7 @@ use Rattle.columnar_variants.specs.VariantLaws.{leaf_bank, join_bank, beside_par
 use Rattle.columnar_core.specs.Change.{Stayed}
 use Rattle.columnar_core.specs.ChangeLaws.{stayed_twice}
 use Rattle.columnar_sums.specs.Discriminants.{discriminant_format}
-use Rattle.columnar_variants.specs.LawfulVariants.{leaf_lawful, join_lawful, join_storable, variants_lawful, variants_storable}
+use Rattle.columnar_variants.specs.LawfulVariantLaws.{leaf_lawful, join_lawful, join_storable, variants_lawful, variants_storable}
 use Rattle.columnar_variants.specs.Duals.{dual_bank, dual_content, dual_format}
 use Rattle.columnar_sums.specs.ResultLaws.{beside_two}
 

@@ -1,8 +1,8 @@
 pub mod Variants
 pub mod VariantListLaws
 pub mod VariantLaws
-pub mod LawfulVariants
-pub mod VariantCuts
+pub mod LawfulVariantLaws
+pub mod VariantCutLaws
 pub mod VariantRows
 pub mod VariantRowLaws
 pub mod VariantCounts
@@ -11,7 +11,7 @@ pub mod VariantBytes
 pub mod VariantByteLaws
 pub mod VariantCopies
 pub mod VariantCopyLaws
-pub mod VariantRuns
+pub mod VariantRunLaws
 pub mod Cases
 pub mod CaseLaws
 pub mod Duals
@@ -23,8 +23,8 @@ pub mod BankLaws
 pub mod BankCases
 pub mod BankCopies
 pub mod BankCaseLaws
-pub mod BankChanges
-pub mod BankBytes
+pub mod BankChangeLaws
+pub mod BankByteLaws
 pub mod BankCopyLaws
 pub mod BankEarlier
 pub mod BankEarlierLaws

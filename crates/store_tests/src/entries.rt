@@ -12,7 +12,7 @@ type Entries = (
 );
 
 // The law of these columns: an entry that is refused by Length or Offset is denied together with the rows that stand.
-#[tactic(auto, using(crate::specs::Entries::entry_denied))]
+#[tactic(auto, using(crate::specs::EntryLaws::entry_denied))]
 fn refused_entries_are_denied()
     ensures { RefusedAreDenied }
 {}

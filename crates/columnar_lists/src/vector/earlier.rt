@@ -1,5 +1,5 @@
 //! Lists that are made of an earlier form of their bounds and values.
-ghost use Rattle.columnar_lists.specs.EarlierLists.{earlier_lists};
+ghost use Rattle.columnar_lists.specs.EarlierListLaws.{earlier_lists};
 
 use super::Vecs;
 use columnar_base::fault::GrowError;

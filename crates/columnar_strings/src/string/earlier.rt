@@ -1,5 +1,5 @@
 //! Strings that are made of an earlier form of their bounds and bytes.
-ghost use Rattle.columnar_lists.specs.EarlierLists.{earlier_lists};
+ghost use Rattle.columnar_lists.specs.EarlierListLaws.{earlier_lists};
 
 use super::Strings;
 use columnar_base::fault::GrowError;

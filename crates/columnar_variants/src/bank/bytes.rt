@@ -5,7 +5,7 @@ ghost use Rattle.columnar_core.specs.Faults.{verdict};
 ghost use Rattle.columnar_core.specs.Slices.{bytes_in, alignment};
 ghost use Rattle.columnar_core.specs.Store.{slices_in};
 ghost use Rattle.columnar_core.specs.TwoPartsLaws.{two_counted};
-ghost use Rattle.columnar_variants.specs.LawfulVariants.{join_storable};
+ghost use Rattle.columnar_variants.specs.LawfulVariantLaws.{join_storable};
 
 use super::{ColumnBank, LenBank};
 use columnar_core::byte_slice::ByteSlice;

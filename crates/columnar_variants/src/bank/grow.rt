@@ -3,7 +3,7 @@ ghost use Rattle.std.specs.Prelude.{◌≡◌, ℕ, ◌+◌, ◌<◌, ◌≤◌,
 ghost use Rattle.columnar_core.specs.Format.{IsSound};
 ghost use Rattle.columnar_variants.specs.Variants.{BankCut, BankStayed, IsLawfulBank};
 ghost use Rattle.columnar_variants.specs.VariantRows.{IsBare};
-ghost use Rattle.columnar_variants.specs.LawfulVariants.{leaf_lawful, join_lawful};
+ghost use Rattle.columnar_variants.specs.LawfulVariantLaws.{leaf_lawful, join_lawful};
 
 use super::{ColumnBank, LenBank};
 use columnar_core::container::{Reserve, Storage, Truncate};

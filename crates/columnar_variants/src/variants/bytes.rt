@@ -4,7 +4,7 @@ ghost use Rattle.columnar_core.specs.Format.{slices_of};
 ghost use Rattle.columnar_core.specs.TwoPartsLaws.{two_counted};
 ghost use Rattle.columnar_sums.specs.Discriminants.{forms_content};
 ghost use Rattle.columnar_sums.specs.DiscriminantLaws.{discriminant_storable};
-ghost use Rattle.columnar_variants.specs.LawfulVariants.{variants_storable};
+ghost use Rattle.columnar_variants.specs.LawfulVariantLaws.{variants_storable};
 
 use super::Variants;
 use crate::bank::bytes::{AsBytesBank, BytesBank, CheckBank, FromBytesBank, StoredBank};

@@ -1,6 +1,6 @@
 //! What an owned column of any number of variants does besides taking rows.
 ghost use Rattle.columnar_sums.specs.DiscriminantLaws.{discriminant_lawful};
-ghost use Rattle.columnar_variants.specs.LawfulVariants.{variants_lawful};
+ghost use Rattle.columnar_variants.specs.LawfulVariantLaws.{variants_lawful};
 
 use super::Variants;
 use crate::bank::grow::{ClearBank, CutBank, ReserveBank, StorageBank};

@@ -1,6 +1,6 @@
 use Rattle.std.proofs.Common.{sym, ap}
 use Rattle.columnar_base.specs.Format.{slice}
-use Rattle.columnar_core.specs.NumberSlices.{bytes_are}
+use Rattle.columnar_core.specs.NumberSliceLaws.{bytes_are}
 use Rattle.columnar_core.proofs.byte_column.as_elements.Goals as goal
 
 pub returns : goal.returns

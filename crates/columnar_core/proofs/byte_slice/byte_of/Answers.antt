@@ -1,4 +1,4 @@
-use Rattle.columnar_core.specs.NumberSlices.{byte_at_of, no_byte_of}
+use Rattle.columnar_core.specs.NumberSliceLaws.{byte_at_of, no_byte_of}
 use Rattle.columnar_core.proofs.byte_slice.byte_of.Goals as goal
 
 pub returns-then-index-items : goal.returns-then-index-items

@@ -1,5 +1,5 @@
 use Rattle.std.proofs.Common.{arith}
-use Rattle.columnar_core.specs.NumberSlices.{bytes_are}
+use Rattle.columnar_core.specs.NumberSliceLaws.{bytes_are}
 use Rattle.columnar_core.proofs.byte_slice.word_or_zeros.Goals as goal
 
 pub word_of-requires-clause-short : goal.word_of-requires-clause-short

@@ -5,7 +5,7 @@ use Rattle.columnar_core.specs.ChangeLaws.{took_none, took_twice, undone, grew_s
 use Rattle.columnar_sums.specs.Discriminants.{forms_content, owned_forms, variants_of, times}
 use Rattle.columnar_sums.specs.DiscriminantLaws.{discriminant_lawful, length-variant_rows, times_most}
 use Rattle.columnar_variants.specs.VariantCopyLaws.{variants_cause}
-use Rattle.columnar_variants.specs.VariantRuns.{sole_below, run_range}
+use Rattle.columnar_variants.specs.VariantRunLaws.{sole_below, run_range}
 use Rattle.columnar_variants.specs.VariantListLaws.{none_taken, below_get, times_range, place_in, next_taken, taken_length}
 use Rattle.columnar_variants.proofs.copy.extend_variants.Goals as goal
 

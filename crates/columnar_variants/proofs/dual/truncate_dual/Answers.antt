@@ -6,7 +6,7 @@ use Rattle.columnar_variants.specs.Variants.{leaf}
 use Rattle.columnar_variants.specs.Duals.{dual_bank}
 use Rattle.columnar_variants.specs.DualLaws.{dual_law}
 use Rattle.columnar_variants.specs.VariantLaws.{variants_parts, variants_count, variants_number, beside_parts}
-use Rattle.columnar_variants.specs.VariantCuts.{variants_cut, join_cut, leaf_cut}
+use Rattle.columnar_variants.specs.VariantCutLaws.{variants_cut, join_cut, leaf_cut}
 use Rattle.columnar_variants.proofs.dual.truncate_dual.Goals as goal
 
 pub len-requires : goal.len-requires

@@ -1,7 +1,7 @@
 use Rattle.std.proofs.Common.{◌≡◌, ◌∙◌, arith, length}
 use Rattle.columnar_sums.specs.Discriminants.{owned_forms, variants_of, times}
 use Rattle.columnar_sums.specs.DiscriminantLaws.{length-variant_rows, times_most}
-use Rattle.columnar_variants.specs.VariantRuns.{alone_from, times_pushed, run_joined}
+use Rattle.columnar_variants.specs.VariantRunLaws.{alone_from, times_pushed, run_joined}
 use Rattle.columnar_variants.proofs.run.push_variants.Goals as goal
 
 pub push_each-requires-clause-room : goal.push_each-requires-clause-room

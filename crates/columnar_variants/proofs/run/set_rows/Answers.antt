@@ -1,5 +1,5 @@
 use Rattle.std.proofs.Common.{arith}
-use Rattle.columnar_variants.specs.VariantRuns.{rows_set}
+use Rattle.columnar_variants.specs.VariantRunLaws.{rows_set}
 use Rattle.columnar_variants.proofs.run.set_rows.Goals as goal
 
 pub index_mut-requires : goal.index_mut-requires

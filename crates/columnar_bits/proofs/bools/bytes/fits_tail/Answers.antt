@@ -1,4 +1,4 @@
-use Rattle.columnar_bits.specs.BoolBytes.{fits_is}
+use Rattle.columnar_bits.specs.BoolByteLaws.{fits_is}
 use Rattle.columnar_bits.proofs.bools.bytes.fits_tail.Goals as goal
 
 pub returns-then-count-lt64 : goal.returns-then-count-lt64

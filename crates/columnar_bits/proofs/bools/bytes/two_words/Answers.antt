@@ -1,4 +1,4 @@
-use Rattle.columnar_bits.specs.BoolBytes.{two_read}
+use Rattle.columnar_bits.specs.BoolByteLaws.{two_read}
 use Rattle.columnar_bits.proofs.bools.bytes.two_words.Goals as goal
 
 pub returns : goal.returns

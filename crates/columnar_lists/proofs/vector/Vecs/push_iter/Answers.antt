@@ -1,7 +1,7 @@
 use Rattle.std.proofs.Common.{inl}
 use Rattle.columnar_base.specs.ChangeLaws.{passed_on}
 use Rattle.columnar_lists.specs.ListLaws.{lists_parts, lists_last}
-use Rattle.columnar_lists.specs.ListPushes.{items_not_taken, on_drained, on_not_drained, on_end_refused}
+use Rattle.columnar_lists.specs.ListPushLaws.{items_not_taken, on_drained, on_not_drained, on_end_refused}
 use Rattle.columnar_lists.proofs.vector.Vecs.push_iter.Goals as goal
 
 pub len-before-requires : goal.len-before-requires

@@ -3,7 +3,7 @@ use Rattle.columnar_base.specs.Format.{slice}
 use Rattle.columnar_base.specs.WordViews.{le_bytes}
 use Rattle.columnar_base.specs.ChangeLaws.{took_none, took_twice, passed_on, took_stayed}
 use Rattle.columnar_nested.specs.TreeValues.{in_order}
-use Rattle.columnar_nested.specs.Push.{turn_fewer}
+use Rattle.columnar_nested.specs.PushStepLaws.{turn_fewer}
 use Rattle.columnar_nested.specs.PushLaws.{laid_start, laid_more, laid_valid, laid_refused, laid_too_long}
 use Rattle.columnar_nested.specs.declared.tree.Tree.TheViews.{out-Tree}
 use Rattle.columnar_base.specs.Row.{Row}

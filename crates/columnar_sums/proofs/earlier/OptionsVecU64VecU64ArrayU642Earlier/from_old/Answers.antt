@@ -1,7 +1,7 @@
 use Rattle.columnar_core.specs.ChangeLaws.{passed_on}
 use Rattle.columnar_sums.specs.OptionLaws.{options_parts}
 use Rattle.columnar_sums.specs.RankColumns.{owned_ranks}
-use Rattle.columnar_sums.specs.EarlierSums.{options_made, options_not}
+use Rattle.columnar_sums.specs.EarlierSumLaws.{options_made, options_not}
 use Rattle.columnar_sums.proofs.earlier.OptionsVecU64VecU64ArrayU642Earlier.from_old.Goals as goal
 
 pub from_old-requires : goal.from_old-requires

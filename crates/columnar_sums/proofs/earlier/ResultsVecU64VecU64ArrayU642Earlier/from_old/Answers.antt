@@ -1,7 +1,7 @@
 use Rattle.columnar_core.specs.ChangeLaws.{passed_on}
 use Rattle.columnar_sums.specs.ResultLaws.{results_parts}
 use Rattle.columnar_sums.specs.RankColumns.{owned_ranks}
-use Rattle.columnar_sums.specs.EarlierSums.{results_made, results_not_oks, results_not_errs}
+use Rattle.columnar_sums.specs.EarlierSumLaws.{results_made, results_not_oks, results_not_errs}
 use Rattle.columnar_sums.proofs.earlier.ResultsVecU64VecU64ArrayU642Earlier.from_old.Goals as goal
 
 pub from_old-requires : goal.from_old-requires

@@ -5,7 +5,7 @@ use Rattle.columnar_core.specs.ChangeLaws.{passed_on, took_none, took_more}
 use Rattle.columnar_core.specs.Elements.{words_format, word_row}
 use Rattle.columnar_core.specs.Bounds.{numbers, last_or}
 use Rattle.columnar_core.specs.WordViews.{le_bytes}
-use Rattle.columnar_sums.specs.EarlierSums.{offset_refused, offsets_made, last_taken}
+use Rattle.columnar_sums.specs.EarlierSumLaws.{offset_refused, offsets_made, last_taken}
 use Rattle.columnar_sums.proofs.earlier.UnariesVecU64VecU64ArrayU642Earlier.from_old.Goals as goal
 
 pub returns-in_err-push_after-clause-err : goal.returns-in_err-push_after-clause-err

@@ -1,5 +1,5 @@
 use Rattle.columnar_core.specs.Store.{slices_in}
-use Rattle.columnar_bits.specs.BoolBytes.{loaded_at}
+use Rattle.columnar_bits.specs.BoolByteLaws.{loaded_at}
 use Rattle.columnar_bits.proofs.bools.bytes.BoolsVecU64ArrayU642ContainerBytes.load.Goals as goal
 
 pub returns-clause-content : goal.returns-clause-content

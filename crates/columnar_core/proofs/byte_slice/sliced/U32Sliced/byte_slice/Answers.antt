@@ -1,5 +1,5 @@
 use Rattle.std.proofs.Common.{refl, w32}
-use Rattle.columnar_core.specs.NumberSlices.{counted_unsigned}
+use Rattle.columnar_core.specs.NumberSliceLaws.{counted_unsigned}
 use Rattle.columnar_core.proofs.byte_slice.sliced.U32Sliced.byte_slice.Goals as goal
 
 pub invariant_of-result : goal.invariant_of-result

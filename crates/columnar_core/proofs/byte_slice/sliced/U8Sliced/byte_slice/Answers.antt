@@ -1,5 +1,5 @@
 use Rattle.std.proofs.Common.{◌∙◌}
-use Rattle.columnar_core.specs.NumberSlices.{bytes_are}
+use Rattle.columnar_core.specs.NumberSliceLaws.{bytes_are}
 use Rattle.columnar_core.proofs.byte_slice.sliced.U8Sliced.byte_slice.Goals as goal
 
 pub returns-clause-bytes : goal.returns-clause-bytes

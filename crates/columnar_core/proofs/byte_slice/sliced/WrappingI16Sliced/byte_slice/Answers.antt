@@ -1,5 +1,5 @@
 use Rattle.std.proofs.Common.{refl, w16}
-use Rattle.columnar_core.specs.NumberSlices.{counted_wrapping_signed}
+use Rattle.columnar_core.specs.NumberSliceLaws.{counted_wrapping_signed}
 use Rattle.columnar_core.proofs.byte_slice.sliced.WrappingI16Sliced.byte_slice.Goals as goal
 
 pub invariant_of-result : goal.invariant_of-result

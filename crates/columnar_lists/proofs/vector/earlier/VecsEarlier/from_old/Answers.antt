@@ -1,6 +1,6 @@
 use Rattle.columnar_base.specs.ChangeLaws.{passed_on}
 use Rattle.columnar_lists.specs.ListLaws.{lists_parts}
-use Rattle.columnar_lists.specs.EarlierLists.{lists_made, lists_not_bounds, lists_not_values}
+use Rattle.columnar_lists.specs.EarlierListLaws.{lists_made, lists_not_bounds, lists_not_values}
 use Rattle.columnar_lists.proofs.vector.earlier.VecsEarlier.from_old.Goals as goal
 
 pub from_old-requires : goal.from_old-requires

@@ -8,7 +8,7 @@ use Rattle.columnar_core.specs.ChangeLaws.{took_more}
 use Rattle.columnar_core.specs.WordViews.{bytes_of}
 use Rattle.columnar_primitive.specs.Stride.{strides_rows, head_and_bounds}
 use Rattle.columnar_primitive.specs.StrideLaws.{copy_begun, strides_undone, strides_copied, front_kept}
-use Rattle.columnar_primitive.specs.StrideCopies.{extended_none, extended_more, joins_in, length-copied, strides_few}
+use Rattle.columnar_primitive.specs.StrideCopyLaws.{extended_none, extended_more, joins_in, length-copied, strides_few}
 use Rattle.columnar_primitive.proofs.offsets.strides.StridesVecU64ArrayU642ExtendFromStridesViewU64ViewU64.extend_from_self.Goals as goal
 
 pub loop-i-init : goal.loop-i-init

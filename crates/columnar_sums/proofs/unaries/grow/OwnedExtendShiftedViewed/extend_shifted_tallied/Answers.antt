@@ -4,7 +4,7 @@ use Rattle.columnar_core.specs.WordViews.{view_bytes, le_bytes}
 use Rattle.columnar_bits.specs.BoolColumns.{bits_in}
 use Rattle.columnar_sums.specs.RankColumns.{owned_ranks}
 use Rattle.columnar_sums.specs.RankLaws.{ranks_parts}
-use Rattle.columnar_sums.specs.UnaryLists.{upto-mono, upto-within}
+use Rattle.columnar_sums.specs.UnaryListLaws.{upto-mono, upto-within}
 use Rattle.columnar_sums.specs.UnaryChangeLaws.{place_after, place_fits, range_took, range_if_err}
 use Rattle.columnar_sums.proofs.unaries.grow.OwnedExtendShiftedViewed.extend_shifted_tallied.Goals as goal
 

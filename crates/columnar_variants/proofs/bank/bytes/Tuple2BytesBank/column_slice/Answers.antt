@@ -2,7 +2,7 @@ use Rattle.std.proofs.Common.{◌-◌, arith}
 use Rattle.columnar_base.specs.TwoPartsLaws.{representable_left, representable_right, flat_right, align_right}
 use Rattle.columnar_base.specs.Format.{slices_of}
 use Rattle.columnar_core.specs.Slices.{bytes_in, alignment}
-use Rattle.columnar_variants.specs.BankBytes.{beside_parts_two}
+use Rattle.columnar_variants.specs.BankByteLaws.{beside_parts_two}
 use Rattle.columnar_variants.proofs.bank.bytes.Tuple2BytesBank.column_slice.Goals as goal
 
 pub slice_count-count-requires : goal.slice_count-count-requires

@@ -2,7 +2,7 @@ use Rattle.std.proofs.Common.{ap, ◌+◌}
 use Rattle.columnar_base.specs.TwoPartsLaws.{representable_left, representable_right}
 use Rattle.columnar_core.specs.Store.{slices_in}
 use Rattle.columnar_variants.specs.VariantByteLaws.{beside_first, beside_second, beside_content}
-use Rattle.columnar_variants.specs.BankBytes.{beside_parts_two}
+use Rattle.columnar_variants.specs.BankByteLaws.{beside_parts_two}
 use Rattle.columnar_variants.proofs.bank.bytes.Tuple2BytesBank.load_columns.Goals as goal
 
 pub load-requires-clause-representable : goal.load-requires-clause-representable

@@ -1,7 +1,7 @@
 use Rattle.columnar_base.specs.Faults.{verdict}
 use Rattle.columnar_base.specs.TwoPartsLaws.{representable_left, representable_right}
 use Rattle.columnar_core.specs.SidesLaws.{checked_others}
-use Rattle.columnar_variants.specs.BankBytes.{beside_parts_two}
+use Rattle.columnar_variants.specs.BankByteLaws.{beside_parts_two}
 use Rattle.columnar_variants.proofs.bank.bytes.Tuple2CheckBank.check_columns.Goals as goal
 
 pub check_from_tallied-requires-clause-representable : goal.check_from_tallied-requires-clause-representable

@@ -1,6 +1,6 @@
 use Rattle.std.specs.Prelude.{slice_index}
 use Rattle.columnar_variants.specs.VariantLaws.{beside_parts}
-use Rattle.columnar_variants.specs.BankBytes.{told_then, told_else}
+use Rattle.columnar_variants.specs.BankByteLaws.{told_then, told_else}
 use Rattle.columnar_variants.proofs.bank.bytes.Tuple2CheckBank.hold_values.Goals as goal
 
 pub len-requires : goal.len-requires

@@ -1,5 +1,5 @@
 use Rattle.columnar_base.specs.TwoPartsLaws.{representable_left, representable_right}
-use Rattle.columnar_variants.specs.BankBytes.{beside_parts_two}
+use Rattle.columnar_variants.specs.BankByteLaws.{beside_parts_two}
 use Rattle.columnar_variants.proofs.bank.bytes.Tuple2StoredBank.count_slices.Goals as goal
 
 pub slice_count-requires : goal.slice_count-requires

@@ -1,7 +1,7 @@
 use Rattle.std.specs.Prelude.{slice_index}
 use Rattle.columnar_base.specs.TwoPartsLaws.{representable_left, representable_right, two_fits_left, two_fits_right}
 use Rattle.columnar_core.specs.Store.{slices_in}
-use Rattle.columnar_variants.specs.BankBytes.{beside_parts_two, told_then_at, told_else_at}
+use Rattle.columnar_variants.specs.BankByteLaws.{beside_parts_two, told_then_at, told_else_at}
 use Rattle.columnar_variants.proofs.bank.bytes.Tuple2StoredBank.have_values.Goals as goal
 
 pub rows_in-requires-clause-representable : goal.rows_in-requires-clause-representable

@@ -2,7 +2,7 @@ use Rattle.columnar_base.specs.Faults.{verdict}
 use Rattle.columnar_base.specs.TwoPartsLaws.{representable_left, representable_right}
 use Rattle.columnar_core.specs.Store.{slices_in}
 use Rattle.columnar_core.specs.SidesLaws.{judged_others, turns_others}
-use Rattle.columnar_variants.specs.BankBytes.{beside_parts_two}
+use Rattle.columnar_variants.specs.BankByteLaws.{beside_parts_two}
 use Rattle.columnar_variants.proofs.bank.bytes.Tuple2StoredBank.judge_columns.Goals as goal
 
 pub judge_tallied-requires-clause-representable : goal.judge_tallied-requires-clause-representable

@@ -1,5 +1,5 @@
 use Rattle.columnar_base.specs.TwoPartsLaws.{representable_left, representable_right}
-use Rattle.columnar_variants.specs.BankBytes.{beside_parts_two}
+use Rattle.columnar_variants.specs.BankByteLaws.{beside_parts_two}
 use Rattle.columnar_variants.proofs.bank.bytes.Tuple2StoredBank.sizes_of_columns.Goals as goal
 
 pub element_sizes-requires : goal.element_sizes-requires

@@ -4,7 +4,7 @@ use Rattle.columnar_core.specs.Format.{both}
 use Rattle.columnar_core.specs.ChangeLaws.{passed_on, undone}
 use Rattle.columnar_variants.specs.Variants.{join}
 use Rattle.columnar_variants.specs.VariantLaws.{beside_parts}
-use Rattle.columnar_variants.specs.BankChanges.{one_more}
+use Rattle.columnar_variants.specs.BankChangeLaws.{one_more}
 use Rattle.columnar_variants.specs.BankCopyLaws.{join_copied_ends, first_denied_ends, later_denied_ends}
 use Rattle.columnar_variants.proofs.bank.copy.Tuple2ExtendBank.extend_columns.Goals as goal
 

@@ -1,6 +1,6 @@
 use Rattle.std.proofs.Common.{sym}
 use Rattle.std.specs.Prelude.{slice_index}
-use Rattle.columnar_variants.specs.VariantCuts.{leaf_cut}
+use Rattle.columnar_variants.specs.VariantCutLaws.{leaf_cut}
 use Rattle.columnar_variants.proofs.bank.grow.Tuple1CutBank.cut_columns.Goals as goal
 
 pub returns : goal.returns

@@ -1,8 +1,8 @@
 use Rattle.std.proofs.Common.{sym}
 use Rattle.std.specs.Prelude.{slice_index}
 use Rattle.columnar_variants.specs.VariantLaws.{beside_parts}
-use Rattle.columnar_variants.specs.VariantCuts.{join_cut}
-use Rattle.columnar_variants.specs.BankChanges.{cut_as, one_more}
+use Rattle.columnar_variants.specs.VariantCutLaws.{join_cut}
+use Rattle.columnar_variants.specs.BankChangeLaws.{cut_as, one_more}
 use Rattle.columnar_variants.proofs.bank.grow.Tuple2CutBank.cut_columns.Goals as goal
 
 pub truncate-requires-clause-sound : goal.truncate-requires-clause-sound

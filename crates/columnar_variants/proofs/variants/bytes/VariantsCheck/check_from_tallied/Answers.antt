@@ -3,8 +3,8 @@ use Rattle.columnar_base.specs.ChangeLaws.{passed_on}
 use Rattle.columnar_base.specs.FaultLaws.{sound_from}
 use Rattle.columnar_core.specs.Faults.{fault_of}
 use Rattle.columnar_sums.specs.Discriminants.{forms_content}
-use Rattle.columnar_variants.specs.BankChanges.{told_as}
-use Rattle.columnar_variants.specs.BankBytes.{own_variant}
+use Rattle.columnar_variants.specs.BankChangeLaws.{told_as}
+use Rattle.columnar_variants.specs.BankByteLaws.{own_variant}
 use Rattle.columnar_variants.specs.VariantByteLaws.{sides_representable, variants_sides, variants_forms, variants_own, own_parts, own_fine}
 use Rattle.columnar_variants.proofs.variants.bytes.VariantsCheck.check_from_tallied.Goals as goal
 

@@ -6,8 +6,8 @@ use Rattle.columnar_core.specs.Store.{slices_in}
 use Rattle.columnar_core.specs.WordViews.{view_bytes}
 use Rattle.columnar_sums.specs.Discriminants.{forms_content}
 use Rattle.columnar_variants.specs.Duals.{slice_bytes}
-use Rattle.columnar_variants.specs.BankChanges.{told_as}
-use Rattle.columnar_variants.specs.BankBytes.{own_variant}
+use Rattle.columnar_variants.specs.BankChangeLaws.{told_as}
+use Rattle.columnar_variants.specs.BankByteLaws.{own_variant}
 use Rattle.columnar_variants.specs.VariantByteLaws.{sides_representable, variants_sides_at, variants_forms_at, variants_own_at, own_parts, own_fine}
 use Rattle.columnar_variants.proofs.variants.bytes.VariantsStored.judge_tallied.Goals as goal
 

@@ -2,8 +2,8 @@ use Rattle.std.proofs.Common.{◌∙◌, sym}
 use Rattle.columnar_sums.specs.Discriminants.{owned_forms, variants_of}
 use Rattle.columnar_sums.specs.DiscriminantLaws.{length-variant_rows}
 use Rattle.columnar_variants.specs.VariantLaws.{variants_parts, variants_count, counts_within}
-use Rattle.columnar_variants.specs.VariantCuts.{variants_cut}
-use Rattle.columnar_variants.specs.BankChanges.{cut_as}
+use Rattle.columnar_variants.specs.VariantCutLaws.{variants_cut}
+use Rattle.columnar_variants.specs.BankChangeLaws.{cut_as}
 use Rattle.columnar_variants.proofs.variants.grow.VariantsVecU8VecU64Truncate.truncate.Goals as goal
 
 pub fronts-fronts-requires-clause-in_range : goal.fronts-fronts-requires-clause-in_range

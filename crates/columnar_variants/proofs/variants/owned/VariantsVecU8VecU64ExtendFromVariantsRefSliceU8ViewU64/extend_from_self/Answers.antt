@@ -7,7 +7,7 @@ use Rattle.columnar_sums.specs.DiscriminantLaws.{length-variant_rows}
 use Rattle.columnar_variants.specs.Duals.{slice_bytes}
 use Rattle.columnar_variants.specs.VariantListLaws.{times_range, times_of_all, range_length}
 use Rattle.columnar_variants.specs.VariantLaws.{variants_parts, variants_count, variants_number, counts_within}
-use Rattle.columnar_variants.specs.BankChanges.{bank_undone}
+use Rattle.columnar_variants.specs.BankChangeLaws.{bank_undone}
 use Rattle.columnar_variants.specs.BankCopyLaws.{whole_copied, whole_denied, whole_overfull, still_within}
 use Rattle.columnar_variants.proofs.variants.owned.VariantsVecU8VecU64ExtendFromVariantsRefSliceU8ViewU64.extend_from_self.Goals as goal
 

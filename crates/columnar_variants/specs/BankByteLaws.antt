@@ -7,7 +7,7 @@ use Rattle.columnar_core.specs.TwoParts.{TwoParts}
 use Rattle.columnar_variants.specs.Variants.{Bank, join}
 use Rattle.columnar_variants.specs.VariantBytes.{own_broken}
 use Rattle.columnar_variants.specs.VariantByteLaws.{beside_built}
-use Rattle.columnar_variants.specs.BankChanges.{told_as}
+use Rattle.columnar_variants.specs.BankChangeLaws.{told_as}
 use Rattle.columnar_sums.specs.Results.{beside_format}
 
 -- two parts of any numbers of rows

@@ -22,7 +22,7 @@ use Rattle.columnar_sums.specs.Options.{options_format, weave, somes}
 use Rattle.columnar_sums.specs.OptionLaws.{options_two, options_parts, options_sound, same_options, length-options, no_values, options_somes, options_refuses_more}
 use Rattle.columnar_sums.specs.Results.{results_format, weave_results, oks, errs}
 use Rattle.columnar_sums.specs.ResultLaws.{results_form, results_parts, results_sound, same_results, length-results, results_oks, results_errs, results_refuses_more}
-use Rattle.columnar_sums.specs.UnaryLists.{last-or-append}
+use Rattle.columnar_sums.specs.UnaryListLaws.{last-or-append}
 use Rattle.columnar_sums.specs.UnaryLaws.{unary_lawful}
 use Rattle.columnar_sums.specs.UnaryColumns.{unaries_format}
 

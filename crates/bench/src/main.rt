@@ -19,6 +19,7 @@ mod sorts;
 mod strings;
 mod times;
 mod trees;
+mod types;
 mod unary;
 mod variants;
 mod work;
@@ -45,6 +46,7 @@ fn all<R: Clock, O: Write>(times: &mut Times<'_, R, O>) -> Option<()> {
         opened::measure(times)?;
         sorts::measure(times)?;
         commands::measure(times)?;
+        types::measure(times)?;
     }
     Some(())
 }

@@ -6,12 +6,14 @@ ghost use Rattle.columnar_base.specs.Format.{IsSound, representable};
 use crate::amount::Amount;
 use crate::clock::{line, nanos};
 use crate::plain::Plain;
+use crate::types::Looked;
 use crate::work;
 use columnar_base::storage::Storage;
 use columnar_base::traits::{Index, Len, Push, PushRef};
 use columnar_bytes::stash::Stash;
 use columnar_core::bytes::{AsBytes, Stored};
 use columnar_core::container::{ContainerBytes, ExtendFrom};
+use columnar_types::types::{Columnar, ContainerOf, FromRow};
 use std::alloc::Global;
 use std::io::Write;
 use std::rt::Clock;
@@ -184,5 +186,33 @@ impl<'a, R: Clock, O: Write> Times<'a, R, O> {
         let start = self.start();
         let _typed = stash.to_typed(self.alloc).ok()?;
         self.end(name, start, items)
+    }
+
+    /// A column of these values, made by their type.
+    pub fn columns<T: Plain + Columnar<Container: Storage + PushRef<T>>>(
+        &mut self,
+        name: &str,
+        items: &[T],
+    ) -> Option<ContainerOf<T>>
+        ensures { IfSome result (λ c. IsSound T.Container.format (T.Container.content c)) }
+    {
+        let start = self.start();
+        let column = work::columns::<T>(self.alloc, items).ok()?;
+        self.end(name, start, items.len())?;
+        Some(column)
+    }
+
+    /// Makes a value of each row of a view.
+    pub fn owned<T: FromRow<V::Ref> + Looked, V: Len + Index>(
+        &mut self,
+        name: &str,
+        view: &V,
+    ) -> Option<()>
+        requires { IsSound V.format (V.content view.now) }
+    {
+        let start = self.start();
+        let sum = work::owned_each::<T, V>(self.alloc, view)?;
+        self.summed(name, start, view.len(), sum)?;
+        Some(())
     }
 }

@@ -8,6 +8,7 @@ ghost use Rattle.columnar_sums.specs.RankColumns.{IsRanked};
 
 use crate::amount::Amount;
 use crate::plain::Plain;
+use crate::types::Looked;
 use columnar_base::fault::GrowError;
 use columnar_base::storage::Storage;
 use columnar_base::traits::{Column, Index, Len, Push, PushRef};
@@ -24,6 +25,7 @@ use columnar_lists::vector::Vecs;
 use columnar_lists::walk::ListIter;
 use columnar_sums::discriminant::Discriminant;
 use columnar_sums::rank_select::RankSelect;
+use columnar_types::types::{Columnar, ContainerOf, FromRow};
 use std::alloc::Global;
 
 #[inline(never)]
@@ -322,4 +324,31 @@ pub fn validated<C: Stored>(bytes: &[u8]) -> u64
     requires { IsTrue (representable C.format) }
 {
     validate::<C>(bytes).is_ok() as u64
+}
+
+/// A column of values, made by their type.
+#[inline(never)]
+pub fn columns<T: Plain + Columnar<Container: Storage + PushRef<T>>>(
+    alloc: Global,
+    items: &[T],
+) -> Result<ContainerOf<T>, GrowError>
+    ensures { IfOk result (λ c. IsSound T.Container.format (T.Container.content c)) }
+{
+    T::column_of(alloc, items)
+}
+
+/// Makes a value of each row; None where one is refused.
+#[inline(never)]
+pub fn owned_each<T: FromRow<V::Ref> + Looked, V: Len + Index>(
+    alloc: Global,
+    view: &V,
+) -> Option<u64>
+    requires { IsSound V.format (V.content view.now) }
+{
+    let mut sum = 0u64;
+    for i in 0..view.len() {
+        let value = T::into_owned(alloc, view.get(i)).ok()?;
+        sum = sum.wrapping_add(value.looked());
+    }
+    Some(sum)
 }

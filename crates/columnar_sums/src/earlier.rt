@@ -6,8 +6,7 @@ use crate::discriminant::Discriminant;
 use crate::option::Options;
 use crate::rank_select::RankSelect;
 use crate::result::Results;
-use crate::unaries::Unaries;
-use columnar_core::container::Storage;
+use crate::unaries::{empty_for, Unaries};
 use columnar_core::earlier::{Earlier, Kept};
 use columnar_core::fault::GrowError;
 use columnar_core::offsets::PushAfter;
@@ -26,7 +25,7 @@ impl Earlier for Unaries<Vec<u64>, Vec<u64>, [u64; 2]> {
     ghost earlier = { unary_fewer };
 
     fn from_old(alloc: Global, old: Vec<u64>) -> Result<Self, GrowError> {
-        let mut column = <Self as Storage>::empty(alloc);
+        let mut column = empty_for(alloc, &old)?;
         let mut last = 0u64;
         for i in 0..Len::len(&old) {
             let end = Index::get(&old, i);

@@ -1,5 +1,5 @@
 //! Offsets in unary that grow and are cut.
-ghost use Rattle.std.specs.Prelude.{◌≡◌, ℕ, ◌+◌, ◌-◌, ◌*◌, ◌/◌, ◌%◌, ◌^◌, ◌<◌, ◌≤◌, [], ◌∷◌, ◌++◌, length, slice_range, true, OnOk, OnErr, IfErr, refl};
+ghost use Rattle.std.specs.Prelude.{◌≡◌, ℕ, ◌+◌, ◌-◌, ◌*◌, ◌/◌, ◌%◌, ◌^◌, ◌<◌, ◌≤◌, [], ◌∷◌, ◌++◌, length, slice_range, true, OnOk, OnErr, IfErr, IfOk, refl};
 ghost use Rattle.columnar_core.specs.Format.{IsSound};
 ghost use Rattle.columnar_core.specs.Change.{Stayed};
 ghost use Rattle.columnar_core.specs.Bounds.{numbers, last_or};
@@ -101,6 +101,24 @@ fn make_room(bits: &mut Held, len: usize, more: usize) -> Result<(), GrowError>
     bits.values.values.reserve((len + more) / 64 - len / 64)?;
     bits.counts.reserve((len + more) / 1024 - len / 1024)?;
     Ok(())
+}
+
+// No offsets, with room for the bits of these.
+pub(crate) fn empty_for(alloc: Global, offsets: &Vec<u64>) -> Result<Owned, GrowError>
+    ensures sound { IfOk result (λ c. IsSound unaries_format (owned_unaries c)) }
+    ensures rows { IfOk result (λ c. unaries_format.rows (owned_unaries c) ≡ []) }
+    ensures memory { IfErr result (λ e. e ≡ GrowError.Memory) }
+{
+    let mut column = <Owned as Storage>::empty(alloc);
+    let count = Vec::len(offsets);
+    if count > 0 {
+        let last = offsets[count - 1] as usize;
+        match last.checked_add(count) {
+            Some(bits) => make_room(&mut column.bits, 0, bits)?,
+            None => {}
+        }
+    }
+    Ok(column)
 }
 
 // How many of the bits are set, where `count` more complete a chunk.

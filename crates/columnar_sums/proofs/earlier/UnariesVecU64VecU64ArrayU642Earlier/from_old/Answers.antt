@@ -10,8 +10,8 @@ use Rattle.columnar_sums.proofs.earlier.UnariesVecU64VecU64ArrayU642Earlier.from
 
 pub returns-in_err-push_after-clause-err : goal.returns-in_err-push_after-clause-err
 returns-in_err-push_after-clause-err c =
-    rw (passed_on c.from_residual.result c.from_residual.ensures.1)
-    (offset_refused (words_format.rows (slice (le_bytes c.args.old.items))) c.loop-i.i (word_row c.get-end.result) c.in_err-push_after.field-0.0 c.empty-column.ensures.sound c.empty-column.ensures.rows (omega (arith, c.loop-i-test.true, c.len-i-end.ensures)) c.get-end.ensures.row c.loop-i.invariant.took c.in_err-push_after.ensures.err.cause)
+    rw (passed_on c.from_residual-in_err-push_after.result c.from_residual-in_err-push_after.ensures.1)
+    (offset_refused (words_format.rows (slice (le_bytes c.args.old.items))) c.loop-i.i (word_row c.get-end.result) c.in_err-push_after.field-0.0 c.in_ok-column.ensures.sound c.in_ok-column.ensures.rows (omega (arith, c.loop-i-test.true, c.len-i-end.ensures)) c.get-end.ensures.row c.loop-i.invariant.took c.in_err-push_after.ensures.err.cause)
 
 pub loop-i-preserved : goal.loop-i-preserved
 loop-i-preserved c = record {
@@ -20,7 +20,7 @@ loop-i-preserved c = record {
 }
 
 pub loop-i-init : goal.loop-i-init
-loop-i-init c = record { took = took_none c.empty-column.ensures.sound; last = ap (λ (t : List Row). last_or 0 (numbers t)) c.empty-column.ensures.rows }
+loop-i-init c = record { took = took_none c.in_ok-column.ensures.sound; last = ap (λ (t : List Row). last_or 0 (numbers t)) c.in_ok-column.ensures.rows }
 
 pub returns-clause-ok : goal.returns-clause-ok
-returns-clause-ok c = offsets_made {c = slice (le_bytes c.args.old.items)} c.loop-i.i c.empty-column.ensures.rows (omega (arith, c.len-i-end.ensures, c.loop-i.auto.i-end)) c.loop-i.invariant.took
+returns-clause-ok c = offsets_made {c = slice (le_bytes c.args.old.items)} c.loop-i.i c.in_ok-column.ensures.rows (omega (arith, c.len-i-end.ensures, c.loop-i.auto.i-end)) c.loop-i.invariant.took

@@ -9,7 +9,7 @@ mod spans;
 mod visit;
 
 use columnar::bytes::stash::{Command, Stash};
-use columnar::fault::GrowError;
+use columnar::fault::{GrowError, StoreFault};
 use columnar::{Borrow, Index, Push, SliceNames, Storage};
 use level::{Level, Levels};
 use log::{Columns, Log};
@@ -158,24 +158,37 @@ fn events<O: Write>(alloc: Global, out: &mut O) -> Result<(), Failure> {
     changed(alloc, &log, out)
 }
 
-// The bytes of the log, spoilt in three ways, why each is refused, and the name of the slice that breaks a rule.
+// The bytes of the log with another byte at this place.
+fn spoilt(alloc: Global, log: &Log, at: usize, byte: u8) -> Option<Vec<u8>> {
+    let mut bytes = log.written(alloc)?;
+    if let Some(there) = bytes.get_mut(at) {
+        *there = byte;
+    }
+    Some(bytes)
+}
+
+// Prints why bytes are refused, with the name of the slice that breaks a rule; a rule of the whole store is of no slice.
+fn told<O: Write>(fault: StoreFault, names: &[String], out: &mut O) -> io::Result<()> {
+    if fault.number() <= 5 {
+        return writeln!(out, "{fault}");
+    }
+    match names.get(fault.slice()) {
+        Some(name) => writeln!(out, "{fault} ({name})"),
+        None => writeln!(out, "{fault}"),
+    }
+}
+
+// The bytes of the log, spoilt in three ways, and why each is refused.
 fn refused<O: Write>(alloc: Global, log: &Log, out: &mut O) -> Result<(), Failure> {
     let names = Columns::slice_names(alloc)?;
-    for (at, byte) in [(0u64, 1u8), (8, 0), (88, 9)] {
-        let Some(mut bytes) = log.written(alloc) else {
+    for (at, byte) in [(0usize, 1u8), (8, 0), (88, 9)] {
+        let Some(bytes) = spoilt(alloc, log, at, byte) else {
             return Err(Failure::Growth);
         };
-        if let Some(spoilt) = bytes.get_mut(at as usize) {
-            *spoilt = byte;
-        }
+        write!(out, "byte {at} is {byte}: ")?;
         match Log::open(alloc, bytes) {
-            Ok(_) => writeln!(out, "byte {at} is {byte}: accepted")?,
-            // A rule of the whole store, and not of a slice
-            Err(fault) if fault.number() <= 5 => writeln!(out, "byte {at} is {byte}: {fault}")?,
-            Err(fault) => {
-                let name = names.get(fault.slice()).map_or("", |name| name.as_str());
-                writeln!(out, "byte {at} is {byte}: {fault} ({name})")?
-            }
+            Ok(_) => writeln!(out, "accepted")?,
+            Err(fault) => told(fault, names.as_slice(), out)?,
         }
     }
     Ok(())

@@ -25,7 +25,7 @@ pub struct Framed<'a, C: Stored> {
 
 impl<C: Stored, B: ByteStore> Checked<C, B> {
     ghost use Rattle.columnar_bytes.specs.Stashes.{checked_bytes};
-    ghost use Rattle.columnar_bytes.specs.FramedContent.{framed_content, byte_format};
+    ghost use Rattle.columnar_bytes.specs.FramedContent.{framed_content};
 
     // Its slices, as a column's.
     pub(super) fn framed(&self) -> Framed<'_, C>
@@ -39,12 +39,15 @@ impl<C: Stored, B: ByteStore> Checked<C, B> {
 }
 
 impl<'v, C: Stored> Column for Framed<'v, C> {
+    ghost use Rattle.columnar_bytes.specs.FramedContent.{byte_format, framed_content};
+
     ghost format = { byte_format C.format };
 
     ghost content = { framed_content };
 }
 
 impl<'v, C: Stored> Stored for Framed<'v, C> {
+    ghost use Rattle.columnar_bytes.specs.FramedContent.{byte_format};
     ghost use Rattle.columnar_bytes.specs.FramedContentLaws.{byte_storable, framed_counted};
 
     ghost storable = { byte_storable C.format C.storable };

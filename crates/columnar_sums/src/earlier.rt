@@ -6,7 +6,7 @@ use crate::discriminant::Discriminant;
 use crate::option::Options;
 use crate::rank_select::RankSelect;
 use crate::result::Results;
-use crate::unaries::{empty_for, Unaries};
+use crate::unaries::{Unaries, empty_for};
 use columnar_core::earlier::{Earlier, Kept};
 use columnar_core::fault::GrowError;
 use columnar_core::offsets::PushAfter;

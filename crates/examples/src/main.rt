@@ -1,10 +1,11 @@
-//! Examples of programs that use columns: a first column, a report, a log of events, spans, levels, and rows of one's own.
+//! Examples of programs that use columns: a first column, a report, a log of events, spans, levels, and rows of one's own: a struct and an enum.
 #![tactic(auto)]
 
 mod first;
 mod level;
 mod log;
 mod report;
+mod shape;
 mod spans;
 mod visit;
 
@@ -14,6 +15,7 @@ use columnar::{Borrow, Index, Push, SliceNames, Storage};
 use level::{Level, Levels};
 use log::{Columns, Log};
 use report::Report;
+use shape::{Shape, Shapes};
 use spans::{Span, Spans};
 use std::alloc::{AllocError, Global};
 use std::io::{self, Write};
@@ -61,7 +63,8 @@ fn shown<O: Write>(alloc: Global, out: &mut O) -> Result<(), Failure> {
     levels(alloc, out)?;
     times(alloc, out)?;
     pages(alloc, out)?;
-    visits(alloc, out)
+    visits(alloc, out)?;
+    shapes(alloc, out)
 }
 
 // A column of values of one's own type.
@@ -141,6 +144,29 @@ fn visits<O: Write>(alloc: Global, out: &mut O) -> Result<(), Failure> {
     writeln!(out, "times: {}", opened.time())?;
     if let Some(Ok(visit)) = opened.visit(alloc, 1) {
         writeln!(out, "{} saw {} pages", visit.user, visit.pages.len())?;
+    }
+    Ok(())
+}
+
+// Values of an enum of one's own, each variant in columns of its own.
+fn shapes<O: Write>(alloc: Global, out: &mut O) -> Result<(), Failure> {
+    let mut shapes = Shapes::new(alloc);
+    shapes.add(&Shape::Circle(3))?;
+    shapes.add(&Shape::Named(String::from_str(alloc, "hexagon")?))?;
+    shapes.add(&Shape::Square {
+        side: 4,
+        at: (1, 2),
+    })?;
+    shapes.add(&Shape::Nothing)?;
+    let Some(bytes) = shapes.written(alloc) else {
+        return Err(Failure::Growth);
+    };
+    let Ok(opened) = Shapes::open(alloc, bytes) else {
+        return Err(Failure::Growth);
+    };
+    opened.print(out)?;
+    if let Some(Ok(Shape::Square { side, at: _ })) = opened.shape(alloc, 2) {
+        writeln!(out, "its side is {side}")?;
     }
     Ok(())
 }

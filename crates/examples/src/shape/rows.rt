@@ -1,0 +1,163 @@
+//! Rows of `Shape`, as `columnar_derive` writes them.
+use super::*;
+use columnar::fault::{GrowError, OwnError};
+use columnar::names::PartNames;
+use columnar::sums::variants::{Last, Nth, Variants};
+use columnar::{
+    Columnar, ContainerOf, FromRow, Item, LendRow, MakeRow, OwnRow, OwnRows, Push, PushParts,
+};
+use std::alloc::Global;
+
+/// A column of values of `Shape`.
+pub type ShapeContainer = ContainerOf<Shape>;
+
+// The columns of the values, of each variant and of those after it
+type ColumnsFromNothing = (ContainerOf<()>,);
+
+type ColumnsFromSquare = (ContainerOf<ValueOfSquare>, ColumnsFromNothing);
+
+type ColumnsFromNamed = (ContainerOf<String>, ColumnsFromSquare);
+
+type ColumnsFromCircle = (ContainerOf<u64>, ColumnsFromNamed);
+
+type Parts = Variants<ColumnsFromCircle>;
+
+// What values of several fields are made of
+type ValueOfSquare = (u32, (u32, u32));
+
+// What a row is read as
+type Rows<A, B, C> = Nth<A, Nth<B, Nth<C, Last<()>>>>;
+
+/// What stands for a value of `Shape` in a column.
+#[derive(Clone, Copy, Debug)]
+pub enum ShapeReference<A, B, C> {
+    Circle(A),
+    Named(B),
+    Square(C),
+    Nothing,
+}
+
+impl Item for Shape {
+    ghost use Rattle.columnar.specs.Row.{Row, unit};
+    ghost use Rattle.columnar.specs.Variants.{case};
+    ghost use Rattle.examples.specs.declared.shape.Shape.TheVariants.{Circle, Named, Square, Nothing};
+
+    ghost meaning = { λ s. elim s as (λ v. Row) [ Circle a ↦ case 0 (⟦<u64 as Item>⟧.meaning a) | Named a ↦ case 1 (⟦<String as Item>⟧.meaning a) | Square a b ↦ case 2 (⟦<ValueOfSquare as Item>⟧.meaning (a, b)) | Nothing ↦ case 3 unit ] };
+
+    ghost valid = { λ s. elim s as (λ v. Type 0) [ Circle a ↦ ⟦<u64 as Item>⟧.valid a | Named a ↦ ⟦<String as Item>⟧.valid a | Square a b ↦ ⟦<ValueOfSquare as Item>⟧.valid (a, b) | Nothing ↦ Unit {0} ] };
+}
+
+impl<A: Item, B: Item, C: Item> Item for ShapeReference<A, B, C> {
+    ghost use Rattle.columnar.specs.Row.{Row, unit};
+    ghost use Rattle.columnar.specs.Variants.{case};
+    ghost use Rattle.examples.specs.declared.shape.rows.ShapeReference.TheVariants.{Circle, Named, Square, Nothing};
+
+    ghost meaning = { λ s. elim s as (λ v. Row) [ Circle a ↦ case 0 (A.meaning a) | Named a ↦ case 1 (B.meaning a) | Square a ↦ case 2 (C.meaning a) | Nothing ↦ case 3 unit ] };
+
+    ghost valid = { λ s. elim s as (λ v. Type 0) [ Circle a ↦ A.valid a | Named a ↦ B.valid a | Square a ↦ C.valid a | Nothing ↦ Unit {0} ] };
+}
+
+impl<A: Item, B: Item, C: Item> MakeRow<Rows<A, B, C>> for Shape {
+    type Row = ShapeReference<A, B, C>;
+
+    fn make_row(row: Rows<A, B, C>) -> Self::Row {
+        let row = match row {
+            Nth::This(a) => return ShapeReference::Circle(a),
+            Nth::Next(row) => row,
+        };
+        let row = match row {
+            Nth::This(a) => return ShapeReference::Named(a),
+            Nth::Next(row) => row,
+        };
+        let row = match row {
+            Nth::This(a) => return ShapeReference::Square(a),
+            Nth::Next(row) => row,
+        };
+        let Last(()) = row;
+        ShapeReference::Nothing
+    }
+}
+
+// What they are made of, lent
+type LentOfSquare<'x> = (&'x u32, &'x (u32, u32));
+
+// A value, lent
+type Lent<'x> = ShapeReference<&'x u64, &'x String, LentOfSquare<'x>>;
+
+impl<'x> LendRow<'x> for Shape {
+    type Lent = Lent<'x>;
+
+    fn lend_row(&'x self) -> Self::Lent {
+        match self {
+            Shape::Circle(a) => ShapeReference::Circle(a),
+            Shape::Named(a) => ShapeReference::Named(a),
+            Shape::Square { side: a, at: b } => ShapeReference::Square((a, b)),
+            Shape::Nothing => ShapeReference::Nothing,
+        }
+    }
+}
+
+impl PushParts<Parts> for Shape {
+    fn push_parts(&self, parts: &mut Parts) -> Result<(), GrowError> {
+        self.push_lent(parts)
+    }
+}
+
+impl<A: Copy + Item, B: Copy + Item, C: Copy + Item, P: Push<Rows<A, B, C>>> PushParts<P>
+    for ShapeReference<A, B, C> {
+    fn push_parts(&self, parts: &mut P) -> Result<(), GrowError> {
+        match *self {
+            ShapeReference::Circle(a) => parts.push(Nth::This(a)),
+            ShapeReference::Named(a) => parts.push(Nth::Next(Nth::This(a))),
+            ShapeReference::Square(a) => parts.push(Nth::Next(Nth::Next(Nth::This(a)))),
+            ShapeReference::Nothing => parts.push(Nth::Next(Nth::Next(Nth::Next(Last(()))))),
+        }
+    }
+}
+
+impl PartNames for Shape {
+    fn part_name(index: usize) -> &'static str {
+        match index {
+            0 => "Circle",
+            1 => "Named",
+            2 => "Square",
+            3 => "Nothing",
+            _ => "",
+        }
+    }
+}
+
+impl Columnar for Shape {
+    ghost use Rattle.std.specs.Prelude.{◌||◌};
+    ghost use Rattle.columnar.specs.Variants.{of_variant};
+
+    ghost unfit = { λ u r. of_variant 0 (⟦<u64 as Columnar>⟧.unfit u) r || (of_variant 1 (⟦<String as Columnar>⟧.unfit u) r || (of_variant 2 (⟦<ValueOfSquare as Columnar>⟧.unfit u) r)) };
+
+    type Container = OwnRows<Parts, Shape>;
+}
+
+impl<A: Item, B: Item, C: Item> FromRow<OwnRow<Rows<A, B, C>, Shape>> for Shape
+where
+    u64: FromRow<A>,
+    String: FromRow<B>,
+    ValueOfSquare: FromRow<C>,
+{
+    fn from_row(alloc: Global, row: OwnRow<Rows<A, B, C>, Shape>) -> Result<Self, OwnError> {
+        match row.show() {
+            ShapeReference::Circle(a) => {
+                let a = <u64>::from_row(alloc, a)?;
+                Ok(Shape::Circle(a))
+            }
+            ShapeReference::Named(a) => {
+                let a = <String>::from_row(alloc, a)?;
+                Ok(Shape::Named(a))
+            }
+            ShapeReference::Square(a) => {
+                let a = <ValueOfSquare>::from_row(alloc, a)?;
+                let (a, b) = a;
+                Ok(Shape::Square { side: a, at: b })
+            }
+            ShapeReference::Nothing => Ok(Shape::Nothing),
+        }
+    }
+}

@@ -1,3 +1,4 @@
+-- Columns that are made of values, one after another, or why they are not.
 use Rattle.std.proofs.Common.{List, [], ◌∷◌, ◌++◌, ◌≡◌, ◌∙◌, map, ap}
 use Rattle.std.proofs.lemmas.List.{map-append}
 use Rattle.columnar_base.specs.Row.{Row}

@@ -1,3 +1,4 @@
+-- A column of two variants is a column of variants, with the same rows, rules and tests.
 use Rattle.std.proofs.Common.{◌≡◌, ℕ, ◌+◌, List, ◌++◌, length, true, refl}
 use Rattle.columnar_core.specs.Format.{Format, Content, IsSound, Fits, IsLawful, IsStorable, representable, slices_of}
 use Rattle.columnar_core.specs.TwoPartsLaws.{two_counted, representable_left, representable_right}

@@ -1,3 +1,4 @@
+-- Cut variants have the first rows, each part as many as these have of its variant.
 use Rattle.std.proofs.Common.{◌≡◌, ℕ, zero, suc, ◌+◌, ◌<◌, ◌≤◌, ◌||◌, cond, [], ◌++◌, length, take, drop, refl, ◌∙◌, ap, arith, length-take, ⊎_elim}
 use Rattle.std.specs.Prelude.{nat_eq}
 use Rattle.std.proofs.lemmas.Bool.{cases_lt}

@@ -1,6 +1,8 @@
 //! The text for an enum.
 use crate::item::{Field, Value, Variant};
-use crate::lines::{Arm, Header, Lines, WIDTH, each, in_tuple, joined, keep, letter, parameter};
+use crate::lines::{
+    Arm, Header, Lines, WIDTH, each, in_angles, in_tuple, joined, keep, letter, parameter,
+};
 use crate::names::add_names;
 use std::alloc::{AllocError, Global};
 
@@ -47,6 +49,25 @@ fn one_or_tuple(alloc: Global, texts: &[String]) -> Result<String, AllocError> {
     }
 }
 
+// The type of a variant's value, and that of the value lent
+fn value_types(
+    alloc: Global,
+    name: &str,
+    kinds: &[String],
+) -> Result<(String, String), AllocError> {
+    match kinds {
+        [] => Ok((in_tuple(alloc, &[])?, String::new(alloc))),
+        [kind] => Ok((
+            String::from_str(alloc, kind.as_str())?,
+            format!(in alloc; "&'x {kind}")?,
+        )),
+        _ => Ok((
+            format!(in alloc; "ValueOf{name}")?,
+            format!(in alloc; "LentOf{name}<'x>")?,
+        )),
+    }
+}
+
 impl Case {
     fn new(alloc: Global, variant: &Variant, param: String) -> Result<Case, AllocError> {
         let mut kinds = Vec::new(alloc);
@@ -70,17 +91,7 @@ impl Case {
             }
         }
         let name = variant.name.as_str();
-        let (kind, lent) = match kinds.as_slice() {
-            [] => (in_tuple(alloc, &[])?, String::new(alloc)),
-            [kind] => (
-                String::from_str(alloc, kind.as_str())?,
-                format!(in alloc; "&'x {kind}")?,
-            ),
-            _ => (
-                format!(in alloc; "ValueOf{name}")?,
-                format!(in alloc; "LentOf{name}<'x>")?,
-            ),
-        };
+        let (kind, lent) = value_types(alloc, name, kinds.as_slice())?;
         Ok(Case {
             name: String::from_str(alloc, name)?,
             param,
@@ -107,14 +118,157 @@ impl Case {
         }
     }
 
-    // The arm of an `elim` for this variant: its letters, and what stands for it
-    fn clause(&self, alloc: Global, letters: &str, term: &str) -> Result<String, AllocError> {
-        let name = self.name.as_str();
-        if self.has_value() {
-            format!(in alloc; "{name} {letters} ↦ {term}")
+    // What its value means, or when it is valid, of the enum or of its rows
+    fn term(&self, alloc: Global, is_row: bool, member: &str) -> Result<String, AllocError> {
+        if is_row {
+            format!(in alloc; "{}.{member} a", self.param)
         } else {
-            format!(in alloc; "{name} ↦ {term}")
+            format!(in alloc; "⟦<{} as Item>⟧.{member} {}", self.kind, self.value)
         }
+    }
+
+    // The letters of its fields, or the one of a row's value
+    fn letters(&self, alloc: Global, is_row: bool) -> Result<String, AllocError> {
+        if is_row {
+            String::from_str(alloc, "a")
+        } else {
+            joined(alloc, self.letters.as_slice(), " ")
+        }
+    }
+
+    // The arm of an `elim` that says what variant `number` means
+    fn meaning(&self, alloc: Global, number: usize, is_row: bool) -> Result<String, AllocError> {
+        let name = self.name.as_str();
+        if !self.has_value() {
+            return format!(in alloc; "{name} ↦ case {number} unit");
+        }
+        let letters = self.letters(alloc, is_row)?;
+        let term = self.term(alloc, is_row, "meaning")?;
+        format!(in alloc; "{name} {letters} ↦ case {number} ({term})")
+    }
+
+    // The arm of an `elim` that says when the variant is valid
+    fn valid(&self, alloc: Global, is_row: bool) -> Result<String, AllocError> {
+        let name = self.name.as_str();
+        if !self.has_value() {
+            return format!(in alloc; "{name} ↦ Unit {{0}}");
+        }
+        let letters = self.letters(alloc, is_row)?;
+        let term = self.term(alloc, is_row, "valid")?;
+        format!(in alloc; "{name} {letters} ↦ {term}")
+    }
+
+    // The arm that lends a value as a row
+    fn add_lent(
+        &self,
+        alloc: Global,
+        lines: &mut Lines,
+        own: &str,
+        row_name: &str,
+    ) -> Result<(), AllocError> {
+        let indent = "            ";
+        let name = self.name.as_str();
+        let function = format!(in alloc; "{row_name}::{name}")?;
+        if !self.has_value() {
+            let pattern = format!(in alloc; "{own}::{name}")?;
+            return lines.add_path_arm(indent, pattern.as_str(), function.as_str());
+        }
+        let pattern = if self.fields.is_empty() {
+            let list = joined(alloc, self.letters.as_slice(), ", ")?;
+            format!(in alloc; "{own}::{name}({list})")?
+        } else {
+            format!(in alloc; "{own}::{name}")?
+        };
+        lines.add_arm(&Arm {
+            indent,
+            pattern: pattern.as_str(),
+            fields: self.fields.as_slice(),
+            function: function.as_str(),
+            argument: self.value.as_str(),
+        })
+    }
+
+    // The arm that pushes a row of variant `number`
+    fn add_push(
+        &self,
+        alloc: Global,
+        lines: &mut Lines,
+        row_name: &str,
+        number: usize,
+        is_last: bool,
+    ) -> Result<(), AllocError> {
+        let letter = if self.has_value() { "a" } else { "()" };
+        let innermost = if is_last {
+            format!(in alloc; "Last({letter})")?
+        } else {
+            format!(in alloc; "Nth::This({letter})")?
+        };
+        let pattern = self.of(alloc, row_name, "a")?;
+        if number < 4 {
+            let argument = next_of(alloc, number, innermost.as_str())?;
+            return lines.add_arm(&Arm {
+                indent: "            ",
+                pattern: pattern.as_str(),
+                fields: &[],
+                function: "parts.push",
+                argument: argument.as_str(),
+            });
+        }
+        lines.put(format!(in alloc;
+            "            {pattern} => {{
+                let value = {innermost};"
+        ))?;
+        for _ in 0..number {
+            lines.add("                let value = Nth::Next(value);")?;
+        }
+        lines.add("                parts.push(value)\n            }")
+    }
+
+    // The arm that makes a value of a row
+    fn add_value_made(
+        &self,
+        alloc: Global,
+        lines: &mut Lines,
+        own: &str,
+        row_name: &str,
+    ) -> Result<(), AllocError> {
+        let pattern = self.of(alloc, row_name, "a")?;
+        if !self.has_value() {
+            let value = format!(in alloc; "{own}::{}", self.name)?;
+            return lines.add_arm(&Arm {
+                indent: "            ",
+                pattern: pattern.as_str(),
+                fields: &[],
+                function: "Ok",
+                argument: value.as_str(),
+            });
+        }
+        lines.put(format!(in alloc;
+            "            {pattern} => {{
+                let a = <{}>::from_row(alloc, a)?;",
+            self.kind
+        ))?;
+        if self.kinds.len() > 1 {
+            lines.put(format!(in alloc; "                let {} = a;", self.value))?;
+        }
+        self.add_made(alloc, lines, own)?;
+        lines.add("            }")
+    }
+
+    // The value, made of its fields by their letters
+    fn add_made(&self, alloc: Global, lines: &mut Lines, own: &str) -> Result<(), AllocError> {
+        let name = self.name.as_str();
+        if self.fields.is_empty() {
+            let list = joined(alloc, self.letters.as_slice(), ", ")?;
+            return lines.put(format!(in alloc; "                Ok({own}::{name}({list}))"));
+        }
+        let before = format!(in alloc; "Ok({own}::{name} ")?;
+        lines.add_braces(
+            "                ",
+            before.as_str(),
+            self.fields.as_slice(),
+            ")",
+        )
     }
 }
 
@@ -166,12 +320,7 @@ impl EnumPage {
                 Err(error) => return Err(AllocError::from(error)),
             }
         }
-        let list = joined(alloc, params.as_slice(), ", ")?;
-        let angles = if params.is_empty() {
-            list
-        } else {
-            format!(in alloc; "<{list}>")?
-        };
+        let angles = in_angles(alloc, params.as_slice())?;
         Ok(EnumPage {
             alloc,
             lines: Lines::new(alloc),
@@ -189,6 +338,7 @@ impl EnumPage {
     pub fn printed(self) -> Result<String, AllocError> {
         let mut page = self;
         page.add_head()?;
+        page.add_nest()?;
         page.add_row()?;
         page.add_items()?;
         page.add_made_rows()?;
@@ -204,7 +354,7 @@ impl EnumPage {
     // How the file begins: the column, and those that it is made of
     fn add_head(&mut self) -> Result<(), AllocError> {
         let own = self.own.as_str();
-        let head = format!(in self.alloc;
+        self.lines.put(format!(in self.alloc;
             "//! Rows of `{own}`, as `columnar_derive` writes them.
 use super::*;
 use columnar::fault::{{GrowError, OwnError}};
@@ -219,16 +369,23 @@ use std::alloc::Global;
 pub type {own}Container = ContainerOf<{own}>;
 
 // The columns of the values, of each variant and of those after it"
-        )?;
-        self.lines.add(head.as_str())?;
+        ))?;
+        self.add_columns()?;
+        self.add_kinds(
+            "// What values of several fields are made of",
+            "ValueOf",
+            "",
+        )
+    }
+
+    // The columns from each variant on, the last first, and the column of the variants
+    fn add_columns(&mut self) -> Result<(), AllocError> {
         let mut after: Option<String> = None;
         for case in self.cases.iter().rev() {
             let name = case.name.as_str();
             let mut columns = Vec::new(self.alloc);
-            keep(
-                &mut columns,
-                format!(in self.alloc; "ContainerOf<{}>", case.kind)?,
-            )?;
+            let own = format!(in self.alloc; "ContainerOf<{}>", case.kind)?;
+            keep(&mut columns, own)?;
             if let Some(others) = after {
                 keep(&mut columns, others)?;
             }
@@ -238,15 +395,12 @@ pub type {own}Container = ContainerOf<{own}>;
             self.lines.add("")?;
             after = Some(format!(in self.alloc; "ColumnsFrom{name}")?);
         }
-        if let Some(name) = after {
-            let line = format!(in self.alloc; "type Parts = Variants<{name}>;\n")?;
-            self.lines.add(line.as_str())?;
+        match after {
+            Some(name) => self
+                .lines
+                .put(format!(in self.alloc; "type Parts = Variants<{name}>;\n")),
+            None => Ok(()),
         }
-        self.add_kinds(
-            "// What values of several fields are made of",
-            "ValueOf",
-            "",
-        )
     }
 
     // The tuples of several fields by names of their own, of each variant that has as many
@@ -270,10 +424,8 @@ pub type {own}Container = ContainerOf<{own}>;
         Ok(())
     }
 
-    // What rows are read as, and the enum of the rows
-    fn add_row(&mut self) -> Result<(), AllocError> {
-        let own = self.own.as_str();
-        let angles = self.angles.as_str();
+    // What rows are read as
+    fn add_nest(&mut self) -> Result<(), AllocError> {
         let mut items = Vec::new(self.alloc);
         for case in &self.cases {
             keep(
@@ -281,59 +433,51 @@ pub type {own}Container = ContainerOf<{own}>;
                 String::from_str(self.alloc, case.param.as_str())?,
             )?;
         }
-        if let Some(last) = items.pop() {
-            let before = format!(in self.alloc; "type Rows{angles} = ")?;
-            let last = format!(in self.alloc; "Last<{last}>")?;
-            self.lines.add("// What a row is read as")?;
-            self.lines
-                .add_nest(before.as_str(), items.as_slice(), last.as_str())?;
-        }
-        let row = self.row.as_str();
-        let begun = format!(in self.alloc;
+        let Some(last) = items.pop() else {
+            return Ok(());
+        };
+        let before = format!(in self.alloc; "type Rows{} = ", self.angles)?;
+        let last = format!(in self.alloc; "Last<{last}>")?;
+        self.lines.add("// What a row is read as")?;
+        self.lines
+            .add_nest(before.as_str(), items.as_slice(), last.as_str())
+    }
+
+    // The enum of the rows
+    fn add_row(&mut self) -> Result<(), AllocError> {
+        self.lines.put(format!(in self.alloc;
             "
-/// What stands for a value of `{own}` in a column.
+/// What stands for a value of `{}` in a column.
 #[derive(Clone, Copy, Debug)]
-pub enum {row} {{"
-        )?;
-        self.lines.add(begun.as_str())?;
+pub enum {} {{",
+            self.own, self.row
+        ))?;
         for case in &self.cases {
             let name = case.name.as_str();
-            let param = case.param.as_str();
-            let line = if case.has_value() {
-                format!(in self.alloc; "    {name}({param}),")?
+            if case.has_value() {
+                self.lines
+                    .put(format!(in self.alloc; "    {name}({}),", case.param))?;
             } else {
-                format!(in self.alloc; "    {name},")?
-            };
-            self.lines.add(line.as_str())?;
+                self.lines.put(format!(in self.alloc; "    {name},"))?;
+            }
         }
         self.lines.add("}\n")
     }
 
-    // What each variant means, and when it is valid, of the enum or of its rows
-    fn clauses(&self, is_row: bool, is_valid: bool) -> Result<String, AllocError> {
+    // What the variants mean, of the enum or of its rows
+    fn meanings(&self, is_row: bool) -> Result<String, AllocError> {
         let mut arms = Vec::new(self.alloc);
-        for (i, case) in self.cases.iter().enumerate() {
-            let letters = joined(self.alloc, case.letters.as_slice(), " ")?;
-            let letters = if is_row { "a" } else { letters.as_str() };
-            let value = if is_row { "a" } else { case.value.as_str() };
-            let kind = case.kind.as_str();
-            let param = case.param.as_str();
-            let member = if is_valid { "valid" } else { "meaning" };
-            let term = if !case.has_value() {
-                String::from_str(self.alloc, if is_valid { "Unit {0}" } else { "unit" })?
-            } else if is_row {
-                format!(in self.alloc; "{param}.{member} {value}")?
-            } else {
-                format!(in self.alloc; "⟦<{kind} as Item>⟧.{member} {value}")?
-            };
-            let term = if is_valid {
-                term
-            } else if case.has_value() {
-                format!(in self.alloc; "case {i} ({term})")?
-            } else {
-                format!(in self.alloc; "case {i} {term}")?
-            };
-            keep(&mut arms, case.clause(self.alloc, letters, term.as_str())?)?;
+        for (number, case) in self.cases.iter().enumerate() {
+            keep(&mut arms, case.meaning(self.alloc, number, is_row)?)?;
+        }
+        joined(self.alloc, arms.as_slice(), " | ")
+    }
+
+    // When the variants are valid, of the enum or of its rows
+    fn valid_ones(&self, is_row: bool) -> Result<String, AllocError> {
+        let mut arms = Vec::new(self.alloc);
+        for case in &self.cases {
+            keep(&mut arms, case.valid(self.alloc, is_row)?)?;
         }
         joined(self.alloc, arms.as_slice(), " | ")
     }
@@ -348,10 +492,10 @@ pub enum {row} {{"
             own.push_str("Reference")?;
         }
         let module = if is_row { ".rows" } else { "" };
-        let meaning = self.clauses(is_row, false)?;
-        let valid = self.clauses(is_row, true)?;
+        let meaning = self.meanings(is_row)?;
+        let valid = self.valid_ones(is_row)?;
         let place = self.place.as_str();
-        let text = format!(in self.alloc;
+        self.lines.put(format!(in self.alloc;
             "    ghost use Rattle.columnar.specs.Row.{{{rows}}};
     ghost use Rattle.columnar.specs.Variants.{{case}};
     ghost use {place}{module}.{own}.TheVariants.{{{names}}};
@@ -361,71 +505,49 @@ pub enum {row} {{"
     ghost valid = {{ λ s. elim s as (λ v. Type 0) [ {valid} ] }};
 }}
 "
-        )?;
-        self.lines.add(text.as_str())
-    }
-
-    // How an impl for the enum, or for its rows, begins
-    fn add_header(
-        &mut self,
-        bound: &str,
-        more: &str,
-        of: (&str, &str),
-        own: &str,
-        after: &str,
-    ) -> Result<(), AllocError> {
-        let mut params = Vec::new(self.alloc);
-        for param in &self.params {
-            keep(&mut params, format!(in self.alloc; "{param}: {bound}")?)?;
-        }
-        if !more.is_empty() {
-            keep(&mut params, String::from_str(self.alloc, more)?)?;
-        }
-        let (trait_name, argument) = of;
-        let mut arguments = Vec::new(self.alloc);
-        if !argument.is_empty() {
-            keep(&mut arguments, String::from_str(self.alloc, argument)?)?;
-        }
-        self.lines.add_header(&Header {
-            params: params.as_slice(),
-            trait_name,
-            of: arguments.as_slice(),
-            own,
-            after,
-        })
+        ))
     }
 
     fn add_items(&mut self) -> Result<(), AllocError> {
-        let begun = format!(in self.alloc; "impl Item for {} {{", self.own)?;
-        self.lines.add(begun.as_str())?;
+        self.lines
+            .put(format!(in self.alloc; "impl Item for {} {{", self.own))?;
         self.add_item(false)?;
-        let row = String::from_str(self.alloc, self.row.as_str())?;
-        self.add_header("Item", "", ("Item", ""), row.as_str(), " {")?;
+        let params = each(self.alloc, self.params.as_slice(), "", ": Item")?;
+        self.lines.add_header(&Header {
+            params: params.as_slice(),
+            trait_name: "Item",
+            of: &[],
+            own: self.row.as_str(),
+            after: " {",
+        })?;
         self.add_item(true)
     }
 
     // How rows are made: variant after variant
     fn add_made_rows(&mut self) -> Result<(), AllocError> {
-        let own = String::from_str(self.alloc, self.own.as_str())?;
-        let rows = format!(in self.alloc; "Rows{}", self.angles)?;
-        self.add_header("Item", "", ("MakeRow", rows.as_str()), own.as_str(), " {")?;
-        let row = self.row.as_str();
-        let begun = format!(in self.alloc;
-            "    type Row = {row};
+        let params = each(self.alloc, self.params.as_slice(), "", ": Item")?;
+        self.lines.add_header(&Header {
+            params: params.as_slice(),
+            trait_name: "MakeRow",
+            of: &[format!(in self.alloc; "Rows{}", self.angles)?],
+            own: self.own.as_str(),
+            after: " {",
+        })?;
+        self.lines.put(format!(in self.alloc;
+            "    type Row = {};
 
-    fn make_row(row: {rows}) -> Self::Row {{"
-        )?;
-        self.lines.add(begun.as_str())?;
+    fn make_row(row: Rows{}) -> Self::Row {{",
+            self.row, self.angles
+        ))?;
         let count = self.cases.len();
         for (i, case) in self.cases.iter().enumerate() {
             let made = case.of(self.alloc, self.row_name.as_str(), "a")?;
             let letter = if case.has_value() { "a" } else { "()" };
             if i.saturating_add(1) == count {
-                let text = format!(in self.alloc;
+                self.lines.put(format!(in self.alloc;
                     "        let Last({letter}) = row;
         {made}"
-                )?;
-                self.lines.add(text.as_str())?;
+                ))?;
                 continue;
             }
             let pattern = format!(in self.alloc; "Nth::This({letter})")?;
@@ -439,61 +561,43 @@ pub enum {row} {{"
         self.lines.add("    }\n}\n")
     }
 
-    // How values are pushed: as the row of what they are made of, lent
-    fn add_pushed_values(&mut self) -> Result<(), AllocError> {
+    // The type of a value that is lent, where a variant has one
+    fn add_lent_type(&mut self) -> Result<(), AllocError> {
         let mut lent = Vec::new(self.alloc);
         for case in &self.cases {
             if case.has_value() {
                 keep(&mut lent, String::from_str(self.alloc, case.lent.as_str())?)?;
             }
         }
-        let own = String::from_str(self.alloc, self.own.as_str())?;
-        let row_name = String::from_str(self.alloc, self.row_name.as_str())?;
-        let row_name = row_name.as_str();
-        let mut lent_type = "Lent<'x>";
         if lent.is_empty() {
-            lent_type = row_name;
-        } else {
-            let before = format!(in self.alloc; "type Lent<'x> = {row_name}<")?;
-            self.add_kinds("// What they are made of, lent", "LentOf", "&'x ")?;
-            self.lines.add("// A value, lent")?;
-            self.lines
-                .add_list("", before.as_str(), lent.as_slice(), ">;", WIDTH)?;
-            self.lines.add("")?;
+            return Ok(());
         }
-        let begun = format!(in self.alloc;
+        self.add_kinds("// What they are made of, lent", "LentOf", "&'x ")?;
+        self.lines.add("// A value, lent")?;
+        let before = format!(in self.alloc; "type Lent<'x> = {}<", self.row_name)?;
+        self.lines
+            .add_list("", before.as_str(), lent.as_slice(), ">;", WIDTH)?;
+        self.lines.add("")
+    }
+
+    // How values are pushed: as the row of what they are made of, lent
+    fn add_pushed_values(&mut self) -> Result<(), AllocError> {
+        self.add_lent_type()?;
+        let own = self.own.as_str();
+        let row_name = self.row_name.as_str();
+        let has_value = self.cases.iter().any(|case| case.has_value());
+        let lent = if has_value { "Lent<'x>" } else { row_name };
+        self.lines.put(format!(in self.alloc;
             "impl<'x> LendRow<'x> for {own} {{
-    type Lent = {lent_type};
+    type Lent = {lent};
 
     fn lend_row(&'x self) -> Self::Lent {{
         match self {{"
-        )?;
-        self.lines.add(begun.as_str())?;
+        ))?;
         for case in &self.cases {
-            let name = case.name.as_str();
-            if !case.has_value() {
-                let pattern = format!(in self.alloc; "{own}::{name}")?;
-                let value = format!(in self.alloc; "{row_name}::{name}")?;
-                self.lines
-                    .add_path_arm("            ", pattern.as_str(), value.as_str())?;
-                continue;
-            }
-            let function = format!(in self.alloc; "{row_name}::{name}")?;
-            let list = joined(self.alloc, case.letters.as_slice(), ", ")?;
-            let pattern = if case.fields.is_empty() {
-                format!(in self.alloc; "{own}::{name}({list})")?
-            } else {
-                format!(in self.alloc; "{own}::{name}")?
-            };
-            self.lines.add_arm(&Arm {
-                indent: "            ",
-                pattern: pattern.as_str(),
-                fields: case.fields.as_slice(),
-                function: function.as_str(),
-                argument: case.value.as_str(),
-            })?;
+            case.add_lent(self.alloc, &mut self.lines, own, row_name)?;
         }
-        let pushed = format!(in self.alloc;
+        self.lines.put(format!(in self.alloc;
             "        }}
     }}
 }}
@@ -504,58 +608,30 @@ impl PushParts<Parts> for {own} {{
     }}
 }}
 "
-        )?;
-        self.lines.add(pushed.as_str())
+        ))
     }
 
     // How rows are pushed
     fn add_pushed_rows(&mut self) -> Result<(), AllocError> {
-        let row = String::from_str(self.alloc, self.row.as_str())?;
-        let more = format!(in self.alloc; "P: Push<Rows{}>", self.angles)?;
-        self.add_header(
-            "Copy + Item",
-            more.as_str(),
-            ("PushParts", "P"),
-            row.as_str(),
-            " {",
-        )?;
+        let mut params = each(self.alloc, self.params.as_slice(), "", ": Copy + Item")?;
+        let pushes = format!(in self.alloc; "P: Push<Rows{}>", self.angles)?;
+        keep(&mut params, pushes)?;
+        self.lines.add_header(&Header {
+            params: params.as_slice(),
+            trait_name: "PushParts",
+            of: &[String::from_str(self.alloc, "P")?],
+            own: self.row.as_str(),
+            after: " {",
+        })?;
         self.lines.add(
             "    fn push_parts(&self, parts: &mut P) -> Result<(), GrowError> {
         match *self {",
         )?;
+        let row_name = self.row_name.as_str();
         let count = self.cases.len();
-        for (i, case) in self.cases.iter().enumerate() {
-            let letter = if case.has_value() { "a" } else { "()" };
-            let pattern = case.of(self.alloc, self.row_name.as_str(), "a")?;
-            let is_last = i.saturating_add(1) == count;
-            let innermost = if is_last {
-                format!(in self.alloc; "Last({letter})")?
-            } else {
-                format!(in self.alloc; "Nth::This({letter})")?
-            };
-            let depth = if i < 4 { i } else { 0 };
-            let argument = next_of(self.alloc, depth, innermost.as_str())?;
-            if i < 4 {
-                self.lines.add_arm(&Arm {
-                    indent: "            ",
-                    pattern: pattern.as_str(),
-                    fields: &[],
-                    function: "parts.push",
-                    argument: argument.as_str(),
-                })?;
-                continue;
-            }
-            let begun = format!(in self.alloc;
-                "            {pattern} => {{
-                let value = {argument};"
-            )?;
-            self.lines.add(begun.as_str())?;
-            for _ in 0..i {
-                self.lines
-                    .add("                let value = Nth::Next(value);")?;
-            }
-            self.lines
-                .add("                parts.push(value)\n            }")?;
+        for (number, case) in self.cases.iter().enumerate() {
+            let is_last = number.saturating_add(1) == count;
+            case.add_push(self.alloc, &mut self.lines, row_name, number, is_last)?;
         }
         self.lines.add("        }\n    }\n}\n")
     }
@@ -612,7 +688,7 @@ impl PushParts<Parts> for {own} {{
             "    ghost use Rattle.std.specs.Prelude.{◌||◌};
     ghost use Rattle.columnar.specs.Variants.{of_variant};"
         };
-        let text = format!(in self.alloc;
+        self.lines.put(format!(in self.alloc;
             "impl Columnar for {own} {{
 {imports}
 
@@ -621,84 +697,63 @@ impl PushParts<Parts> for {own} {{
     type Container = OwnRows<Parts, {own}>;
 }}
 "
-        )?;
-        self.lines.add(text.as_str())
+        ))
     }
 
-    // How values are made of rows
-    fn add_values_of_rows(&mut self) -> Result<(), AllocError> {
-        let own = String::from_str(self.alloc, self.own.as_str())?;
-        let row = format!(in self.alloc; "OwnRow<Rows{}, {own}>", self.angles)?;
-        let after = if self.params.is_empty() { " {" } else { "" };
-        self.add_header("Item", "", ("FromRow", row.as_str()), own.as_str(), after)?;
-        if !self.params.is_empty() {
-            self.lines.add("where")?;
-            for case in &self.cases {
-                if case.has_value() {
-                    let line = format!(in self.alloc;
-                        "    {}: FromRow<{}>,",
-                        case.kind, case.param
-                    )?;
-                    self.lines.add(line.as_str())?;
-                }
-            }
-            self.lines.add("{")?;
+    // What the values of the variants are to be made of
+    fn add_bounds(&mut self) -> Result<(), AllocError> {
+        if self.params.is_empty() {
+            return Ok(());
         }
-        let alloc = if self.params.is_empty() {
-            "_alloc: Global"
-        } else {
-            "alloc: Global"
-        };
+        self.lines.add("where")?;
+        for case in &self.cases {
+            if case.has_value() {
+                self.lines.put(format!(in self.alloc;
+                    "    {}: FromRow<{}>,",
+                    case.kind, case.param
+                ))?;
+            }
+        }
+        self.lines.add("{")
+    }
+
+    // How the function begins that makes values of rows
+    fn add_from_row(&mut self) -> Result<(), AllocError> {
+        let row = format!(in self.alloc; "OwnRow<Rows{}, {}>", self.angles, self.own)?;
         let mut of = Vec::new(self.alloc);
-        keep(&mut of, String::from_str(self.alloc, alloc)?)?;
+        let alloc = if self.params.is_empty() {
+            "_alloc"
+        } else {
+            "alloc"
+        };
+        keep(&mut of, format!(in self.alloc; "{alloc}: Global")?)?;
         keep(&mut of, format!(in self.alloc; "row: {row}")?)?;
+        let params = each(self.alloc, self.params.as_slice(), "", ": Item")?;
+        self.lines.add_header(&Header {
+            params: params.as_slice(),
+            trait_name: "FromRow",
+            of: &[row],
+            own: self.own.as_str(),
+            after: if self.params.is_empty() { " {" } else { "" },
+        })?;
+        self.add_bounds()?;
         self.lines.add_list(
             "    ",
             "fn from_row(",
             of.as_slice(),
             ") -> Result<Self, OwnError> {",
             WIDTH,
-        )?;
+        )
+    }
+
+    // How values are made of rows
+    fn add_values_of_rows(&mut self) -> Result<(), AllocError> {
+        self.add_from_row()?;
         self.lines.add("        match row.show() {")?;
+        let own = self.own.as_str();
+        let row_name = self.row_name.as_str();
         for case in &self.cases {
-            let pattern = case.of(self.alloc, self.row_name.as_str(), "a")?;
-            let name = case.name.as_str();
-            if !case.has_value() {
-                let value = format!(in self.alloc; "{own}::{name}")?;
-                self.lines.add_arm(&Arm {
-                    indent: "            ",
-                    pattern: pattern.as_str(),
-                    fields: &[],
-                    function: "Ok",
-                    argument: value.as_str(),
-                })?;
-                continue;
-            }
-            let kind = case.kind.as_str();
-            let begun = format!(in self.alloc;
-                "            {pattern} => {{
-                let a = <{kind}>::from_row(alloc, a)?;"
-            )?;
-            self.lines.add(begun.as_str())?;
-            if case.kinds.len() > 1 {
-                let value = case.value.as_str();
-                let line = format!(in self.alloc; "                let {value} = a;")?;
-                self.lines.add(line.as_str())?;
-            }
-            if case.fields.is_empty() {
-                let list = joined(self.alloc, case.letters.as_slice(), ", ")?;
-                let line = format!(in self.alloc; "                Ok({own}::{name}({list}))")?;
-                self.lines.add(line.as_str())?;
-            } else {
-                let before = format!(in self.alloc; "Ok({own}::{name} ")?;
-                self.lines.add_braces(
-                    "                ",
-                    before.as_str(),
-                    case.fields.as_slice(),
-                    ")",
-                )?;
-            }
-            self.lines.add("            }")?;
+            case.add_value_made(self.alloc, &mut self.lines, own, row_name)?;
         }
         self.lines.add("        }\n    }\n}")
     }

@@ -124,6 +124,16 @@ pub fn in_tuple(alloc: Global, texts: &[String]) -> Result<String, AllocError> {
     }
 }
 
+/// The texts between `<` and `>`, if there are any.
+pub fn in_angles(alloc: Global, texts: &[String]) -> Result<String, AllocError> {
+    let list = joined(alloc, texts, ", ")?;
+    if texts.is_empty() {
+        Ok(list)
+    } else {
+        format!(in alloc; "<{list}>")
+    }
+}
+
 // The nest of the items from `from` on, on one line
 fn nested(alloc: Global, items: &[String], from: usize, last: &str) -> Result<String, AllocError> {
     let mut text = String::new(alloc);
@@ -165,6 +175,12 @@ impl Lines {
         self.text.push('\n')
     }
 
+    /// Adds a line, or several, that were made for it.
+    pub fn put(&mut self, made: Result<String, AllocError>) -> Result<(), AllocError> {
+        let text = made?;
+        self.add(text.as_str())
+    }
+
     // Adds a line for each item, with a comma after it.
     fn add_items(&mut self, indent: &str, items: &[String]) -> Result<(), AllocError> {
         for item in items {
@@ -194,8 +210,7 @@ impl Lines {
         let first = format!(in self.alloc; "{indent}{before}")?;
         self.add(first.as_str().trim_end())?;
         self.add_items(indent, items)?;
-        let last = format!(in self.alloc; "{indent}{after}")?;
-        self.add(last.as_str())
+        self.put(format!(in self.alloc; "{indent}{after}"))
     }
 
     /// Adds the tuple of values between two texts, as `add_list`; short ones stand beside one another.
@@ -211,8 +226,7 @@ impl Lines {
         if width(list.as_str()) <= ITEMS || !are_short {
             return self.add_tuple(indent, before, values, after);
         }
-        let first = format!(in self.alloc; "{indent}{before}(")?;
-        self.add(first.as_str())?;
+        self.put(format!(in self.alloc; "{indent}{before}("))?;
         let mut line = format!(in self.alloc; "{indent}   ")?;
         for (i, value) in values.iter().enumerate() {
             // A space follows each comma but the last.
@@ -226,8 +240,7 @@ impl Lines {
             }
         }
         self.add(line.as_str())?;
-        let last = format!(in self.alloc; "{indent}){after}")?;
-        self.add(last.as_str())
+        self.put(format!(in self.alloc; "{indent}){after}"))
     }
 
     /// Adds a tuple between two texts, as `add_list`.
@@ -286,17 +299,15 @@ impl Lines {
                 self.add(line.as_str())?;
                 return self.end_nest(i);
             }
-            let line = format!(in self.alloc;
+            self.put(format!(in self.alloc;
                 "{indent}{begun}Nth<
     {indent}{item},"
-            )?;
-            self.add(line.as_str())?;
+            ))?;
             begun = String::new(self.alloc);
             indent.push_str("    ")?;
         }
         let after = if items.is_empty() { ";" } else { "," };
-        let line = format!(in self.alloc; "{indent}{begun}{last}{after}")?;
-        self.add(line.as_str())?;
+        self.put(format!(in self.alloc; "{indent}{begun}{last}{after}"))?;
         self.end_nest(items.len())
     }
 
@@ -331,18 +342,16 @@ impl Lines {
             return self.add(line.as_str());
         }
         if arm.fields.is_empty() {
-            let line = format!(in self.alloc; "{indent}{pattern} => {{")?;
-            self.add(line.as_str())?;
+            self.put(format!(in self.alloc; "{indent}{pattern} => {{"))?;
         } else {
             let before = format!(in self.alloc; "{pattern} ")?;
             self.add_braces(indent, before.as_str(), arm.fields, " => {")?;
         }
-        let lines = format!(in self.alloc;
+        self.put(format!(in self.alloc;
             "{indent}    let value = {argument};
 {indent}    {function}(value)
 {indent}}}"
-        )?;
-        self.add(lines.as_str())
+        ))
     }
 
     /// Adds an arm of a match whose value is a path.
@@ -356,59 +365,41 @@ impl Lines {
         if fits(line.as_str()) {
             return self.add(line.as_str());
         }
-        let lines = format!(in self.alloc;
+        self.put(format!(in self.alloc;
             "{indent}{pattern} =>
 {indent}    {value},"
-        )?;
-        self.add(lines.as_str())
+        ))
     }
 
     /// Adds how an impl begins.
     pub fn add_header(&mut self, header: &Header<'_>) -> Result<(), AllocError> {
-        let Header {
-            trait_name,
-            own,
-            after,
-            ..
-        } = header;
-        let params = joined(self.alloc, header.params, ", ")?;
-        let of = joined(self.alloc, header.of, ", ")?;
-        let of = if of.as_str().is_empty() {
-            of
-        } else {
-            format!(in self.alloc; "<{of}>")?
-        };
-        let params = if params.as_str().is_empty() {
-            params
-        } else {
-            format!(in self.alloc; "<{params}>")?
-        };
+        let trait_name = header.trait_name;
+        let params = in_angles(self.alloc, header.params)?;
+        let of = in_angles(self.alloc, header.of)?;
         let begun = format!(in self.alloc; "impl{params} {trait_name}{of}")?;
-        let line = format!(in self.alloc; "{begun} for {own}{after}")?;
-        if fits(line.as_str()) {
-            return self.add(line.as_str());
-        }
         if fits(begun.as_str()) {
-            self.add(begun.as_str())?;
-            let line = format!(in self.alloc; "    for {own}{after}")?;
-            return self.add(line.as_str());
+            return self.add_target(begun.as_str(), header);
         }
         let begun = format!(in self.alloc; "impl{params} {trait_name}<")?;
         if fits(begun.as_str()) {
             self.add(begun.as_str())?;
             self.add_items("", header.of)?;
-            let line = format!(in self.alloc; "> for {own}{after}")?;
-            return self.add(line.as_str());
+            return self.put(format!(in self.alloc; "> for {}{}", header.own, header.after));
         }
         self.add("impl<")?;
         self.add_items("", header.params)?;
         let begun = format!(in self.alloc; "> {trait_name}{of}")?;
+        self.add_target(begun.as_str(), header)
+    }
+
+    // Adds this beginning, and the type: on the same line, where it holds both.
+    fn add_target(&mut self, begun: &str, header: &Header<'_>) -> Result<(), AllocError> {
+        let Header { own, after, .. } = header;
         let line = format!(in self.alloc; "{begun} for {own}{after}")?;
         if fits(line.as_str()) {
             return self.add(line.as_str());
         }
-        self.add(begun.as_str())?;
-        let line = format!(in self.alloc; "    for {own}{after}")?;
-        self.add(line.as_str())
+        self.add(begun)?;
+        self.put(format!(in self.alloc; "    for {own}{after}"))
     }
 }

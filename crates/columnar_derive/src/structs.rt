@@ -85,8 +85,8 @@ pub struct {row} {{"
         self.lines.add_tuple("", "type Parts = ", kinds, ";")?;
         self.lines.add(row.as_str())?;
         for (name, param) in self.fields.iter().zip(self.params.iter()) {
-            let line = format!(in self.alloc; "    pub {name}: {param},")?;
-            self.lines.add(line.as_str())?;
+            self.lines
+                .put(format!(in self.alloc; "    pub {name}: {param},"))?;
         }
         self.lines.add("}\n")
     }
@@ -177,11 +177,10 @@ pub struct {row} {{"
     fn add_pushes(&mut self) -> Result<(), AllocError> {
         let own = self.own.as_str();
         let tuple = self.tuple.as_str();
-        let of_values = format!(in self.alloc;
+        self.lines.put(format!(in self.alloc;
             "impl PushParts<ContainerOf<Parts>> for {own} {{
     fn push_parts(&self, parts: &mut ContainerOf<Parts>) -> Result<(), GrowError> {{"
-        )?;
-        self.lines.add(of_values.as_str())?;
+        ))?;
         let lent = each(self.alloc, self.fields.as_slice(), "&self.", "")?;
         self.lines
             .add_values("        ", "parts.push(", lent.as_slice(), ")")?;

@@ -41,13 +41,11 @@ impl Log {
         Ok(Log { stash })
     }
 
-    /// The bytes of the log; None where memory is refused.
-    pub fn written(&self, alloc: Global) -> Option<Vec<u8>> {
+    /// The bytes of the log.
+    pub fn written(&self, alloc: Global) -> anyhow::Result<Vec<u8>> {
         let mut bytes = Vec::new(alloc);
-        match self.stash.write_bytes(&mut bytes) {
-            Ok(()) => Some(bytes),
-            Err(_) => None,
-        }
+        self.stash.write_bytes(&mut bytes)?;
+        Ok(bytes)
     }
 
     /// Adds an event; a refusal leaves the log.

@@ -34,13 +34,11 @@ impl Report {
         Ok(Report { stash })
     }
 
-    /// The bytes of the report; None where memory is refused.
-    pub fn written(&self, alloc: Global) -> Option<Vec<u8>> {
+    /// The bytes of the report.
+    pub fn written(&self, alloc: Global) -> anyhow::Result<Vec<u8>> {
         let mut bytes = Vec::new(alloc);
-        match self.stash.write_bytes(&mut bytes) {
-            Ok(()) => Some(bytes),
-            Err(_) => None,
-        }
+        self.stash.write_bytes(&mut bytes)?;
+        Ok(bytes)
     }
 
     /// Adds a page that was never asked for; a refusal leaves the report.

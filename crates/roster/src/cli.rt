@@ -238,6 +238,3 @@ fn written_seven(alloc: Global) -> Result<(Vec<u64>, Vec<u8>), Failure>
     }
     Ok((words, bytes))
 }
-
-#[cfg(test)]
-mod tests;

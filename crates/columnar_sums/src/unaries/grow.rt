@@ -113,9 +113,8 @@ pub(crate) fn empty_for(alloc: Global, offsets: &Vec<u64>) -> Result<Owned, Grow
     let count = Vec::len(offsets);
     if count > 0 {
         let last = offsets[count - 1] as usize;
-        match last.checked_add(count) {
-            Some(bits) => make_room(&mut column.bits, 0, bits)?,
-            None => {}
+        if let Some(bits) = last.checked_add(count) {
+            make_room(&mut column.bits, 0, bits)?;
         }
     }
     Ok(column)

@@ -42,13 +42,11 @@ impl Shapes {
         Ok(Shapes { stash })
     }
 
-    /// The bytes of the figures; None where memory is refused.
-    pub fn written(&self, alloc: Global) -> Option<Vec<u8>> {
+    /// The bytes of the figures.
+    pub fn written(&self, alloc: Global) -> anyhow::Result<Vec<u8>> {
         let mut bytes = Vec::new(alloc);
-        match self.stash.write_bytes(&mut bytes) {
-            Ok(()) => Some(bytes),
-            Err(_) => None,
-        }
+        self.stash.write_bytes(&mut bytes)?;
+        Ok(bytes)
     }
 
     /// Adds a figure that is kept elsewhere.

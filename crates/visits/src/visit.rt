@@ -44,13 +44,11 @@ impl Visits {
         Ok(Visits { stash })
     }
 
-    /// The bytes of the visits; None where memory is refused.
-    pub fn written(&self, alloc: Global) -> Option<Vec<u8>> {
+    /// The bytes of the visits.
+    pub fn written(&self, alloc: Global) -> anyhow::Result<Vec<u8>> {
         let mut bytes = Vec::new(alloc);
-        match self.stash.write_bytes(&mut bytes) {
-            Ok(()) => Some(bytes),
-            Err(_) => None,
-        }
+        self.stash.write_bytes(&mut bytes)?;
+        Ok(bytes)
     }
 
     /// Adds a visit that is kept elsewhere.

@@ -1,0 +1,45 @@
+//! An example: values of a struct of one's own, kept field by field.
+#![tactic(auto)]
+
+mod visit;
+
+use std::alloc::{AllocError, Global};
+use std::io::Write;
+use std::process::ExitCode;
+use visit::{Visit, Visits};
+
+fn main(rt: HostRuntime) -> ExitCode {
+    let mut out = rt.stdout();
+    match show(rt.alloc(), &mut out) {
+        Ok(()) => ExitCode::SUCCESS,
+        Err(_) => ExitCode::FAILURE,
+    }
+}
+
+fn two_pages(alloc: Global) -> Result<Vec<String>, AllocError> {
+    let first = String::from_str(alloc, "/index")?;
+    let second = String::from_str(alloc, "/about")?;
+    Ok(vec![in alloc; first, second]?)
+}
+
+// Two visits are written, opened and read; the second is made a value once more.
+fn show<O: Write>(alloc: Global, out: &mut O) -> anyhow::Result<()> {
+    let mut visits = Visits::new(alloc);
+    let pages = two_pages(alloc)?;
+    visits.add_parts(12, "ada", pages.as_slice())?;
+    visits.add(&Visit {
+        time: 20,
+        user: String::from_str(alloc, "bobby")?,
+        pages,
+        level: 3,
+        note: Some(String::from_str(alloc, "late")?),
+    })?;
+    let opened = Visits::open(alloc, visits.written(alloc)?)?;
+    opened.print(out)?;
+    writeln!(out, "times: {}", opened.time())?;
+    if let Some(visit) = opened.visit(alloc, 1) {
+        let visit = visit?;
+        writeln!(out, "{} saw {} pages", visit.user, visit.pages.len())?;
+    }
+    Ok(())
+}

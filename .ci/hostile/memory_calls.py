@@ -3,8 +3,8 @@
 
 The calls are read off the signatures: a public function, or a method of a public trait, whose answer holds an error that has
 the case Memory. A method of a trait is a call of each type that has the trait. They stand, by the type that has them, in
-.ci/hostile/memory_calls.txt, each with a test of a module `refused`. Those of crates in crates.txt are run by
-.ci/checks/refused_memory with each of their requests for memory refused in turn; those of hostile_tests will be, once it is proved.
+.ci/hostile/memory_calls.txt, each with a test of a module `refused`. Each of these is run with each of its requests for memory
+refused in turn: those of crates in crates.txt by .ci/checks/refused_memory, those of hostile_tests by .ci/checks/hostile_tests.
 
 usage: .ci/hostile/memory_calls.py   fails where the list is not that of the signatures, or where a call has no test
        .ci/hostile/memory_calls.py --list   prints the list of the signatures"""

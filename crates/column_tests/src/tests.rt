@@ -1,5 +1,4 @@
-// Stashes, and each request for memory refused.
-mod refused;
+// Stashes, rows of one of two kinds, and runs of commands.
 mod runs;
 mod stash;
 mod sums;

@@ -10,8 +10,6 @@ mod copies;
 #[cfg(test)]
 mod lookbacks;
 #[cfg(test)]
-mod refused;
-#[cfg(test)]
 mod repeats;
 #[cfg(test)]
 mod rows;

@@ -7,13 +7,9 @@ mod claims;
 #[cfg(test)]
 mod earlier;
 #[cfg(test)]
-mod refused;
-#[cfg(test)]
 mod stashes;
 #[cfg(test)]
 mod stores;
-#[cfg(test)]
-mod tuples;
 #[cfg(test)]
 mod widths;
 #[cfg(test)]

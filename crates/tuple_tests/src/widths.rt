@@ -2,8 +2,7 @@
 ghost use Rattle.std.specs.Prelude.{◌≡◌, IsTrue};
 ghost use Rattle.columnar_core.specs.Format.{IsSound, representable};
 
-use super::tuples::{Asked, of_one, of_seven, of_ten, of_three, of_two};
-use super::worked::{ONE, SEVEN, TEN, THREE, TWO, Ten, is_written};
+use super::worked::{ONE, One, SEVEN, Seven, TEN, THREE, TWO, Ten, Three, Two, is_written};
 use columnar_bytes::stash::Stash;
 use columnar_core::bytes::{AsBytes, Check, FromBytes, Stored};
 use columnar_core::container::{Borrow, ExtendFrom, Reserve, Storage, Truncate};
@@ -16,7 +15,7 @@ use test_support::{equal, holds};
 
 // A column that is well formed
 #[derive(Drop)]
-pub struct Held<C: Column> {
+struct Held<C: Column> {
     column: C,
     ghost sound: { IsSound C.format (C.content column) },
 }
@@ -66,7 +65,7 @@ fn lends<'a, C: Borrow<'a, Borrowed: AsBytes<'a> + Check>>(
 }
 
 // Is a column of the one row, grown and then copied, written as these words? What is borrowed stands in `column` and `copy`.
-pub fn grows_and_copies<
+fn grows_and_copies<
     'a,
     T: Item + Copy,
     C: Borrow<'a, Borrowed: AsBytes<'a> + Check>
@@ -111,29 +110,32 @@ fn row_of_one<'a, C: Stored + Drop + Borrow<'a, Borrowed: FromBytes<'a>>>(
 
 #[test]
 fn a_tuple_of_one(rt: HostRuntime) {
-    holds!(rt; of_one(rt.alloc(), &(1,), Asked::Grown(ONE.as_slice())));
+    let row = (1u64,);
+    holds!(rt; grows_and_copies::<_, One>(rt.alloc(), &mut None, &mut None, row, ONE.as_slice()));
 }
 
 #[test]
 fn a_tuple_of_two(rt: HostRuntime) {
-    holds!(rt; of_two(rt.alloc(), &(1, 2), Asked::Grown(TWO.as_slice())));
+    let row = (1u64, 2u64);
+    holds!(rt; grows_and_copies::<_, Two>(rt.alloc(), &mut None, &mut None, row, TWO.as_slice()));
 }
 
 #[test]
 fn a_tuple_of_three(rt: HostRuntime) {
-    holds!(rt; of_three(rt.alloc(), &(1, 2, 3), Asked::Grown(THREE.as_slice())));
+    let row = (1u64, 2u64, 3u64);
+    holds!(rt; grows_and_copies::<_, Three>(rt.alloc(), &mut None, &mut None, row, THREE.as_slice()));
 }
 
 #[test]
 fn a_tuple_of_seven(rt: HostRuntime) {
-    let row = (1, 2, 3, 4, 5, 6, 7);
-    holds!(rt; of_seven(rt.alloc(), &row, Asked::Grown(SEVEN.as_slice())));
+    let row = (1u64, 2u64, 3u64, 4u64, 5u64, 6u64, 7u64);
+    holds!(rt; grows_and_copies::<_, Seven>(rt.alloc(), &mut None, &mut None, row, SEVEN.as_slice()));
 }
 
 #[test]
 fn a_tuple_of_ten(rt: HostRuntime) {
-    let row = (0, 1, 2, 3, 4, 5, 6, 7, 8, 9);
-    holds!(rt; of_ten(rt.alloc(), &row, Asked::Grown(TEN.as_slice())));
+    let row = (0u64, 1u64, 2u64, 3u64, 4u64, 5u64, 6u64, 7u64, 8u64, 9u64);
+    holds!(rt; grows_and_copies::<_, Ten>(rt.alloc(), &mut None, &mut None, row, TEN.as_slice()));
 }
 
 #[test]

@@ -1,4 +1,2 @@
 // Columns of strings.
-mod refused;
-mod runs;
 mod texts;

@@ -1,23 +1,19 @@
 // Bounds in unary, and stores of an earlier form.
-ghost use Rattle.std.specs.Prelude.{All, IsTrue};
+ghost use Rattle.std.specs.Prelude.{IsTrue};
 ghost use Rattle.columnar_base.specs.Format.{IsSound, representable};
 ghost use Rattle.columnar_sums.specs.UnaryColumns.{unaries_format, owned_unaries};
 
 use columnar_bytes::stash::Stash;
-use columnar_core::boxed::Boxed;
 use columnar_core::bytes::Check;
 use columnar_core::container::{Borrow, ContainerBytes, Storage};
 use columnar_core::earlier::Earlier;
 use columnar_core::fault::{EitherFault, GrowError};
 use columnar_core::offsets::Offsets;
 use columnar_core::slice::Slice;
-use columnar_core::traits::{Clear, Column, Index, Item, Len, Push};
+use columnar_core::traits::{Clear, Column, Index, Len, Push};
 use columnar_lists::vector::Vecs;
 use columnar_lists::walk::ListIter;
 use columnar_primitive::empties::Empties;
-use columnar_strings::string::Strings;
-use columnar_sums::option::Options;
-use columnar_sums::result::Results;
 use columnar_sums::unaries::Unaries;
 use std::alloc::{AllocError, Global};
 use std::io::Error;
@@ -88,75 +84,6 @@ fn nests_of_an_earlier_form_are_read(rt: HostRuntime) -> Result<(), Error> {
     )?;
     equal!(rt; answer, (0, 2, true));
     Ok(())
-}
-
-// Pushes the rows; is each taken?
-fn takes_all<T: Item + Copy, C: Push<T>>(column: &mut C, rows: &[T]) -> bool
-    requires sound { IsSound C.format (C.content column.old) }
-    requires valid { All T.valid rows.now }
-    ensures { IsSound C.format (C.content column.new) }
-{
-    for row in rows {
-        if !takes(column, *row) {
-            return false;
-        }
-    }
-    true
-}
-
-// A store of these rows
-fn stored<T: Item + Copy, C: ContainerBytes + Storage + Push<T>>(
-    alloc: Global,
-    rows: &[T],
-) -> Option<Vec<u8>>
-    requires representable { IsTrue (representable C.format) }
-    requires valid { All T.valid rows.now }
-{
-    let mut column = C::empty(alloc);
-    if !takes_all(&mut column, rows) {
-        return None;
-    }
-    let mut bytes = Vec::new(alloc);
-    Stash::<C, Vec<u8>>::Typed(column)
-        .write_bytes(&mut bytes)
-        .ok()?;
-    Some(bytes)
-}
-
-// Is a store of the earlier form of these rows read, and written as a store of the form of today?
-fn is_renewed<
-    T: Item + Copy,
-    C: Earlier<Old: Storage + Push<T>> + ContainerBytes + Storage + Push<T>,
->(alloc: Global, rows: &[T]) -> bool
-    requires new { IsTrue (representable C.format) }
-    requires old { IsTrue (representable C.Old.format) }
-    requires valid { All T.valid rows.now }
-{
-    let (Some(old), Some(new)) = (
-        stored::<T, C::Old>(alloc, rows),
-        stored::<T, C>(alloc, rows),
-    ) else {
-        return false;
-    };
-    let Ok(stash) = Stash::<C, Vec<u8>>::try_from_either(alloc, old) else {
-        return false;
-    };
-    let mut bytes = Vec::new(alloc);
-    stash.write_bytes(&mut bytes).is_ok() && bytes.as_slice() == new.as_slice()
-}
-
-// Every container whose earlier form is that of its parts
-type Mixed = (Boxed<Options<Lists>>, Results<Strings<Bounds>, Lists>);
-
-#[test]
-fn each_container_is_read_in_its_earlier_form(rt: HostRuntime) {
-    let items = [1u64, 2, 3];
-    let rows = [
-        (Boxed(Some(&items[..2])), Ok("ann")),
-        (Boxed(None), Err(&items[1..])),
-        (Boxed(Some(&items[..0])), Ok("")),
-    ];
-    holds!(rt; is_renewed::<(Boxed<Option<&[u64]>>, Result<&str, &[u64]>), Mixed>(rt.alloc(), rows.as_slice()));
 }
 
 #[test]

@@ -18,12 +18,12 @@ use std::test::Fail;
 use test_support::columns::{copied, row_at, takes, takes_ref};
 use test_support::{equal, holds};
 
-pub(super) type Texts = Strings<Vec<u64>, Vec<u8>>;
+type Texts = Strings<Vec<u64>, Vec<u8>>;
 
 type Rows = (Vec<u64>, Texts);
 
 // The rows 0, "hello" and 1, "world", written
-pub(super) static HELLO: [u8; 80] = [
+static HELLO: [u8; 80] = [
     32, 0, 0, 0, 0, 0, 0, 0, 48, 0, 0, 0, 0, 0, 0, 0, 64, 0, 0, 0, 0, 0, 0, 0, 74, 0, 0, 0, 0, 0,
     0, 0, 0, 0, 0, 0, 0, 0, 0, 0, 1, 0, 0, 0, 0, 0, 0, 0, 5, 0, 0, 0, 0, 0, 0, 0, 10, 0, 0, 0, 0,
     0, 0, 0, 0x68, 0x65, 0x6c, 0x6c, 0x6f, 0x77, 0x6f, 0x72, 0x6c, 0x64, 0, 0, 0, 0, 0, 0,

@@ -1,7 +1,8 @@
 //! Tests of rows and cells that are written in place, and callers that learn from the contracts what a write leaves.
 #![tactic(auto)]
 
-pub mod callers;
+#[cfg(test)]
+mod callers;
 #[cfg(test)]
 mod claims;
 #[cfg(test)]

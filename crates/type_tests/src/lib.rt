@@ -1,7 +1,8 @@
 //! Tests of types as columns, by `columnar`'s public calls.
 #![tactic(auto)]
 
-pub mod calls;
+#[cfg(test)]
+mod calls;
 #[cfg(test)]
 mod claims;
 #[cfg(test)]

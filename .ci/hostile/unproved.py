@@ -1,4 +1,4 @@
-"""Runs a crate of .ci/hostile, none of which is proved yet, and builds it as a program.
+"""Runs a crate of .ci/hostile, none of which is proved, and builds it as a program.
 
 Its files end in .rt.in, since a file.rt is one that the gate proves. Here they stand among the crates of a copy of the repository.
 `rt try` compiles them with checks, runs that, and keeps nothing; what it compiled is compiled once more without these checks, so

@@ -41,7 +41,7 @@ impl Log {
         Ok(Log { stash })
     }
 
-    /// The bytes of the log.
+    /// The bytes of the log; an error where memory is refused.
     pub fn written(&self, alloc: Global) -> anyhow::Result<Vec<u8>> {
         let mut bytes = Vec::new(alloc);
         self.stash.write_bytes(&mut bytes)?;

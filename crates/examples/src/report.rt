@@ -34,7 +34,7 @@ impl Report {
         Ok(Report { stash })
     }
 
-    /// The bytes of the report.
+    /// The bytes of the report; an error where memory is refused.
     pub fn written(&self, alloc: Global) -> anyhow::Result<Vec<u8>> {
         let mut bytes = Vec::new(alloc);
         self.stash.write_bytes(&mut bytes)?;

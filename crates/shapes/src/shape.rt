@@ -42,7 +42,7 @@ impl Shapes {
         Ok(Shapes { stash })
     }
 
-    /// The bytes of the figures.
+    /// The bytes of the figures; an error where memory is refused.
     pub fn written(&self, alloc: Global) -> anyhow::Result<Vec<u8>> {
         let mut bytes = Vec::new(alloc);
         self.stash.write_bytes(&mut bytes)?;

@@ -44,7 +44,7 @@ impl Visits {
         Ok(Visits { stash })
     }
 
-    /// The bytes of the visits.
+    /// The bytes of the visits; an error where memory is refused.
     pub fn written(&self, alloc: Global) -> anyhow::Result<Vec<u8>> {
         let mut bytes = Vec::new(alloc);
         self.stash.write_bytes(&mut bytes)?;

@@ -103,7 +103,8 @@ pub fn select_in_word(word: u64, rank: u64) -> u64
     }
 }
 
-// The first chunk with more than `rank` trues up to its end, by binary search.
+// The first chunk with more than `rank` trues up to its end, by binary search. Both ways through a turn are a few sums, so that
+// neither is a jump, which no processor could tell beforehand.
 #[tactic(auto, using(crate::specs::CountLaws::digits_from))]
 fn find_chunk<L>(counts: &MeteredCounts<'_, L>, rank: u64, tally: &mut Tally<L>) -> usize
     ensures within { result ≤ length counts.now }
@@ -115,14 +116,15 @@ fn find_chunk<L>(counts: &MeteredCounts<'_, L>, rank: u64, tally: &mut Tally<L>)
     ensures turns { tally.new.turns ≤ tally.old.turns + digits (length counts.now) }
 {
     let mut low = 0;
-    let mut high = counts.len();
-    while low < high {
+    let mut rest = counts.len();
+    while rest > 0 {
         tally.tick();
-        let middle = low + (high - low) / 2;
-        if counts.read(middle, tally) <= rank {
-            low = middle + 1
+        let half = rest / 2;
+        if counts.read(low + half, tally) <= rank {
+            low += half + 1;
+            rest -= half + 1;
         } else {
-            high = middle
+            rest = half;
         }
     }
     low

@@ -1,12 +1,12 @@
-use Rattle.std.proofs.Common.{◌≡◌, ℕ, ◌+◌, ◌-◌, ◌/◌, ◌∙◌, refl, arith, length}
+use Rattle.std.proofs.Common.{◌≡◌, ℕ, ◌+◌, ◌-◌, ◌/◌, ◌<◌, ◌∙◌, refl, sym, subst, arith, length}
+use Rattle.std.specs.Prelude.{slice_index}
 use Rattle.columnar_sums.specs.CountLaws.{count_before_none, count_before_next, halving}
 use Rattle.columnar_sums.proofs.rank_select.search.find_chunk.Goals as goal
 
-pub loop-low-init : goal.loop-low-init
-loop-low-init g c =
+pub loop-rest-init : goal.loop-rest-init
+loop-rest-init g c =
     let same : c.args.tally.now.counts - c.args.tally.now.counts ≡ 0 = omega arith in
     record {
-      order = omega arith;
       within = omega arith;
       below = omega (arith, count_before_none c.args.counts.now);
       above = λ h. absurd (omega arith);
@@ -17,16 +17,18 @@ loop-low-init g c =
       turns = omega arith;
     }
 
-pub loop-low-preserved-then-read-rank : goal.loop-low-preserved-then-read-rank
-loop-low-preserved-then-read-rank g c =
-    let i = c.loop-low.invariant in
-    let gap : ℕ = c.loop-low.high - c.loop-low.low in
-    let s = halving c.args.tally.now.counts c.loop-low.tally.counts c.read.new.tally.counts gap (c.loop-low.high - (c.loop-low.low + gap / 2 + 1)) (length c.args.counts.now) (omega arith) i.more i.shrinks (omega arith) (omega arith) in
+pub loop-rest-preserved-then-read-rank : goal.loop-rest-preserved-then-read-rank
+loop-rest-preserved-then-read-rank g c =
+    let i = c.loop-rest.invariant in
+    let n : ℕ = c.loop-rest.rest in
+    let at : ℕ = c.loop-rest.low + n / 2 in
+    let s = halving c.args.tally.now.counts c.loop-rest.tally.counts c.read.new.tally.counts n (n - (n / 2 + 1)) (length c.args.counts.now) (omega arith) i.more i.shrinks (omega arith) (omega arith) in
+    let next : c.loop-rest.low + (n / 2 + 1) ≡ at + 1 = omega arith in
+    let same : c.loop-rest.low + (n / 2 + 1) + (n - (n / 2 + 1)) ≡ c.loop-rest.low + n = omega arith in
     record {
-      order = omega arith;
-      within = i.within;
-      below = omega (arith, count_before_next c.args.counts.now (c.loop-low.low + gap / 2), c.read.ensures.value);
-      above = i.above;
+      within = omega arith;
+      below = rw next (omega (arith, count_before_next c.args.counts.now at, c.read.ensures.value));
+      above = subst (λ (x : ℕ). x < length c.args.counts.now → c.args.rank < slice_index c.args.counts.now x) (sym same) i.above;
       more = omega arith;
       shrinks = s.0;
       cost = s.1;
@@ -34,13 +36,12 @@ loop-low-preserved-then-read-rank g c =
       turns = omega arith;
     }
 
-pub loop-low-preserved : goal.loop-low-preserved
-loop-low-preserved g c =
-    let i = c.loop-low.invariant in
-    let gap : ℕ = c.loop-low.high - c.loop-low.low in
-    let s = halving c.args.tally.now.counts c.loop-low.tally.counts c.read.new.tally.counts gap (c.loop-low.low + gap / 2 - c.loop-low.low) (length c.args.counts.now) (omega arith) i.more i.shrinks (omega arith) (omega arith) in
+pub loop-rest-preserved : goal.loop-rest-preserved
+loop-rest-preserved g c =
+    let i = c.loop-rest.invariant in
+    let n : ℕ = c.loop-rest.rest in
+    let s = halving c.args.tally.now.counts c.loop-rest.tally.counts c.read.new.tally.counts n (n / 2) (length c.args.counts.now) (omega arith) i.more i.shrinks (omega arith) (omega arith) in
     record {
-      order = omega arith;
       within = omega arith;
       below = i.below;
       above = λ h. omega (arith, c.read.ensures.value);

@@ -3,19 +3,18 @@ use Rattle.std.specs.Prelude.{slice_index}
 use Rattle.columnar_sums.specs.Counting.{count_before}
 use Rattle.columnar_sums.proofs.rank_select.search.find_chunk.Given as goal
 
-abbrev pub invariant-loop-low : goal.invariant-loop-low
-invariant-loop-low g l =
+abbrev pub invariant-loop-rest : goal.invariant-loop-rest
+invariant-loop-rest g l =
     record {
-      order : l.low ≤ l.high;
-      within : l.high ≤ length l.counts;
+      within : l.low + l.rest ≤ length l.counts;
       below : count_before l.counts l.low ≤ l.rank;
-      above : l.high < length l.counts → l.rank < slice_index l.counts l.high;
+      above : l.low + l.rest < length l.counts → l.rank < slice_index l.counts (l.low + l.rest);
       more : l.fn.tally.counts ≤ l.tally.counts;
-      shrinks : 2 ^ (l.tally.counts - l.fn.tally.counts) * (l.high - l.low) ≤ length l.counts;
+      shrinks : 2 ^ (l.tally.counts - l.fn.tally.counts) * l.rest ≤ length l.counts;
       cost : 2 ^ (l.tally.counts - l.fn.tally.counts) ≤ 2 * length l.counts + 1;
       words : l.tally.words ≡ l.fn.tally.words;
       turns : l.tally.turns + l.fn.tally.counts ≡ l.fn.tally.turns + l.tally.counts;
     }
 
-abbrev pub decreases-loop-low : goal.decreases-loop-low
-decreases-loop-low g l = l.high - l.low
+abbrev pub decreases-loop-rest : goal.decreases-loop-rest
+decreases-loop-rest g l = l.rest

@@ -1,69 +1,26 @@
 -- What offsets in unary, options and results that are made of an earlier form keep to.
-use Rattle.std.proofs.Common.{◌≡◌, ℕ, ◌+◌, ◌-◌, ◌%◌, ◌^◌, ◌<◌, ◌≤◌, Bool, true, false, ◌||◌, List, [], ◌∷◌, ◌++◌, length, take, drop, map, refl, sym, ◌∙◌, ap, arith, ⊎_elim, inl, inr}
-use Rattle.std.specs.Prelude.{◌⊎◌, slice_get, Some}
-use Rattle.std.proofs.Math.Seq.{take-length}
-use Rattle.std.proofs.lemmas.List.{map-append, nil_from_length}
+use Rattle.std.proofs.Common.{◌≡◌, ◌+◌, ◌<◌, true, ◌||◌, List, [], length, refl, sym, ◌∙◌, ap, arith, ⊎_elim, inl, inr}
+use Rattle.std.proofs.lemmas.List.{nil_from_length}
 use Rattle.std.proofs.lemmas.Bool.{or_left, or_right}
-use Rattle.columnar_core.specs.Row.{Row, number, number_of}
-use Rattle.columnar_core.specs.Format.{Format, Content, both, IsSound, IsLawful, Excess, refuses_more}
-use Rattle.columnar_core.specs.Change.{Took, IsTrueOf}
-use Rattle.columnar_core.specs.ChangeLaws.{refused_more, true_from, unchanged, grew_exactly}
-use Rattle.columnar_core.specs.AlikeLaws.{row_eq_exact}
+use Rattle.columnar_core.specs.Row.{Row}
+use Rattle.columnar_core.specs.Format.{Format, Content, both, IsSound, Excess, refuses_more}
+use Rattle.columnar_core.specs.ChangeLaws.{true_from}
 use Rattle.columnar_core.specs.TwoPartsLaws.{two_form}
-use Rattle.columnar_core.specs.Elements.{words_format, word_row, past_count}
-use Rattle.columnar_core.specs.Bounds.{numbers, last_or}
-use Rattle.columnar_core.specs.BoundLaws.{word_is}
+use Rattle.columnar_core.specs.Elements.{words_format, past_count}
 use Rattle.columnar_core.specs.Earlier.{IsEarlier, IsTrueOfNew, IsMadeOf}
 use Rattle.columnar_core.specs.EarlierLaws.{earlier_le}
 use Rattle.columnar_core.specs.declared.fault.GrowError.{GrowError}
-use Rattle.columnar_sums.specs.RankColumns.{ranks_format, ranks_bits}
-use Rattle.columnar_sums.specs.RankLaws.{ranks_lawful}
+use Rattle.columnar_sums.specs.RankColumns.{ranks_bits}
 use Rattle.columnar_sums.specs.Options.{options_format, weave, somes}
 use Rattle.columnar_sums.specs.OptionLaws.{options_two, options_parts, options_sound, same_options, length-options, no_values, options_somes, options_refuses_more}
 use Rattle.columnar_sums.specs.Results.{results_format, weave_results, oks, errs}
-use Rattle.columnar_sums.specs.ResultLaws.{results_form, results_parts, results_sound, same_results, length-results, results_oks, results_errs, results_refuses_more}
-use Rattle.columnar_sums.specs.UnaryListLaws.{last-or-append}
-use Rattle.columnar_sums.specs.UnaryLaws.{unary_lawful}
+use Rattle.columnar_sums.specs.ResultLaws.{results_form, results_parts, results_sound, same_results, results_oks, results_errs, results_refuses_more}
 use Rattle.columnar_sums.specs.UnaryColumns.{unaries_format}
 
 -- ---- offsets in unary
 
 pub unary_fewer : IsEarlier words_format unaries_format
 unary_fewer = inl (omega arith)
-
--- what a column without offsets can't take, no other such column can
-empty_same : (k : Excess) (x c : Content) (rs : List Row) → unaries_format.rows x ≡ [] → unaries_format.rows c ≡ [] → refuses_more unaries_format k x rs ≡ true → refuses_more unaries_format k c rs ≡ true
-empty_same k x c rs p q h =
-    let u : unaries_format.refuses k x 0 rs ≡ true = sym (ap (λ (t : List Row). unaries_format.refuses k x (length t) rs) p) ∙ h in
-    let v : unaries_format.refuses k c 0 rs ≡ true = u in
-    ap (λ (t : List Row). unaries_format.refuses k c (length t) rs) q ∙ v
-
-all_of : (us : List Row) → take (length us - 0) us ≡ us
-all_of us = let m : length us - 0 ≡ length us = omega arith in rw m (take-length us)
-
--- offset i was refused
-pub offset_refused : {x y : Content} (rs : List Row) (i : ℕ) (r : Row) (error : GrowError) → IsSound unaries_format x → unaries_format.rows x ≡ [] → i < length rs → slice_get rs i ≡ Some r → Took unaries_format x y (take (i - 0) (drop 0 rs)) → IsTrueOf error unaries_format y (r ∷ []) → IsTrueOfNew error unaries_format rs
-offset_refused {x} {y} rs i r error s e l h g cause = λ c t n.
-    let law : IsLawful unaries_format = unary_lawful ranks_format ranks_lawful in
-    let w = (refused_more rs 0 i (length rs) r law (omega arith) l h g cause (unchanged s)).cause in
-    let d : take (length rs - 0) (drop 0 rs) ≡ rs = all_of rs in
-    let v : IsTrueOf error unaries_format x rs = rw d at w in
-    true_from unaries_format unaries_format x c rs rs error (λ k z. empty_same k x c rs e n z) v
-
--- all offsets were taken
-pub offsets_made : {x y c : Content} (i : ℕ) → unaries_format.rows x ≡ [] → i ≡ length (words_format.rows c) → Took unaries_format x y (take (i - 0) (drop 0 (words_format.rows c))) → IsMadeOf words_format unaries_format c y
-offsets_made {x} {y} {c} i e l g =
-    let k = grew_exactly row_eq_exact g in
-    let m : i - 0 ≡ length (words_format.rows c) = omega (arith, l) in
-    let d : take (i - 0) (words_format.rows c) ≡ words_format.rows c = rw m (take-length (words_format.rows c)) in
-    record { sound = k.sound; rows = k.rows ∙ (rw (e, d) refl) }
-
--- the offset that was taken is the last
-pub last_taken : {x y : Content} (n : ℕ) → n < 2 ^ 64 → Took unaries_format x y (word_row n ∷ []) → last_or 0 (numbers (unaries_format.rows y)) ≡ n
-last_taken {x} {y} n l g =
-    let k = (grew_exactly row_eq_exact g).rows in
-    let e : n % 2 ^ 64 ≡ n = omega arith in
-    ap (λ (t : List Row). last_or 0 (numbers t)) k ∙ ap (last_or 0) (map-append number_of (unaries_format.rows x) (word_row n ∷ [])) ∙ last-or-append 0 (numbers (unaries_format.rows x)) (n % 2 ^ 64 ∷ []) ∙ e
 
 -- ---- options
 

@@ -28,5 +28,6 @@ pub mod UnaryBitLaws
 pub mod UnaryRangeLaws
 pub mod UnaryChangeLaws
 pub mod EarlierSumLaws
+pub mod PackedLaws
 pub mod MaySums
 pub mod MaySumLaws

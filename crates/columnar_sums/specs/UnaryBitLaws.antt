@@ -1,19 +1,19 @@
 -- Offsets in unary, by the ranks and the places of their bits.
-use Rattle.std.proofs.Common.{◌≡◌, ℕ, zero, suc, ◌+◌, ◌-◌, ◌*◌, ◌/◌, ◌%◌, ◌^◌, ◌<◌, ◌≤◌, Bool, true, false, cond, List, [], ◌∷◌, ◌++◌, length, take, drop, map, refl, sym, ◌∙◌, ap, arith, length-append, append-nil, append_assoc, ⊎_elim}
-use Rattle.std.specs.Prelude.{slice_get, slice_index, slice_index_or, count_by, Some, nat_lt, nat_eq, bit_or}
-use Rattle.std.proofs.lemmas.List.{take-append-le, get_or_append_left, get_or-append_right, length-map}
+use Rattle.std.proofs.Common.{◌≡◌, ℕ, zero, suc, ◌+◌, ◌-◌, ◌*◌, ◌/◌, ◌%◌, ◌^◌, ◌<◌, ◌≤◌, Bool, true, false, List, [], ◌∷◌, ◌++◌, length, drop, map, refl, sym, ◌∙◌, ap, arith, length-append, append-nil, append_assoc, ⊎_elim}
+use Rattle.std.specs.Prelude.{slice_get, slice_index_or, count_by, Some, bit_or}
+use Rattle.std.proofs.lemmas.List.{take-append-le, get_or_append_left, get_or-append_right}
 use Rattle.std.proofs.lemmas.Bool.{cases_lt}
-use Rattle.columnar_core.specs.Row.{Row, number, truth}
-use Rattle.columnar_core.specs.Format.{Format, Content, slice, both, IsSound}
+use Rattle.columnar_core.specs.Row.{truth}
+use Rattle.columnar_core.specs.Format.{Content}
 use Rattle.columnar_core.specs.WordViews.{words_in, le_bytes}
 use Rattle.columnar_bits.specs.Bits.{bit, truths}
 use Rattle.std.specs.Int.Bits.{or_zero_l}
-use Rattle.columnar_bits.specs.BitLaws.{truths_push, truths_grow, bit_set, bit_kept, set_below, bit_above, length-truths}
+use Rattle.columnar_bits.specs.BitLaws.{truths_push, truths_grow, bit_set, bit_kept, set_below, bit_above}
 use Rattle.columnar_bits.specs.BoolLaws.{words_grown}
 use Rattle.columnar_sums.specs.Counting.{ones, AreCounts}
 use Rattle.columnar_sums.specs.CountLaws.{ones_zero, ones_true, ones_false, ones_no, ones_yes, set_inside}
 use Rattle.columnar_sums.specs.RankColumns.{ranks_format, ranks_bits, IsNextTrue, AreFalseFrom, Standing}
-use Rattle.columnar_sums.specs.Unary.{is_set, unary_bits, ends_of, falses, last_bit, upto, all_false, runs, falls, unary, ends_left, ends_after}
+use Rattle.columnar_sums.specs.Unary.{unary_bits, ends_of, falses, last_bit, upto, all_false, ends_left, ends_after}
 use Rattle.columnar_sums.specs.UnaryListLaws.{set_truths, falses-ends}
 use Rattle.columnar_sums.specs.UnaryColumns.{repeated}
 

@@ -1,9 +1,8 @@
 -- Columns of offsets in unary over bits with counts.
-use Rattle.std.specs.Prelude.{ℕ, zero, suc, ◌-◌, Bool, List, [], ◌∷◌, length, Vec}
+use Rattle.std.specs.Prelude.{ℕ, zero, suc, ◌-◌, List, [], ◌∷◌, length, Vec}
 use Rattle.columnar_sums.specs.Counting.{ones}
 use Rattle.std.specs.Global.{Global}
 use Rattle.columnar_core.specs.Format.{Format, Content}
-use Rattle.columnar_core.specs.WordViews.{le_bytes}
 use Rattle.columnar_sums.specs.RankColumns.{ranks_format, ranks_bits, ranks_content, owned_ranks}
 use Rattle.columnar_sums.specs.Unary.{unary}
 use Rattle.columnar_sums.specs.declared.unaries.Unaries.{Unaries}

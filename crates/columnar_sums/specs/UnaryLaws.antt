@@ -1,19 +1,19 @@
 -- What the format of offsets in unary keeps to, and what growth, a refusal and a cut of its bits leave of it.
-use Rattle.std.proofs.Common.{◌≡◌, ℕ, zero, suc, ◌+◌, ◌-◌, ◌<◌, ◌≤◌, Bool, true, false, ◌||◌, List, [], ◌∷◌, ◌++◌, length, take, map, refl, sym, ◌∙◌, ap, arith, append_assoc, length-append, append-nil}
-use Rattle.std.specs.Prelude.{nat_lt, nat_le, nat_eq, ◌&&◌}
+use Rattle.std.proofs.Common.{◌≡◌, ℕ, zero, suc, ◌+◌, ◌≤◌, Bool, true, false, ◌||◌, List, [], ◌∷◌, ◌++◌, length, take, map, refl, sym, ◌∙◌, ap, arith, append-nil}
+use Rattle.std.specs.Prelude.{nat_le, nat_eq, ◌&&◌}
 use Rattle.std.proofs.Math.Seq.{take-length}
 use Rattle.std.proofs.lemmas.List.{map-append, length-map, take-map, take-append-le}
 use Rattle.std.proofs.lemmas.Bool.{or_right, le-leb}
 use Rattle.columnar_core.specs.Row.{Row, number, number_of, truth, row_eq}
-use Rattle.columnar_core.specs.Format.{Format, Content, IsSound, IsLawful, IsStorable, IsExact, lengths, fault, Excess, too_many, misplaced, refuses_more}
+use Rattle.columnar_core.specs.Format.{Format, Content, IsSound, IsLawful, IsStorable, IsExact, fault, Excess, too_many, misplaced, refuses_more}
 use Rattle.columnar_core.specs.FaultLaws.{nothing_left, nothing_both, unless_true, true_unless}
 use Rattle.columnar_core.specs.AlikeLaws.{row_eq_same, row_eq_exact, alike_all}
-use Rattle.columnar_core.specs.Change.{Keeps, Grew, Stayed, WasCut, Took, Copied, Refused}
+use Rattle.columnar_core.specs.Change.{Keeps, Stayed, WasCut, Took, Refused}
 use Rattle.columnar_core.specs.ChangeLaws.{grew_exactly, true_from}
 use Rattle.columnar_core.specs.Bounds.{rises, numbers, last_or, IsBounds}
 use Rattle.columnar_core.specs.declared.fault.GrowError.{GrowError}
 use Rattle.columnar_sums.specs.Unary.{is_set, unary_bits, ends_of, falses, last_bit, upto, runs, falls, is_misplaced, unary_end, unary_refuses, unary}
-use Rattle.columnar_sums.specs.UnaryListLaws.{set_truths, ends-append, last-falses, falses-ends, upto-within, upto-all, upto-append, upto-mono, ends_cut, upto-cut, cut-ended, last-append, runs-ended, ends-runs, runs-append, falls-append, last-or-append}
+use Rattle.columnar_sums.specs.UnaryListLaws.{set_truths, ends-append, last-falses, upto-within, upto-all, upto-append, upto-mono, ends_cut, upto-cut, cut-ended, last-append, runs-ended, ends-runs, runs-append, falls-append, last-or-append}
 
 -- what the soundness of offsets in unary is made of
 pub record SoundUnary (f : Format) (c : Content) : Type 0 where

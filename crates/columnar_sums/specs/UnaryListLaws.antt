@@ -1,7 +1,7 @@
 -- Lists of bits as offsets.
 use Rattle.std.proofs.Common.{◌≡◌, ℕ, zero, suc, ◌+◌, ◌-◌, ◌<◌, ◌≤◌, Bool, true, false, ◌||◌, List, [], ◌∷◌, ◌++◌, length, take, map, refl, sym, ◌∙◌, ap, arith, append_assoc}
-use Rattle.std.specs.Prelude.{nat_lt, nat_eq}
-use Rattle.std.proofs.lemmas.Bool.{le-ltb, ltb-false}
+use Rattle.std.specs.Prelude.{nat_lt}
+use Rattle.std.proofs.lemmas.Bool.{ltb-false}
 use Rattle.columnar_core.specs.Row.{truth}
 use Rattle.columnar_core.specs.Bounds.{last_or}
 use Rattle.columnar_sums.specs.Unary.{is_set, ends_of, falses, last_bit, upto, all_false, runs, falls}

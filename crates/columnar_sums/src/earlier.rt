@@ -1,38 +1,30 @@
 //! Offsets in unary, options and results that are made of an earlier form.
-ghost use Rattle.columnar_core.specs.Bounds.{last_or};
 ghost use Rattle.columnar_sums.specs.EarlierSumLaws.{unary_fewer, earlier_options, earlier_results};
 
 use crate::discriminant::Discriminant;
 use crate::option::Options;
-use crate::rank_select::RankSelect;
+use crate::rank_select::{RankSelect, counted};
 use crate::result::Results;
-use crate::unaries::{Unaries, empty_for};
+use crate::unaries::{Unaries, in_unary};
 use columnar_core::earlier::{Earlier, Kept};
 use columnar_core::fault::GrowError;
-use columnar_core::offsets::PushAfter;
-use columnar_core::traits::{Index, Len};
 use std::alloc::Global;
 
 impl Kept for RankSelect<Vec<u64>, Vec<u64>, [u64; 2]> {}
 
 impl Kept for Discriminant<Vec<u8>, Vec<u64>> {}
 
-/// The earlier form is a column of numbers. Length is answered where the last offset and the number of all would together
-/// pass 2^64 - 1, Offset where they fall.
+/// The earlier form is a column of numbers. Offset is answered where they fall, and else Length where the last one and their
+/// number would together pass 2^64 - 1, both before any memory is taken.
 impl Earlier for Unaries<Vec<u64>, Vec<u64>, [u64; 2]> {
     type Old = Vec<u64>;
 
     ghost earlier = { unary_fewer };
 
     fn from_old(alloc: Global, old: Vec<u64>) -> Result<Self, GrowError> {
-        let mut column = empty_for(alloc, &old)?;
-        let mut last = 0u64;
-        for i in 0..Len::len(&old) {
-            let end = Index::get(&old, i);
-            column.push_after(last, end)?;
-            last = end;
-        }
-        Ok(column)
+        let values = in_unary(alloc, &old)?;
+        let bits = counted(alloc, values)?;
+        Ok(Unaries { bits })
     }
 }
 

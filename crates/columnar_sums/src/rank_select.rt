@@ -20,6 +20,7 @@ use columnar_core::tally::Tally;
 use columnar_core::traits::{Column, Index, Len};
 use columnar_core::words::Words;
 pub use cursor::{Cursor, Cursor as RankSelectCursor};
+pub(crate) use grow::counted;
 pub use search::select_in_word;
 use search::{rank_in, select_in};
 

@@ -14,6 +14,7 @@ ghost use Rattle.columnar_sums.specs.UnaryColumns.{unaries_format, unaries_conte
 mod bytes;
 mod ends;
 mod grow;
+mod packed;
 
 use crate::rank_select::RankSelect;
 use columnar_core::bytes::FromBytes;
@@ -24,7 +25,7 @@ use columnar_core::traits::{Column, Index, Len};
 use columnar_core::view::View;
 use columnar_core::words::Words;
 pub use ends::UnaryEnds;
-pub(crate) use grow::empty_for;
+pub(crate) use packed::in_unary;
 
 /// A column of offsets, as the bounds of lists are: for each list its length in falses, and then a true. So a list takes
 /// a bit, and an item of it another. It is well formed where the last bit, if there is one, is true; the offsets rise.

@@ -1,10 +1,10 @@
 //! Columns of bits and counts that grow and are cut.
-ghost use Rattle.std.specs.Prelude.{◌≡◌, ◌+◌, ◌-◌, ◌*◌, ◌/◌, ◌%◌, ◌^◌, ◌<◌, ◌≤◌, [], ◌∷◌, ◌++◌, length, slice_range, OnOk, OnErr, IfErr, IsOk, refl};
+ghost use Rattle.std.specs.Prelude.{◌≡◌, ◌+◌, ◌-◌, ◌*◌, ◌/◌, ◌%◌, ◌^◌, ◌<◌, ◌≤◌, [], ◌∷◌, ◌++◌, length, slice_range, OnOk, OnErr, IfOk, IfErr, IsOk, refl};
 ghost use Rattle.columnar_core.specs.Row.{truth};
 ghost use Rattle.columnar_core.specs.Format.{IsSound};
 ghost use Rattle.columnar_core.specs.Change.{Refused, Stayed, Took};
 ghost use Rattle.columnar_core.specs.WordViews.{words_in, bit_words, le_bytes, view_bytes, view_words};
-ghost use Rattle.columnar_bits.specs.BoolColumns.{IsOfGrowth};
+ghost use Rattle.columnar_bits.specs.BoolColumns.{bools_format, owned_content, owned_bits, IsOfGrowth};
 ghost use Rattle.columnar_sums.specs.Counting.{CountWords, count_before};
 ghost use Rattle.columnar_sums.specs.RankColumns.{ranks_format, bits_ranked, IsRanked, owned_ranks, ranked_bits};
 ghost use Rattle.columnar_sums.specs.RankLaws.{ranks_lawful};
@@ -71,6 +71,24 @@ fn count_on<L>(
         }
     }
     Ok(())
+}
+
+// These bits, and the counts that they need.
+pub(crate) fn counted(alloc: Global, values: Bools<Vec<u64>, [u64; 2]>) -> Result<Held, GrowError>
+    requires { IsSound bools_format (owned_content values) }
+    ensures sound { IfOk result (λ b. IsSound ranks_format (owned_ranks b)) }
+    ensures bits { IfOk result (λ b. ranked_bits b ≡ owned_bits values) }
+    ensures memory { IfErr result (λ e. e ≡ GrowError.Memory) }
+{
+    let mut counts = Vec::new(alloc);
+    counts.reserve(Vec::len(&values.values) / 16)?;
+    count_on(
+        &mut counts,
+        values.values.words(),
+        values.tail.words(),
+        &mut Tally::new(),
+    )?;
+    Ok(RankSelect { counts, values })
 }
 
 impl Held {

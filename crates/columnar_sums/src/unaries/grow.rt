@@ -48,9 +48,11 @@ fn push_short(values: &mut Bools<Vec<u64>, [u64; 2]>, count: usize) -> Result<()
 }
 
 // Appends `count` falses, up to 64 at a time; all or none.
-fn push_falses(values: &mut Bools<Vec<u64>, [u64; 2]>, count: usize) -> Result<(), GrowError>
+pub(crate) fn push_falses(
+    values: &mut Bools<Vec<u64>, [u64; 2]>,
+    count: usize,
+) -> Result<(), GrowError>
     requires sound { IsSound bools_format (owned_content values.old) }
-    requires short { length (owned_bits values.old) + count < 2 ^ 64 }
     ensures ok { OnOk result (owned_bits values.new ≡ owned_bits values.old ++ all_false count) }
     ensures err { OnErr result (Stayed bools_format (owned_content values.old) (owned_content values.new)) }
     ensures sound { IsSound bools_format (owned_content values.new) }
@@ -101,23 +103,6 @@ fn make_room(bits: &mut Held, len: usize, more: usize) -> Result<(), GrowError>
     bits.values.values.reserve((len + more) / 64 - len / 64)?;
     bits.counts.reserve((len + more) / 1024 - len / 1024)?;
     Ok(())
-}
-
-// No offsets, with room for the bits of these.
-pub(crate) fn empty_for(alloc: Global, offsets: &Vec<u64>) -> Result<Owned, GrowError>
-    ensures sound { IfOk result (λ c. IsSound unaries_format (owned_unaries c)) }
-    ensures rows { IfOk result (λ c. unaries_format.rows (owned_unaries c) ≡ []) }
-    ensures memory { IfErr result (λ e. e ≡ GrowError.Memory) }
-{
-    let mut column = <Owned as Storage>::empty(alloc);
-    let count = Vec::len(offsets);
-    if count > 0 {
-        let last = offsets[count - 1] as usize;
-        if let Some(bits) = last.checked_add(count) {
-            make_room(&mut column.bits, 0, bits)?;
-        }
-    }
-    Ok(column)
 }
 
 // How many of the bits are set, where `count` more complete a chunk.

@@ -1,6 +1,5 @@
-use Rattle.std.proofs.Common.{arith, refl, sym, append-nil}
+use Rattle.std.proofs.Common.{arith}
 use Rattle.columnar_core.specs.ChangeLaws.{undone}
-use Rattle.columnar_bits.specs.BoolColumns.{owned_bits}
 use Rattle.columnar_bits.specs.BoolLaws.{bools_lawful, bools_parts, bools_grew, grew_to}
 use Rattle.columnar_sums.specs.UnaryBitLaws.{falses_more}
 use Rattle.columnar_sums.proofs.unaries.grow.push_falses.Goals as goal

@@ -326,7 +326,7 @@ pub fn validated<C: Stored>(bytes: &[u8]) -> u64
     validate::<C>(bytes).is_ok() as u64
 }
 
-/// A column of values, made by their type.
+/// A column of values that come one by one, made by their type.
 #[inline(never)]
 pub fn columns<T: Plain + Columnar<Container: Storage + PushRef<T>>>(
     alloc: Global,
@@ -334,7 +334,7 @@ pub fn columns<T: Plain + Columnar<Container: Storage + PushRef<T>>>(
 ) -> Result<ContainerOf<T>, GrowError>
     ensures { IfOk result (λ c. IsSound T.Container.format (T.Container.content c)) }
 {
-    T::column_of(alloc, items)
+    T::as_columns(alloc, items.iter())
 }
 
 /// Makes a value of each row; None where one is refused.

@@ -95,6 +95,20 @@ where
     }
 }
 
+/// Are numbers that come one by one, lent and given up, the columns of these?
+pub fn are_made_by_each(alloc: Global, items: &[u64]) -> bool {
+    let Ok(lent) = u64::as_columns(alloc, items.iter()) else {
+        return false;
+    };
+    let Ok(values) = Vec::from_slice(alloc, items) else {
+        return false;
+    };
+    let Ok(given) = u64::into_columns(alloc, values.into_iter()) else {
+        return false;
+    };
+    lent.as_slice() == items && given.as_slice() == items
+}
+
 /// Why a row has no value of the type, if it has none
 pub fn refusal_of<R: Item, T: FromRow<R>>(alloc: Global, row: R) -> Option<OwnError>
     requires { R.valid row }

@@ -1,5 +1,5 @@
 // Values that come back from columns, and rows that have no value.
-use crate::calls::{come_back, refusal_of};
+use crate::calls::{are_made_by_each, come_back, refusal_of};
 use columnar::Columnar;
 use columnar::common::{Slice, View};
 use columnar::fault::OwnError;
@@ -26,6 +26,13 @@ fn numbers_come_back(rt: HostRuntime) -> Result<(), Fail> {
     holds!(rt; come_back::<char>(alloc, &mut None, ['a', 'ß'].as_slice()));
     holds!(rt; come_back::<bool>(alloc, &mut None, [true, false].as_slice()));
     holds!(rt; come_back::<()>(alloc, &mut None, [(), ()].as_slice()));
+    Ok(())
+}
+
+#[test]
+fn columns_are_made_of_numbers_that_come_one_by_one(rt: HostRuntime) -> Result<(), Fail> {
+    holds!(rt; are_made_by_each(rt.alloc(), [3, 1, 2].as_slice()));
+    holds!(rt; are_made_by_each(rt.alloc(), [].as_slice()));
     Ok(())
 }
 

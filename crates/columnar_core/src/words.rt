@@ -57,7 +57,7 @@ impl PushAfter for Vec<u64> {
     }
 }
 
-/// A push for each offset.
+/// Room for all offsets is taken at once, and then each is pushed.
 impl<W: Offsets> ExtendShifted<W> for Vec<u64> {
     fn extend_shifted_tallied<L>(
         &mut self,
@@ -67,6 +67,7 @@ impl<W: Offsets> ExtendShifted<W> for Vec<u64> {
         start: usize,
         tally: &mut Tally<L>,
     ) -> Result<(), GrowError> {
+        self.reserve(range.end - range.start)?;
         push_shifted(self, view, range, lower, start, tally)
     }
 }

@@ -64,6 +64,7 @@ impl<TC: Reserve> Reserve for Options<TC, Vec<u64>, Vec<u64>, [u64; 2]> {
 /// A value is pushed first, and then its bit; where the bit is refused, the value is taken back.
 impl<T: Item, TC: Truncate + Push<T>> Push<Option<T>>
     for Options<TC, Vec<u64>, Vec<u64>, [u64; 2]> {
+    #[inline(always)]
     fn push(&mut self, item: Option<T>) -> Result<(), GrowError> {
         match item {
             Some(value) => push_marked(&mut self.somes, value, &mut self.indexes, true),
@@ -75,6 +76,7 @@ impl<T: Item, TC: Truncate + Push<T>> Push<Option<T>>
 /// The value of the item is pushed by reference.
 impl<'x, T: Item, TC: Truncate + PushRef<T>> Push<&'x Option<T>>
     for Options<TC, Vec<u64>, Vec<u64>, [u64; 2]> {
+    #[inline(always)]
     fn push(&mut self, item: &'x Option<T>) -> Result<(), GrowError> {
         self.push_ref(item)
     }
@@ -82,6 +84,7 @@ impl<'x, T: Item, TC: Truncate + PushRef<T>> Push<&'x Option<T>>
 
 impl<T: Item, TC: Truncate + PushRef<T>> PushRef<Option<T>>
     for Options<TC, Vec<u64>, Vec<u64>, [u64; 2]> {
+    #[inline(always)]
     fn push_ref(&mut self, item: &Option<T>) -> Result<(), GrowError> {
         match item {
             Some(value) => push_ref_marked(&mut self.somes, value, &mut self.indexes, true),

@@ -12,6 +12,7 @@ use columnar_core::byte_slice::ByteSlice;
 use columnar_core::bytes::AsBytes;
 use columnar_core::fault::EncodeError;
 use columnar_core::store::round_up;
+use std::mem;
 
 /// Appends the column's encoding to the store, with offsets counted from its own start. Refused with `Length` exactly
 /// where its bytes would pass 2^64 - 1, and with `Memory` only where the store has no room for it and can't grow; a
@@ -93,9 +94,23 @@ fn append_each(store: &mut Vec<u64>, slice: ByteSlice<'_>)
     ensures items { store.new.items ≡ store.old.items ++ slice_words (bytes_in slice.entry) }
     ensures capacity { vec_capacity store.old ≤ vec_capacity store.new }
 {
+    let empty = Vec::new(*store.allocator());
+    let own = mem::replace(store, empty);
+    *store = with_each(own, slice);
+}
+
+// The store with the words of the slice after its own, for which there is room. It is taken by value, since the compiler
+// then knows that what is written changes neither its length nor its place.
+fn with_each(store: Vec<u64>, slice: ByteSlice<'_>) -> Vec<u64>
+    requires { vec_len store + length (slice_words (bytes_in slice)) ≤ vec_capacity store }
+    ensures items { result.items ≡ store.items ++ slice_words (bytes_in slice.entry) }
+    ensures capacity { vec_capacity result ≡ vec_capacity store }
+{
+    let mut store = store;
     for index in 0..words_for(slice.len()) {
-        push_word(store, slice.word(index));
+        store.push_reserved(slice.word(index));
     }
+    store
 }
 
 fn push_word(store: &mut Vec<u64>, word: u64)

@@ -1,8 +1,10 @@
-//! An example: values of a struct of one's own, kept field by field.
+//! An example: values of a struct and of an enum of one's own, in columns.
 #![tactic(auto)]
 
+mod shape;
 mod visit;
 
+use shape::{Shape, Shapes};
 use std::alloc::{AllocError, Global};
 use std::io::Write;
 use std::process::ExitCode;
@@ -16,6 +18,11 @@ fn main(rt: HostRuntime) -> ExitCode {
     }
 }
 
+fn show<O: Write>(alloc: Global, out: &mut O) -> anyhow::Result<()> {
+    show_visits(alloc, out)?;
+    show_shapes(alloc, out)
+}
+
 fn two_pages(alloc: Global) -> Result<Vec<String>, AllocError> {
     let first = String::from_str(alloc, "/index")?;
     let second = String::from_str(alloc, "/about")?;
@@ -23,7 +30,7 @@ fn two_pages(alloc: Global) -> Result<Vec<String>, AllocError> {
 }
 
 // Two visits are written, opened and read; the second is made a value once more.
-fn show<O: Write>(alloc: Global, out: &mut O) -> anyhow::Result<()> {
+fn show_visits<O: Write>(alloc: Global, out: &mut O) -> anyhow::Result<()> {
     let mut visits = Visits::new(alloc);
     let pages = two_pages(alloc)?;
     visits.add_parts(12, "ada", pages.as_slice())?;
@@ -40,6 +47,24 @@ fn show<O: Write>(alloc: Global, out: &mut O) -> anyhow::Result<()> {
     if let Some(visit) = opened.visit(alloc, 1) {
         let visit = visit?;
         writeln!(out, "{} saw {} pages", visit.user, visit.pages.len())?;
+    }
+    Ok(())
+}
+
+// Four figures are written, opened and read; the third is made a value once more.
+fn show_shapes<O: Write>(alloc: Global, out: &mut O) -> anyhow::Result<()> {
+    let mut shapes = Shapes::new(alloc);
+    shapes.add(&Shape::Circle(3))?;
+    shapes.add(&Shape::Named(String::from_str(alloc, "hexagon")?))?;
+    shapes.add(&Shape::Square {
+        side: 4,
+        at: (1, 2),
+    })?;
+    shapes.add(&Shape::Nothing)?;
+    let opened = Shapes::open(alloc, shapes.written(alloc)?)?;
+    opened.print(out)?;
+    if let Some(Ok(Shape::Square { side, at: _ })) = opened.shape(alloc, 2) {
+        writeln!(out, "its side is {side}")?;
     }
     Ok(())
 }

@@ -40,7 +40,7 @@ pub enum ShapeReference<A, B, C> {
 impl Item for Shape {
     ghost use Rattle.columnar.specs.Row.{Row, unit};
     ghost use Rattle.columnar.specs.Variants.{case};
-    ghost use Rattle.shapes.specs.declared.shape.Shape.TheVariants.{Circle, Named, Square, Nothing};
+    ghost use Rattle.own_rows.specs.declared.shape.Shape.TheVariants.{Circle, Named, Square, Nothing};
 
     ghost meaning = { λ s. elim s as (λ v. Row) [ Circle a ↦ case 0 (⟦<u64 as Item>⟧.meaning a) | Named a ↦ case 1 (⟦<String as Item>⟧.meaning a) | Square a b ↦ case 2 (⟦<ValueOfSquare as Item>⟧.meaning (a, b)) | Nothing ↦ case 3 unit ] };
 
@@ -50,7 +50,7 @@ impl Item for Shape {
 impl<A: Item, B: Item, C: Item> Item for ShapeReference<A, B, C> {
     ghost use Rattle.columnar.specs.Row.{Row, unit};
     ghost use Rattle.columnar.specs.Variants.{case};
-    ghost use Rattle.shapes.specs.declared.shape.rows.ShapeReference.TheVariants.{Circle, Named, Square, Nothing};
+    ghost use Rattle.own_rows.specs.declared.shape.rows.ShapeReference.TheVariants.{Circle, Named, Square, Nothing};
 
     ghost meaning = { λ s. elim s as (λ v. Row) [ Circle a ↦ case 0 (A.meaning a) | Named a ↦ case 1 (B.meaning a) | Square a ↦ case 2 (C.meaning a) | Nothing ↦ case 3 unit ] };
 

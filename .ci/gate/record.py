@@ -7,8 +7,9 @@ import functools
 import hashlib
 import os
 
+from edit import edits_of
 from imports import read, reached_from, signature
-from repository import ROOT, said_by
+from repository import ROOT, crates, said_by
 
 DIGITS = 20
 
@@ -75,9 +76,12 @@ def write(crate, entries):
         it.write(text)
 
 
-def tenth_of(crate, name):
-    """Which tenth of all edits an edit is of, 0 to 9."""
-    return int(checksum(crate, name), 16) % 10
+@functools.cache
+def tenths():
+    """By crate and edit, which tenth of all edits it is of, 0 to 9. One tenth is a run of them, and so of few crates: what a
+    check costs before it tries an edit is some five edits."""
+    found = [(crate, it.name) for crate in crates() for it in edits_of(crate)]
+    return {it: 10 * at // len(found) for at, it in enumerate(found)}
 
 
 def tenth_of_commit():

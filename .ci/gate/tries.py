@@ -28,7 +28,7 @@ class Choice:
                 self.why[edit.name] = "not recorded"
             elif all_of_them:
                 self.why[edit.name] = "recorded"
-            elif tenth is not None and tenth == record.tenth_of(name, edit.name):
+            elif tenth is not None and tenth == record.tenths()[name, edit.name]:
                 self.why[edit.name] = "again"
             else:
                 continue

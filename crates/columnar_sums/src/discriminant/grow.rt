@@ -87,7 +87,7 @@ impl Discriminant<Vec<u8>, Vec<u64>> {
     /// Adds a row of a variant. Asks that `offset` is the number of earlier rows of it. A row of the variant of all
     /// others takes no memory. It answers Length exactly where there are 2^64 - 1 rows. After a refusal nothing has
     /// changed.
-    #[inline]
+    #[inline(always)]
     pub fn push(&mut self, variant: u8, offset: u64) -> Result<(), GrowError>
         requires sound { IsSound discriminant_format (owned_forms self.old.variant.items self.old.offset.items) }
         requires numbered { offset ≡ times variant (variants_of (owned_forms self.old.variant.items self.old.offset.items)) }

@@ -25,6 +25,7 @@ import argparse
 import functools
 import os
 import shutil
+import signal
 import sys
 import tempfile
 import time
@@ -92,7 +93,7 @@ class Run:
     def look(self, room):
         """Sees how far rt ci is, and copies the libraries that it has proved since."""
         if os.getppid() != self.parent:
-            os._exit(1)
+            sys.exit(1)
         self.log.read()
         self.times.look()
         for name, is_proved in self.log.proved.items():
@@ -103,7 +104,7 @@ class Run:
                 self.copied.add(name)
 
     def try_all(self):
-        with tempfile.TemporaryDirectory(prefix="edits-libraries-") as room:
+        with tempfile.TemporaryDirectory(prefix="edits-libraries-", ignore_cleanup_errors=True) as room:
             libraries = (lambda _: room) if self.log else (lambda it: f"{ROOT}/crates/{it}/out/rlib")
             libraries = None if self.sources else libraries
             while self.left or self.lanes.are_used() or (self.log and not self.log.has_ended):
@@ -140,6 +141,8 @@ class Run:
 
 
 def main():
+    # (so that what it has written below the temporary folder is taken away)
+    signal.signal(signal.SIGTERM, lambda *_: sys.exit(1))
     run = Run(asked())
     if run.log:
         # (what rt ci does comes first)

@@ -4,7 +4,7 @@ ghost use Rattle.std.specs.Borrow.{Bor};
 ghost use Rattle.std.specs.Iterator.{IsFinite, HoldsAlong, Drains, Yields};
 ghost use Rattle.columnar_base.specs.Row.{Row};
 ghost use Rattle.columnar_types.specs.Owned.{Unfit, IsFit, IsWhy};
-ghost use Rattle.columnar_types.specs.Made.{Made, NotMade};
+ghost use Rattle.columnar_types.specs.Made.{Made, NotMade, StoppedMaking};
 
 use columnar_base::fault::{GrowError, OwnError};
 use columnar_base::storage::{Storage, Truncate};
@@ -78,7 +78,7 @@ pub trait Columnar: Item {
         requires finite { IsFinite (I.remaining items) }
         requires valid { HoldsAlong I.next_gives items (All (λ x. Self.Item.valid x.now)) }
         ensures ok { IfOk result (λ c. (xs : List (Bor Self)) × (Drains I.next_gives items xs × Made Self.Container.format (Self.Container.content c) (map (λ x. Self.Item.meaning x.now) xs))) }
-        ensures err { IfErr result (λ e. (xs : List (Bor Self)) × (rest : I) × (Yields I.next_gives items xs rest × NotMade Self.Container.format (map (λ x. Self.Item.meaning x.now) xs) e)) }
+        ensures err { IfErr result (λ e. (xs : List (Bor Self)) × (rest : I) × (Yields I.next_gives items xs rest × StoppedMaking Self.Container.format (map (λ x. Self.Item.meaning x.now) xs) e)) }
     {
         let mut column = <Self::Container as Storage>::empty(alloc);
         for item in items {
@@ -99,11 +99,11 @@ pub trait Columnar: Item {
         requires finite { IsFinite (I.remaining items) }
         requires valid { HoldsAlong I.next_gives items (All Self.Item.valid) }
         ensures ok { IfOk result (λ c. (xs : List Self) × (Drains I.next_gives items xs × Made Self.Container.format (Self.Container.content c) (map Self.Item.meaning xs))) }
-        ensures err { IfErr result (λ e. (xs : List Self) × (rest : I) × (Yields I.next_gives items xs rest × NotMade Self.Container.format (map Self.Item.meaning xs) e)) }
+        ensures err { IfErr result (λ e. (xs : List Self) × (rest : I) × (Yields I.next_gives items xs rest × StoppedMaking Self.Container.format (map Self.Item.meaning xs) e)) }
     {
         let mut column = <Self::Container as Storage>::empty(alloc);
-        for item in items {
-            column.push_ref(&item)?;
+        for value in items {
+            column.push_ref(&value)?;
         }
         Ok(column)
     }

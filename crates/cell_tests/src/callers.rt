@@ -10,7 +10,7 @@ ghost use Rattle.columnar_cells.specs.Wrote.{Wrote, row_at};
 use columnar_bytes::stash::{ByteStore, Stash};
 use columnar_cells::index_mut::IndexMut;
 use columnar_cells::items::{Field, SetItem};
-use columnar_cells::lent::ValueMut;
+use columnar_cells::lent::{Lent, ValueMut};
 use columnar_cells::set::SetRow;
 use columnar_core::container::ContainerBytes;
 use columnar_core::fault::GrowError;
@@ -119,6 +119,16 @@ pub fn writes_lent(column: &mut Pair, index: usize)
     ensures { Wrote ⟦<Pair as Column>⟧.format (⟦<Pair as Column>⟧.content column.old) (⟦<Pair as Column>⟧.content column.new) index (tuple (word_row 7) (word_row 9)) }
 {
     column.get_mut(index).set((7u64, 9u64));
+}
+
+/// Writes a row through a column that is lent, of any column that takes such rows, and tells whether there is one that it fits.
+pub fn writes_through<T: Item + Drop, C: SetRow<T>>(column: &mut C, index: usize, item: T) -> bool
+    requires sound { IsSound C.format (C.content column.old) }
+    requires valid { T.valid item }
+    ensures written { IsTrue result → Wrote C.format (C.content column.old) (C.content column.new) index (T.meaning item) }
+    ensures kept { result ≡ false → column.new ≡ column.old }
+{
+    Lent::new(column).set_checked(index, item)
 }
 
 /// Writes a value of one part, by the part's own field.

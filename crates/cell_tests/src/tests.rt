@@ -1,7 +1,7 @@
 //! Worked rows, written in place.
 ghost use Rattle.columnar_core.specs.Format.{IsSound};
 
-use crate::callers::writes_where_it_fits;
+use crate::callers::{writes_through, writes_where_it_fits};
 use crate::rows::{after_a_write, column_of, repeated, writes, writes_item};
 use columnar_bits::bools::Bools;
 use columnar_bytes::stash::Stash;
@@ -48,6 +48,16 @@ fn results_keep_their_variants(rt: HostRuntime) -> Result<(), Fail> {
     holds!(rt; !writes::<Result<u64, u64>, Results<Vec<u64>, Vec<u64>>>(&mut column, 0, Err(1)));
     holds!(rt; !writes::<Result<u64, u64>, Results<Vec<u64>, Vec<u64>>>(&mut column, 1, Ok(1)));
     holds!(rt; reads(&column, [Ok(7), Err(8)].as_slice()));
+    Ok(())
+}
+
+#[test]
+fn a_row_through_a_column_that_is_lent(rt: HostRuntime) -> Result<(), Fail> {
+    let mut column: Options<Vec<u64>> = column_of(rt.alloc(), [Some(7), None].as_slice())?;
+    holds!(rt; writes_through(&mut column, 0, Some(8)));
+    holds!(rt; !writes_through(&mut column, 1, Some(9)));
+    holds!(rt; !writes_through(&mut column, 2, Some(9)));
+    holds!(rt; reads(&column, [Some(8), None].as_slice()));
     Ok(())
 }
 

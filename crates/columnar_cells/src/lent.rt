@@ -1,10 +1,10 @@
 //! Rows that are lent for writing.
-ghost use Rattle.std.specs.Prelude.{◌≡◌, ◌<◌, ◌-◌, ◌↔◌, ℕ, [], length, slice_get, Some, IfSome, IsNone, true, refl};
+ghost use Rattle.std.specs.Prelude.{◌≡◌, ◌<◌, ◌-◌, ◌↔◌, ℕ, [], length, slice_get, Some, IfSome, IsNone, IsTrue, true, false, refl};
 ghost use Rattle.std.specs.Borrow.{sem, MutBor, Lends, LendsIf};
 ghost use Rattle.std.specs.Vec.{with_item};
 ghost use Rattle.columnar_base.specs.Row.{Row, unit};
 ghost use Rattle.columnar_base.specs.Format.{IsSound};
-ghost use Rattle.columnar_cells.specs.Wrote.{Wrote};
+ghost use Rattle.columnar_cells.specs.Wrote.{Wrote, row_at};
 
 use crate::set::{SetAny, SetRow};
 use columnar_core::boxed::Boxed;
@@ -133,7 +133,8 @@ impl<'b, C: ValueMut> ValueMut for &'b mut C {
     }
 }
 
-/// A column that is lent for writing: its rows can be written, and it can't be grown or cut.
+/// A column that is lent for writing: its rows can be written, and it can't be grown or cut. What `set` and
+/// `set_checked` write is known of the column after the loan, too.
 #[derive(Drop)]
 pub struct Lent<'a, C> {
     column: &'a mut C,
@@ -175,6 +176,36 @@ impl<'b, C: ValueMut> ValueMut for Lent<'b, C> {
     }
 }
 
+impl<'b, C: Len> Lent<'b, C> {
+    /// Writes row `index`, as `set_row`, and the same column stays lent.
+    pub fn set<T: Item>(&mut self, index: usize, item: T)
+    where
+        C: SetRow<T>,
+        requires sound { IsSound C.format (C.content self.old.column.now) }
+        requires in_range { index < length (C.format.rows (C.content self.old.column.now)) }
+        requires valid { T.valid item }
+        requires fits { C.fits (row_at (C.format.rows (C.content self.old.column.now)) index) item }
+        ensures same_reference { self.new.column.ghost_name ≡ self.old.column.ghost_name }
+        ensures wrote { Wrote C.format (C.content self.old.column.now) (C.content self.new.column.now) index (T.meaning item) }
+    {
+        self.column.set_row(index, item);
+    }
+
+    /// Writes row `index`, or answers false and changes nothing, as `set_row_checked`; the same column stays lent.
+    pub fn set_checked<T: Item + Drop>(&mut self, index: usize, item: T) -> bool
+    where
+        C: SetRow<T>,
+        requires sound { IsSound C.format (C.content self.old.column.now) }
+        requires valid { T.valid item }
+        ensures same_reference { self.new.column.ghost_name ≡ self.old.column.ghost_name }
+        ensures exact { IsTrue result ↔ ((index < length (C.format.rows (C.content self.old.column.now))) × C.fits (row_at (C.format.rows (C.content self.old.column.now)) index) item) }
+        ensures written { IsTrue result → Wrote C.format (C.content self.old.column.now) (C.content self.new.column.now) index (T.meaning item) }
+        ensures kept { result ≡ false → self.new.column.now ≡ self.old.column.now }
+    {
+        self.column.set_row_checked(index, item)
+    }
+}
+
 impl<'b, T: Item, C: SetRow<T>> SetRow<T> for Lent<'b, C> {
     ghost fits = { C.fits };
 
@@ -183,7 +214,7 @@ impl<'b, T: Item, C: SetRow<T>> SetRow<T> for Lent<'b, C> {
     }
 
     fn set_row(&mut self, index: usize, item: T) {
-        self.column.set_row(index, item);
+        self.set(index, item);
     }
 }
 

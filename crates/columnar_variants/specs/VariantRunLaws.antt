@@ -6,7 +6,7 @@ use Rattle.std.proofs.lemmas.List.{replicate-append-replicate, take-replicate, d
 use Rattle.columnar_core.specs.Row.{Row}
 use Rattle.columnar_core.specs.Format.{IsSound, Content, too_many, refuses_more}
 use Rattle.columnar_sums.specs.Discriminants.{discriminant_format, owned_forms, variants_of, times, is_mixed, sole}
-use Rattle.columnar_sums.specs.DiscriminantLaws.{times-append, times_all, times_one, times_absent, same_replicate, forms_parts}
+use Rattle.columnar_sums.specs.DiscriminantLaws.{times-append, times_all, times_one, times_absent, same_all, same_replicate, forms_parts}
 use Rattle.columnar_sums.specs.FormLaws.{two_words_of, holds_counted, mixed_where}
 use Rattle.columnar_variants.specs.Variants.{are_below}
 use Rattle.columnar_variants.specs.VariantListLaws.{below_get}
@@ -60,6 +60,20 @@ sole_below n k (v ∷ vs) b h = ⊎_elim
     let q : v ≡ k = cc in
     below_get n (v ∷ vs) 0 k b (ap Some q))
     (cases_Bool (is_mixed (v ∷ vs)))
+
+-- the one variant is that of each row
+pub sole_times : (v : ℕ) (vs : List ℕ) → sole vs ≡ Some v → times v vs ≡ length vs
+sole_times v [] h = cc
+sole_times v (w ∷ ws) h = ⊎_elim
+    (λ (m : is_mixed (w ∷ ws) ≡ true). let e = cond-true (is_mixed (w ∷ ws)) None (Some w) m in cc)
+    (λ (m : is_mixed (w ∷ ws) ≡ false).
+    let e = cond-false (is_mixed (w ∷ ws)) None (Some w) m in
+    let q : w ≡ v = cc in
+    let a = times_one w ws in
+    let b = same_all w ws m in
+    let all : times w (w ∷ ws) ≡ length (w ∷ ws) = omega (arith, a, b) in
+    ap (λ u. times u (w ∷ ws)) (sym q) ∙ all)
+    (cases_Bool (is_mixed (w ∷ ws)))
 
 -- a range of a run
 pub run_range : (k s e : ℕ) (ws : List ℕ) → times k ws ≡ length ws → s ≤ e → e ≤ length ws → replicate (e - s) k ≡ take (e - s) (drop s ws)

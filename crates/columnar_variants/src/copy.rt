@@ -1,9 +1,9 @@
 //! Ranges of variants that are copied: for a container of one's own.
-ghost use Rattle.std.specs.Prelude.{◌≡◌, ℕ, ◌-◌, ◌<◌, ◌≤◌, ◌++◌, List, length, take, drop, OnOk, OnErr, IfErr, IsTrue, slice_index};
+ghost use Rattle.std.specs.Prelude.{◌≡◌, ℕ, ◌+◌, ◌-◌, ◌^◌, ◌<◌, ◌≤◌, ◌++◌, List, length, take, drop, OnOk, OnErr, IfErr, IsOk, IsTrue, Some, slice_index};
 ghost use Rattle.columnar_core.specs.Row.{Row};
 ghost use Rattle.columnar_core.specs.Format.{IsSound};
 ghost use Rattle.columnar_core.specs.Change.{Stayed, IsTrueOf};
-ghost use Rattle.columnar_sums.specs.Discriminants.{discriminant_format, forms_content, owned_forms, variants_of, times};
+ghost use Rattle.columnar_sums.specs.Discriminants.{discriminant_format, forms_content, owned_forms, variants_of, sole, times};
 ghost use Rattle.columnar_variants.specs.Variants.{are_below};
 
 use crate::run::push_variants;
@@ -15,7 +15,7 @@ use columnar_sums::discriminant::{Discriminant, Variants};
 
 /// Adds the variants of a range of rows, in turn, or none. Of each variant the column had so many rows as `lengths` says,
 /// and so many stand before the range as `firsts` says. Where the view's rows, and those of the column, are of one
-/// variant, that takes no turn, however many rows the view claims.
+/// variant, that takes no memory, however many rows the view claims.
 pub fn extend_variants<CVar: Variants, COff: Words>(
     indexes: &mut Discriminant<Vec<u8>, Vec<u64>>,
     view: &Discriminant<CVar, COff>,
@@ -37,6 +37,7 @@ pub fn extend_variants<CVar: Variants, COff: Words>(
     ensures stayed { OnErr result (Stayed discriminant_format (owned_forms indexes.old.variant.items indexes.old.offset.items) (owned_forms indexes.new.variant.items indexes.new.offset.items)) }
     ensures variants_stay { OnErr result (variants_of (owned_forms indexes.new.variant.items indexes.new.offset.items) ≡ variants_of (owned_forms indexes.old.variant.items indexes.old.offset.items)) }
     ensures cause { IfErr result (λ e. (rs : List Row) → length rs ≡ «end» - start → IsTrueOf e discriminant_format (owned_forms indexes.old.variant.items indexes.old.offset.items) rs) }
+    ensures no_memory { (v : ℕ) → sole (variants_of (owned_forms indexes.old.variant.items indexes.old.offset.items)) ≡ Some v → sole (variants_of (forms_content CVar.bytes COff.bytes view.now)) ≡ Some v → length (variants_of (owned_forms indexes.old.variant.items indexes.old.offset.items)) + («end» - start) < 2 ^ 64 → IsOk result }
 {
     if let Some(kind) = view.homogeneous() {
         let earlier = lengths[kind as usize] as u64;

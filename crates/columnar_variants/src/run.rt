@@ -1,9 +1,9 @@
 //! Rows of one variant that are pushed at once: for a container of one's own.
-ghost use Rattle.std.specs.Prelude.{◌≡◌, ℕ, ◌+◌, ◌^◌, ◌<◌, ◌≤◌, ◌++◌, List, length, replicate, false, OnOk, OnErr, IfErr};
+ghost use Rattle.std.specs.Prelude.{◌≡◌, ℕ, ◌+◌, ◌^◌, ◌<◌, ◌≤◌, ◌++◌, List, length, replicate, false, Some, IsOk, OnOk, OnErr, IfErr};
 ghost use Rattle.columnar_core.specs.Row.{Row};
 ghost use Rattle.columnar_core.specs.Format.{IsSound};
 ghost use Rattle.columnar_core.specs.Change.{Stayed, IsTrueOf};
-ghost use Rattle.columnar_sums.specs.Discriminants.{discriminant_format, owned_forms, variants_of, is_mixed, times};
+ghost use Rattle.columnar_sums.specs.Discriminants.{discriminant_format, owned_forms, variants_of, is_mixed, sole, times};
 
 use columnar_core::container::{Reserve, Truncate};
 use columnar_core::fault::GrowError;
@@ -53,7 +53,7 @@ fn push_each(
 }
 
 /// Adds `count` rows of a variant, of which there are `earlier`, or none. Where all rows are of that variant, that takes
-/// no memory and no turn.
+/// no memory.
 pub fn push_variants(
     indexes: &mut Discriminant<Vec<u8>, Vec<u64>>,
     variant: u8,
@@ -67,6 +67,7 @@ pub fn push_variants(
     ensures stayed { OnErr result (Stayed discriminant_format (owned_forms indexes.old.variant.items indexes.old.offset.items) (owned_forms indexes.new.variant.items indexes.new.offset.items)) }
     ensures variants_stay { OnErr result (variants_of (owned_forms indexes.new.variant.items indexes.new.offset.items) ≡ variants_of (owned_forms indexes.old.variant.items indexes.old.offset.items)) }
     ensures cause { IfErr result (λ e. (rs : List Row) → length rs ≡ count → IsTrueOf e discriminant_format (owned_forms indexes.old.variant.items indexes.old.offset.items) rs) }
+    ensures no_memory { sole (variants_of (owned_forms indexes.old.variant.items indexes.old.offset.items)) ≡ Some variant → length (variants_of (owned_forms indexes.old.variant.items indexes.old.offset.items)) + count < 2 ^ 64 → IsOk result }
 {
     let before = indexes.len();
     if count > usize::MAX - before {

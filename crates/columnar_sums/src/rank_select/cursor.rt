@@ -67,6 +67,7 @@ fn step_in<L>(words: &MeteredWords<'_, L>, place: &mut Place, tally: &mut Tally<
     ensures pos { place.new.pos ≡ place.old.pos + 1 }
     ensures floor { 64 * place.new.index ≤ place.new.pos }
     ensures forward { place.old.index ≤ place.new.index }
+    ensures one { place.new.index ≤ place.old.index + 1 }
     ensures loads { tally.new.words ≡ tally.old.words ++ range_with_len (place.old.index + 1) (place.new.index - place.old.index) }
     ensures counts { tally.new.counts ≡ tally.old.counts }
     ensures turns { tally.new.turns ≡ tally.old.turns }
@@ -160,7 +161,7 @@ impl<CC: Words, VC: Words, WC: Words> RankSelect<CC, VC, WC> {
 }
 
 /// A place among the bits of a column, which goes forward alone. It keeps the word in which it stands and the number
-/// of set bits before it.
+/// of set bits before it. The place is a bit of that word, or the word's end.
 #[derive(Drop)]
 pub struct Cursor<'a, CC: Words, VC: Words, WC: Words> {
     column: &'a RankSelect<CC, VC, WC>,
@@ -237,6 +238,7 @@ impl<'a, CC: Words, VC: Words, WC: Words> Cursor<'a, CC, VC, WC> {
         ensures bits { (self.new.bits ≡ self.old.bits) × (self.new.counts ≡ self.old.counts) }
         ensures onward { self.old.pos ≤ self.new.pos }
         ensures inside { self.new.pos ≤ length self.new.bits }
+        ensures stands { (64 * self.new.word ≤ self.new.pos) × (self.new.pos ≤ 64 * self.new.word + 64) }
         ensures found { IfSome result (λ q. IsNextTrue self.old.bits self.old.pos q × (self.new.pos ≡ q + 1)) }
         ensures none { IfNone result (AreFalseFrom self.old.bits self.old.pos × (self.new.pos ≡ max self.old.pos (64 * (length self.old.bits / 64)))) }
         ensures loads { tally.new.words ≡ tally.old.words ++ range_with_len (self.old.word + 1) (self.new.word - self.old.word) }
@@ -257,14 +259,17 @@ impl<'a, CC: Words, VC: Words, WC: Words> Cursor<'a, CC, VC, WC> {
         }
     }
 
-    /// As `step`; a word that it loads is added to the tally: the one after that in which it stood.
+    /// As `step`; a word that it loads is added to the tally: it is the one after that in which it stood, and it loads no
+    /// other.
     pub fn step_tallied<L>(&mut self, tally: &mut Tally<L>) -> Option<bool>
         ensures bits { (self.new.bits ≡ self.old.bits) × (self.new.counts ≡ self.old.counts) }
         ensures onward { self.old.pos ≤ self.new.pos }
         ensures inside { self.new.pos ≤ length self.new.bits }
+        ensures stands { (64 * self.new.word ≤ self.new.pos) × (self.new.pos ≤ 64 * self.new.word + 64) }
         ensures answer { MatchOption result ((self.old.pos ≡ length self.old.bits) × (self.new.pos ≡ self.old.pos)) (λ bit. (self.old.pos < length self.old.bits) × (bit ≡ slice_index_or self.old.bits self.old.pos false) × (self.new.pos ≡ self.old.pos + 1)) }
         ensures loads { tally.new.words ≡ tally.old.words ++ range_with_len (self.old.word + 1) (self.new.word - self.old.word) }
         ensures forward { self.old.word ≤ self.new.word }
+        ensures one { self.new.word ≤ self.old.word + 1 }
         ensures counts { tally.new.counts ≡ tally.old.counts }
         ensures turns { tally.new.turns ≡ tally.old.turns }
     {
@@ -285,6 +290,7 @@ impl<'a, CC: Words, VC: Words, WC: Words> Cursor<'a, CC, VC, WC> {
         ensures bits { (self.new.bits ≡ self.old.bits) × (self.new.counts ≡ self.old.counts) }
         ensures onward { self.old.pos ≤ self.new.pos }
         ensures inside { self.new.pos ≤ length self.new.bits }
+        ensures stands { (64 * self.new.word ≤ self.new.pos) × (self.new.pos ≤ 64 * self.new.word + 64) }
         ensures within { IsTrue result ↔ (target < length self.old.bits) }
         ensures pos { self.new.pos ≡ min target (length self.old.bits) }
         ensures reads { Adds 1 17 tally.old tally.new }
@@ -311,6 +317,7 @@ impl<'a, CC: Words, VC: Words, WC: Words> Cursor<'a, CC, VC, WC> {
         ensures bits { (self.new.bits ≡ self.old.bits) × (self.new.counts ≡ self.old.counts) }
         ensures onward { self.old.pos ≤ self.new.pos }
         ensures inside { self.new.pos ≤ length self.new.bits }
+        ensures stands { (64 * self.new.word ≤ self.new.pos) × (self.new.pos ≤ 64 * self.new.word + 64) }
         ensures answer { result ≡ place self.old.bits rank }
         ensures pos { MatchOption result (self.new.pos ≡ length self.old.bits) (λ q. self.new.pos ≡ q + 1) }
         ensures reads { Adds (digits self.old.counts + 2) 33 tally.old tally.new }
@@ -335,6 +342,7 @@ impl<'a, CC: Words, VC: Words, WC: Words> Cursor<'a, CC, VC, WC> {
         ensures bits { (self.new.bits ≡ self.old.bits) × (self.new.counts ≡ self.old.counts) }
         ensures onward { self.old.pos ≤ self.new.pos }
         ensures inside { self.new.pos ≤ length self.new.bits }
+        ensures stands { (64 * self.new.word ≤ self.new.pos) × (self.new.pos ≤ 64 * self.new.word + 64) }
         ensures found { IfSome result (λ q. IsNextTrue self.old.bits self.old.pos q × (self.new.pos ≡ q + 1)) }
         ensures none { IfNone result (AreFalseFrom self.old.bits self.old.pos × (self.new.pos ≡ max self.old.pos (64 * (length self.old.bits / 64)))) }
     {
@@ -346,6 +354,7 @@ impl<'a, CC: Words, VC: Words, WC: Words> Cursor<'a, CC, VC, WC> {
         ensures bits { (self.new.bits ≡ self.old.bits) × (self.new.counts ≡ self.old.counts) }
         ensures onward { self.old.pos ≤ self.new.pos }
         ensures inside { self.new.pos ≤ length self.new.bits }
+        ensures stands { (64 * self.new.word ≤ self.new.pos) × (self.new.pos ≤ 64 * self.new.word + 64) }
         ensures answer { MatchOption result ((self.old.pos ≡ length self.old.bits) × (self.new.pos ≡ self.old.pos)) (λ bit. (self.old.pos < length self.old.bits) × (bit ≡ slice_index_or self.old.bits self.old.pos false) × (self.new.pos ≡ self.old.pos + 1)) }
     {
         self.step_tallied(&mut Tally::new())
@@ -358,6 +367,7 @@ impl<'a, CC: Words, VC: Words, WC: Words> Cursor<'a, CC, VC, WC> {
         ensures bits { (self.new.bits ≡ self.old.bits) × (self.new.counts ≡ self.old.counts) }
         ensures onward { self.old.pos ≤ self.new.pos }
         ensures inside { self.new.pos ≤ length self.new.bits }
+        ensures stands { (64 * self.new.word ≤ self.new.pos) × (self.new.pos ≤ 64 * self.new.word + 64) }
         ensures within { IsTrue result ↔ (target < length self.old.bits) }
         ensures pos { self.new.pos ≡ min target (length self.old.bits) }
     {
@@ -371,6 +381,7 @@ impl<'a, CC: Words, VC: Words, WC: Words> Cursor<'a, CC, VC, WC> {
         ensures bits { (self.new.bits ≡ self.old.bits) × (self.new.counts ≡ self.old.counts) }
         ensures onward { self.old.pos ≤ self.new.pos }
         ensures inside { self.new.pos ≤ length self.new.bits }
+        ensures stands { (64 * self.new.word ≤ self.new.pos) × (self.new.pos ≤ 64 * self.new.word + 64) }
         ensures answer { result ≡ place self.old.bits rank }
         ensures pos { MatchOption result (self.new.pos ≡ length self.old.bits) (λ q. self.new.pos ≡ q + 1) }
     {

@@ -66,12 +66,13 @@ impl<CC: Words, VC: Words, WC: Words> Unaries<CC, VC, WC> {
         self.ends_tallied(&mut Tally::new())
     }
 
-    /// As `ends`; the first word, which it has loaded, is added to the tally.
+    /// As `ends`; the first word, which it has loaded, is added to the tally, and no turn.
     pub fn ends_tallied<L>(&self, tally: &mut Tally<L>) -> UnaryEnds<'_, CC, VC, WC>
         requires { IsSound unaries_format (unaries_content CC.bytes VC.bytes WC.bytes self.now) }
         ensures stands { result ≡ record { left = numbers (unaries_format.rows (unaries_content CC.bytes VC.bytes WC.bytes self.now)); word = 0 } }
         ensures loads { tally.new.words ≡ tally.old.words ++ 0 ∷ [] }
         ensures counts { tally.new.counts ≡ tally.old.counts }
+        ensures turns { tally.new.turns ≡ tally.old.turns }
     {
         UnaryEnds::new(&self.bits, tally)
     }

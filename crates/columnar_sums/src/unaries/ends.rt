@@ -33,6 +33,7 @@ impl<'a, CC: Words, VC: Words, WC: Words> UnaryEnds<'a, CC, VC, WC> {
         ensures stands { result ≡ record { left = ends_of 0 (bits_ranked VC.bytes WC.bytes bits.now); word = 0 } }
         ensures loads { tally.new.words ≡ tally.old.words ++ 0 ∷ [] }
         ensures counts { tally.new.counts ≡ tally.old.counts }
+        ensures turns { tally.new.turns ≡ tally.old.turns }
     {
         UnaryEnds {
             cursor: bits.cursor_tallied(tally),
@@ -40,13 +41,15 @@ impl<'a, CC: Words, VC: Words, WC: Words> UnaryEnds<'a, CC, VC, WC> {
     }
 
     /// As `next`; the words that it loads are added to the tally: they come one after another, from the one after that
-    /// in which it stood up to the one in which it then stands. So each word is loaded once, however many are asked for.
+    /// in which it stood up to the one in which it then stands, each in a turn. So each word is loaded once, however many
+    /// are asked for.
     pub fn next_tallied<L>(&mut self, tally: &mut Tally<L>) -> Option<u64>
         ensures some { IfSome result (λ end. self.old.left ≡ end ∷ self.new.left) }
         ensures none { IfNone result ((self.old.left ≡ []) × (self.new.left ≡ [])) }
         ensures loads { tally.new.words ≡ tally.old.words ++ range_with_len (self.old.word + 1) (self.new.word - self.old.word) }
         ensures forward { self.old.word ≤ self.new.word }
         ensures counts { tally.new.counts ≡ tally.old.counts }
+        ensures turns { tally.new.turns ≡ tally.old.turns + (self.new.word - self.old.word) }
     {
         match self.cursor.next_one_tallied(tally) {
             Some(place) => Some(place as u64 - (self.cursor.trues_before() - 1)),

@@ -84,6 +84,10 @@ run_apart old now full new done word after n h e f g =
 apart : true ≡ false → ⊥
 apart h = cc
 
+-- offsets don't both fall and not
+pub not_both : (from : ℕ) (ns : List ℕ) → falls from ns ≡ true → falls from ns ≡ false → ⊥
+not_both from ns p q = apart (sym p ∙ q)
+
 pub no_fall : (from : ℕ) (ns : List ℕ) → rises from ns (last_or from ns) ≡ true → falls from ns ≡ false
 no_fall from [] h = refl
 no_fall from (n ∷ ns) h = ⊎_elim

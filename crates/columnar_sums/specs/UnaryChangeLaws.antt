@@ -1,33 +1,33 @@
 -- Columns of offsets in unary that are read, grow, and are cut.
-use Rattle.std.proofs.Common.{◌≡◌, ℕ, zero, suc, ◌+◌, ◌-◌, ◌*◌, ◌/◌, ◌%◌, ◌^◌, ◌<◌, ◌≤◌, Bool, true, false, ◌||◌, List, [], ◌∷◌, ◌++◌, length, take, drop, map, refl, sym, ◌∙◌, ap, arith, length-append, length-take, length-drop, append_assoc, subst}
+use Rattle.std.proofs.Common.{◌≡◌, ℕ, zero, suc, ◌+◌, ◌-◌, ◌/◌, ◌%◌, ◌^◌, ◌<◌, ◌≤◌, Bool, true, false, ◌||◌, List, [], ◌∷◌, ◌++◌, length, take, drop, map, refl, sym, ◌∙◌, ap, arith, length-append, length-take, length-drop, append_assoc, append-nil, subst, ⊎_elim}
 use Rattle.std.specs.Prelude.{slice_get, slice_index_or, slice_range, Some, None, Result, Ok, Err, OnErr, IfErr, nat_lt, nat_eq}
 use Rattle.std.proofs.lemmas.List.{length-map, map-append}
 use Rattle.std.proofs.lemmas.Option.{slice_get-map}
-use Rattle.std.proofs.lemmas.Bool.{le-ltb, lt-ltb, or_right}
-use Rattle.columnar_core.specs.Row.{Row, number, truth}
+use Rattle.std.proofs.lemmas.Bool.{cases_lt, le-ltb, lt-ltb}
+use Rattle.columnar_core.specs.Row.{Row, number, number_of, truth}
 use Rattle.columnar_core.specs.Elements.{word_row, past_count}
-use Rattle.columnar_core.specs.Format.{Format, Content, slice, both, IsSound, IsExact, Excess, too_many, misplaced, refuses_more, first, moved, moved_one, Fault, fault, unless, Fits}
+use Rattle.columnar_core.specs.Format.{Format, Content, slice, both, IsSound, IsExact, too_many, first, moved, moved_one, Fault, fault, unless, Fits}
 use Rattle.columnar_core.specs.FaultLaws.{first_found, first_none}
 use Rattle.columnar_core.specs.AlikeLaws.{row_eq_exact}
 use Rattle.columnar_core.specs.Change.{Grew, Stayed, WasCut, Took, Copied, Refused}
 use Rattle.columnar_core.specs.ChangeLaws.{unchanged, undone, grew_stayed, grew_exactly}
 use Rattle.columnar_core.specs.Bounds.{rises, numbers, last_or, shifted}
 use Rattle.columnar_core.specs.BoundLaws.{word_is}
-use Rattle.columnar_core.specs.WordViews.{words_in, le_bytes}
+use Rattle.columnar_core.specs.WordViews.{words_in}
 use Rattle.columnar_core.specs.declared.fault.GrowError.{GrowError}
 use Rattle.columnar_core.specs.declared.fault.GrowError.TheVariants.{Memory, Length, Offset}
-use Rattle.columnar_bits.specs.BoolColumns.{bits_in, bools_format, IsOfGrowth, SoundBools}
-use Rattle.columnar_bits.specs.BoolLaws.{bools_past, bools_parts, bits_from_rows, bits_length}
+use Rattle.columnar_bits.specs.BoolColumns.{bits_in, IsOfGrowth, SoundBools}
+use Rattle.columnar_bits.specs.BoolLaws.{bools_past, bits_length}
 use Rattle.columnar_sums.specs.Counting.{ones}
 use Rattle.columnar_sums.specs.RankColumns.{ranks_format, ranks_bits, IsNextTrue, AreFalseFrom}
-use Rattle.columnar_sums.specs.RankLaws.{SoundRanks, ranks_parts, ranks_sound, ranks_lawful}
+use Rattle.columnar_sums.specs.RankLaws.{SoundRanks, ranks_parts, ranks_lawful}
 use Rattle.columnar_sums.specs.RankChangeLaws.{Ranked, ranks_took, ranks_refused}
-use Rattle.columnar_sums.specs.Unary.{is_set, unary_bits, ends_of, falses, last_bit, upto, all_false, runs, falls, unary, unary_broken}
-use Rattle.columnar_sums.specs.UnaryListLaws.{set_truths, upto-within, last-falses}
-use Rattle.columnar_sums.specs.UnaryLaws.{SoundUnary, numbers_back, unary_refused, unary_parts, unary_sound, length-offsets, unary_took, unary_stayed, unary_misplaced, unary_refuse_more, unary_cut, unary_rises}
-use Rattle.columnar_sums.specs.UnaryBitLaws.{counts_kept, ones_ends, ends_found, upto_found, falses_are, last_bit_is, length-zeros, counts_run}
+use Rattle.columnar_sums.specs.Unary.{unary_bits, ends_of, falses, last_bit, upto, all_false, runs, falls, unary_broken}
+use Rattle.columnar_sums.specs.UnaryListLaws.{set_truths, upto-within, last-falses, rises-after}
+use Rattle.columnar_sums.specs.UnaryLaws.{numbers_back, unary_refused, unary_parts, unary_sound, length-offsets, unary_took, unary_stayed, unary_misplaced, unary_refuse_more, unary_cut, unary_rises}
+use Rattle.columnar_sums.specs.UnaryBitLaws.{counts_kept, ones_ends, ends_found, upto_found, falses_are, length-zeros, counts_run}
 use Rattle.columnar_sums.specs.UnaryRangeLaws.{RangeBits, range_bits, runs_back, ends_rise, upto_at, end_from, end_there}
-use Rattle.columnar_sums.specs.UnaryColumns.{unaries_format, repeated, all_falses}
+use Rattle.columnar_sums.specs.UnaryColumns.{unaries_format, last_offset, repeated, all_falses}
 
 abbrev three : List ℕ → List ℕ → List ℕ → Content
 three c a b = both (slice c) (both (slice a) (slice b))
@@ -245,3 +245,48 @@ row_after c a b index before q l h m n =
 
 pub none_after : (c a b : List ℕ) (index before : ℕ) → index < length (unaries_format.rows (three c a b)) → slice_get (0 ∷ numbers (unaries_format.rows (three c a b))) index ≡ Some before → AreFalseFrom (bits_in a b) (before + index) → ⊥
 none_after c a b index before l h n = end_there (bits_in a b) index (before + index) (omega (arith, ends_count c a b)) (place_after c a b index before (omega arith) h) n
+
+-- ---- offsets that were taken do not fall
+
+first_rises : (x y : Content) (rs : List Row) (n : ℕ) → unaries_format.rows y ≡ unaries_format.rows x ++ rs → slice_get rs 0 ≡ Some (number n) → last_offset x ≤ n
+first_rises x y [] n e h = cc
+first_rises x y (r ∷ rs) n e h =
+    let d : r ≡ number n = cc in
+    let ns : List ℕ = numbers (unaries_format.rows x) in
+    let w : numbers (unaries_format.rows y) ≡ ns ++ n ∷ numbers rs = ap numbers e ∙ (map-append number_of (unaries_format.rows x) (r ∷ rs) ∙ ap (λ (q : Row). ns ++ number_of q ∷ numbers rs) d) in
+    let f : falls 0 (ns ++ n ∷ numbers rs) ≡ false = sym (ap (falls 0) w) ∙ (ap (falls 0) (numbers_back (ends_of 0 (unary_bits ranks_format y))) ∙ ends_rise 0 (unary_bits ranks_format y)) in
+    rises-after 0 n ns (numbers rs) f
+
+first_taken : (rs : List Row) (start k : ℕ) (r : Row) → 0 < k → slice_get rs start ≡ Some r → slice_get (take k (drop start rs)) 0 ≡ Some r
+first_taken rs start zero r l h = absurd (omega arith)
+first_taken [] start (suc k) r l h = cc
+first_taken (x ∷ rs) zero (suc k) r l h = h
+first_taken (x ∷ rs) (suc start) (suc k) r l h = first_taken rs start (suc k) r l h
+
+-- of a range of which one was taken, the first is not below the last that stood before
+pub range_rises : {x y : Content} (rs : List Row) (start i n : ℕ) → Took unaries_format x y (take (i - start) (drop start rs)) → start < i → slice_get rs start ≡ Some (number n) → last_offset x ≤ n
+range_rises {x} {y} rs start i n t l h = first_rises x y (take (i - start) (drop start rs)) n (grew_exactly row_eq_exact t).rows (first_taken rs start (i - start) (number n) (omega (arith, l)) h)
+
+-- of a range of which none was taken, the last is that which stood before
+same_last : {x y : Content} (rs : List Row) (start : ℕ) → Took unaries_format x y (take (start - start) (drop start rs)) → last_offset y ≡ last_offset x
+same_last {x} {y} rs start t =
+    let e : start - start ≡ 0 = omega arith in
+    let g : unaries_format.rows y ≡ unaries_format.rows x ++ [] = rw e at (grew_exactly row_eq_exact t).rows in
+    ap (λ (q : List Row). last_or 0 (numbers q)) (g ∙ append-nil (unaries_format.rows x))
+
+number_same : (m n : ℕ) → m < 2 ^ 64 → Some (word_row m) ≡ Some (number n) → m ≡ n
+number_same m n l h = let e : number m ≡ number n = rw (word_is m l) at (some_same h) in cc
+  where
+    some_same : {r s : Row} → Some r ≡ Some s → r ≡ s
+    some_same h = cc
+
+-- The first of a range was pushed, or it is not below the last that stood before.
+pub range_refuses : {T : Type 0} {x y : Content} (rs : List Row) (start i n m : ℕ) (done : Result T GrowError) → Took unaries_format x y (take (i - start) (drop start rs)) → start ≤ i → slice_get rs start ≡ Some (number n) → n < last_offset x → slice_get rs i ≡ Some (word_row m) → m < 2 ^ 64 → (m < last_offset y → done ≡ Err Offset) → done ≡ Err Offset
+range_refuses {T} {x} {y} rs start i n m done t l h b g k f = ⊎_elim
+    (λ (p : start < i). let w = range_rises {x = x} {y = y} rs start i n t p h in absurd (omega (arith, w, b)))
+    (λ (p : i ≤ start).
+    let e : i ≡ start = omega (arith, l, p) in
+    let s = same_last {x = x} {y = y} rs start (rw e at t) in
+    let d : m ≡ n = number_same m n k (sym (rw e at g) ∙ h) in
+    f (omega (arith, s, d, b)))
+    (cases_lt start i)

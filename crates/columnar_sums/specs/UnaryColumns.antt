@@ -2,7 +2,10 @@
 use Rattle.std.specs.Prelude.{ℕ, zero, suc, ◌-◌, List, [], ◌∷◌, length, Vec}
 use Rattle.columnar_sums.specs.Counting.{ones}
 use Rattle.std.specs.Global.{Global}
-use Rattle.columnar_core.specs.Format.{Format, Content}
+use Rattle.columnar_core.specs.Format.{Format, Content, slice}
+use Rattle.columnar_core.specs.Bounds.{numbers, last_or}
+use Rattle.columnar_core.specs.Elements.{words_format}
+use Rattle.columnar_core.specs.WordViews.{le_bytes}
 use Rattle.columnar_sums.specs.RankColumns.{ranks_format, ranks_bits, ranks_content, owned_ranks}
 use Rattle.columnar_sums.specs.Unary.{unary}
 use Rattle.columnar_sums.specs.declared.unaries.Unaries.{Unaries}
@@ -25,3 +28,11 @@ repeated (suc n) x = x ∷ repeated n x
 -- how many falses a column of bits has
 abbrev pub all_falses : Content → ℕ
 all_falses x = length (ranks_bits x) - ones (ranks_bits x) (length (ranks_bits x))
+
+-- the last offset of a column, 0 where there is none
+abbrev pub last_offset : Content → ℕ
+last_offset c = last_or 0 (numbers (unaries_format.rows c))
+
+-- the offsets that words are
+abbrev pub offsets_of : List ℕ → List ℕ
+offsets_of words = numbers (words_format.rows (slice (le_bytes words)))

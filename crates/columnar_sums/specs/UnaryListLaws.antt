@@ -132,3 +132,9 @@ falls-append from (x ∷ xs) ys = ap (λ (t : Bool). nat_lt x from || t) (falls-
 pub last-or-append : (from : ℕ) (xs ys : List ℕ) → last_or from (xs ++ ys) ≡ last_or (last_or from xs) ys
 last-or-append from [] ys = refl
 last-or-append from (x ∷ xs) ys = last-or-append x xs ys
+
+-- where offsets after others don't fall, the first of them is not below the last of those
+pub rises-after : (from n : ℕ) (xs ns : List ℕ) → falls from (xs ++ n ∷ ns) ≡ false → last_or from xs ≤ n
+rises-after from n xs ns h =
+    let p = or_false (falls from xs) (falls (last_or from xs) (n ∷ ns)) (sym (falls-append from xs (n ∷ ns)) ∙ h) in
+    ltb-false n (last_or from xs) (or_false (nat_lt n (last_or from xs)) (falls n ns) p.1).0

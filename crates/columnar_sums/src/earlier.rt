@@ -1,4 +1,12 @@
 //! Offsets in unary, options and results that are made of an earlier form.
+ghost use Rattle.std.specs.Prelude.{◌≡◌, ◌+◌, ◌^◌, ◌≤◌, length, true, false, IfOk, IfErr};
+ghost use Rattle.columnar_core.specs.Format.{IsSound, slice};
+ghost use Rattle.columnar_core.specs.Bounds.{last_or};
+ghost use Rattle.columnar_core.specs.Earlier.{IsMadeOf, IsTrueOfNew};
+ghost use Rattle.columnar_core.specs.Elements.{words_format};
+ghost use Rattle.columnar_core.specs.WordViews.{le_bytes};
+ghost use Rattle.columnar_sums.specs.Unary.{falls};
+ghost use Rattle.columnar_sums.specs.UnaryColumns.{unaries_format, owned_unaries, offsets_of};
 ghost use Rattle.columnar_sums.specs.EarlierSumLaws.{unary_fewer, earlier_options, earlier_results};
 
 use crate::discriminant::Discriminant;
@@ -21,7 +29,13 @@ impl Earlier for Unaries<Vec<u64>, Vec<u64>, [u64; 2]> {
 
     ghost earlier = { unary_fewer };
 
-    fn from_old(alloc: Global, old: Vec<u64>) -> Result<Self, GrowError> {
+    fn from_old(alloc: Global, old: Vec<u64>) -> Result<Self, GrowError>
+        requires { IsSound words_format (slice (le_bytes old.items)) }
+        ensures ok { IfOk result (λ c. IsMadeOf words_format unaries_format (slice (le_bytes old.items)) (owned_unaries c)) }
+        ensures err { IfErr result (λ e. IsTrueOfNew e unaries_format (words_format.rows (slice (le_bytes old.items)))) }
+        ensures offset { falls 0 (offsets_of old.items) ≡ true → result ≡ Err GrowError.Offset }
+        ensures length { falls 0 (offsets_of old.items) ≡ false → 2 ^ 64 ≤ last_or 0 (offsets_of old.items) + length (offsets_of old.items) → result ≡ Err GrowError.Length }
+    {
         let values = in_unary(alloc, &old)?;
         let bits = counted(alloc, values)?;
         Ok(Unaries { bits })

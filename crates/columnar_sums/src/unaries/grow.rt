@@ -1,8 +1,9 @@
 //! Offsets in unary that grow and are cut.
-ghost use Rattle.std.specs.Prelude.{◌≡◌, ℕ, ◌+◌, ◌-◌, ◌*◌, ◌/◌, ◌%◌, ◌^◌, ◌<◌, ◌≤◌, [], ◌∷◌, ◌++◌, length, slice_range, true, OnOk, OnErr, IfErr, refl};
+ghost use Rattle.std.specs.Prelude.{◌≡◌, ℕ, ◌+◌, ◌-◌, ◌*◌, ◌/◌, ◌%◌, ◌^◌, ◌<◌, ◌≤◌, [], ◌∷◌, ◌++◌, length, take, drop, slice_get, slice_range, Some, true, OnOk, OnErr, IfErr, refl};
 ghost use Rattle.columnar_core.specs.Format.{IsSound};
-ghost use Rattle.columnar_core.specs.Change.{Stayed};
-ghost use Rattle.columnar_core.specs.Bounds.{numbers, last_or};
+ghost use Rattle.columnar_core.specs.Change.{Stayed, Took, Copied, Refused};
+ghost use Rattle.columnar_core.specs.Row.{number};
+ghost use Rattle.columnar_core.specs.Elements.{word_row};
 ghost use Rattle.columnar_core.specs.WordViews.{words_in, le_bytes, view_bytes};
 ghost use Rattle.columnar_bits.specs.BoolColumns.{bools_format, owned_content, owned_bits, IsOfGrowth};
 ghost use Rattle.columnar_sums.specs.Counting.{ones};
@@ -10,7 +11,7 @@ ghost use Rattle.columnar_sums.specs.RankColumns.{ranks_format, ranks_content, b
 ghost use Rattle.columnar_sums.specs.RankLaws.{ranks_lawful};
 ghost use Rattle.columnar_sums.specs.Unary.{all_false};
 ghost use Rattle.columnar_sums.specs.UnaryLaws.{unary_lawful};
-ghost use Rattle.columnar_sums.specs.UnaryColumns.{unaries_format, owned_unaries, repeated};
+ghost use Rattle.columnar_sums.specs.UnaryColumns.{unaries_format, unaries_content, owned_unaries, last_offset, repeated};
 
 use super::Unaries;
 use crate::rank_select::RankSelect;
@@ -204,17 +205,24 @@ impl Owned {
     // The last offset, 0 where there is none.
     fn last_end(&self) -> u64
         requires { IsSound unaries_format (owned_unaries self.now) }
-        ensures { result ≡ last_or 0 (numbers (unaries_format.rows (owned_unaries self.now))) }
+        ensures { result ≡ last_offset (owned_unaries self.now) }
     {
         let len = self.bits.len();
         (len - self.bits.rank(len)) as u64
     }
 }
 
-/// Offset is answered where the offset is below the last one, and else Length where there would be more than 2^64 - 1
-/// bits, both before anything grows. No rank is asked for where the bits complete no 1024.
 impl PushAfter for Owned {
-    fn push_after(&mut self, last: u64, offset: u64) -> Result<(), GrowError> {
+    /// Offset is answered where the offset is below the last one, and else Length where there would be more than 2^64 - 1
+    /// bits, both before any memory is asked for.
+    fn push_after(&mut self, last: u64, offset: u64) -> Result<(), GrowError>
+        requires sound { IsSound unaries_format (owned_unaries self.old) }
+        requires last { last_offset (owned_unaries self.old) ≡ last }
+        ensures ok { OnOk result (Took unaries_format (owned_unaries self.old) (owned_unaries self.new) (word_row offset ∷ [])) }
+        ensures err { IfErr result (λ e. Refused unaries_format (owned_unaries self.old) (owned_unaries self.new) (word_row offset ∷ []) e) }
+        ensures offset { offset < last → result ≡ Err GrowError.Offset }
+        ensures full { last ≤ offset → 2 ^ 64 ≤ length (ranked_bits self.old.bits) + (offset - last) + 1 → result ≡ Err GrowError.Length }
+    {
         if offset < last {
             return Err(GrowError::Offset);
         }
@@ -227,22 +235,40 @@ impl PushAfter for Owned {
     }
 }
 
-/// As `push_after`; the last offset is found by one rank.
 impl Push<u64> for Owned {
-    fn push(&mut self, item: u64) -> Result<(), GrowError> {
+    /// As `push_after`, where the last offset is not known: a rank finds it.
+    fn push(&mut self, item: u64) -> Result<(), GrowError>
+        requires sound { IsSound unaries_format (owned_unaries self.old) }
+        ensures ok { OnOk result (Took unaries_format (owned_unaries self.old) (owned_unaries self.new) (word_row item ∷ [])) }
+        ensures err { IfErr result (λ e. Refused unaries_format (owned_unaries self.old) (owned_unaries self.new) (word_row item ∷ []) e) }
+        ensures offset { item < last_offset (owned_unaries self.old) → result ≡ Err GrowError.Offset }
+        ensures full { last_offset (owned_unaries self.old) ≤ item → 2 ^ 64 ≤ length (ranked_bits self.old.bits) + (item - last_offset (owned_unaries self.old)) + 1 → result ≡ Err GrowError.Length }
+    {
         let last = self.last_end();
         self.push_after(last, item)
     }
 }
 
 impl<'x> Push<&'x u64> for Owned {
-    fn push(&mut self, item: &'x u64) -> Result<(), GrowError> {
+    fn push(&mut self, item: &'x u64) -> Result<(), GrowError>
+        requires sound { IsSound unaries_format (owned_unaries self.old) }
+        ensures ok { OnOk result (Took unaries_format (owned_unaries self.old) (owned_unaries self.new) (word_row item.now ∷ [])) }
+        ensures err { IfErr result (λ e. Refused unaries_format (owned_unaries self.old) (owned_unaries self.new) (word_row item.now ∷ []) e) }
+        ensures offset { item.now < last_offset (owned_unaries self.old) → result ≡ Err GrowError.Offset }
+        ensures full { last_offset (owned_unaries self.old) ≤ item.now → 2 ^ 64 ≤ length (ranked_bits self.old.bits) + (item.now - last_offset (owned_unaries self.old)) + 1 → result ≡ Err GrowError.Length }
+    {
         self.push_ref(item)
     }
 }
 
 impl PushRef<u64> for Owned {
-    fn push_ref(&mut self, item: &u64) -> Result<(), GrowError> {
+    fn push_ref(&mut self, item: &u64) -> Result<(), GrowError>
+        requires sound { IsSound unaries_format (owned_unaries self.old) }
+        ensures ok { OnOk result (Took unaries_format (owned_unaries self.old) (owned_unaries self.new) (word_row item.now ∷ [])) }
+        ensures err { IfErr result (λ e. Refused unaries_format (owned_unaries self.old) (owned_unaries self.new) (word_row item.now ∷ []) e) }
+        ensures offset { item.now < last_offset (owned_unaries self.old) → result ≡ Err GrowError.Offset }
+        ensures full { last_offset (owned_unaries self.old) ≤ item.now → 2 ^ 64 ≤ length (ranked_bits self.old.bits) + (item.now - last_offset (owned_unaries self.old)) + 1 → result ≡ Err GrowError.Length }
+    {
         Push::<u64>::push(self, *item)
     }
 }
@@ -292,8 +318,17 @@ impl<'x> ExtendFrom<Viewed<'x>> for Owned {
         Held::add_room(room, view.bits)
     }
 
-    /// Pushes the offsets of the range in turn, or none of them: Offset where the first is below the last of its own.
-    fn extend_from_self(&mut self, view: Viewed<'x>, range: Range<usize>) -> Result<(), GrowError> {
+    /// Pushes the offsets of the range in turn, or none of them. Offset is answered where the first is below the last of
+    /// its own.
+    fn extend_from_self(&mut self, view: Viewed<'x>, range: Range<usize>) -> Result<(), GrowError>
+        requires sound { IsSound unaries_format (owned_unaries self.old) }
+        requires view_sound { IsSound unaries_format (unaries_content view_bytes view_bytes view_bytes view) }
+        requires ordered { range.start ≤ range.«end» }
+        requires in_range { range.«end» ≤ length (unaries_format.rows (unaries_content view_bytes view_bytes view_bytes view)) }
+        ensures ok { OnOk result (Copied unaries_format (owned_unaries self.old) (owned_unaries self.new) range.start (take (range.«end» - range.start) (drop range.start (unaries_format.rows (unaries_content view_bytes view_bytes view_bytes view.entry))))) }
+        ensures err { IfErr result (λ e. Refused unaries_format (owned_unaries self.old) (owned_unaries self.new) (take (range.«end» - range.start) (drop range.start (unaries_format.rows (unaries_content view_bytes view_bytes view_bytes view.entry)))) e) }
+        ensures offset { (n : ℕ) → range.start < range.«end» → slice_get (unaries_format.rows (unaries_content view_bytes view_bytes view_bytes view.entry)) range.start ≡ Some (number n) → n < last_offset (owned_unaries self.old) → result ≡ Err GrowError.Offset }
+    {
         let before = self.len();
         for i in range.start..range.end {
             match Push::<u64>::push(self, view.get(i)) {
@@ -308,8 +343,8 @@ impl<'x> ExtendFrom<Viewed<'x>> for Owned {
     }
 }
 
-/// The bits of the range are copied at once, since between two trues they are the same whatever stands before; so no
-/// offset is read but the last. The turns of that copy are not added to the tally.
+/// The bits of the range are copied at once, since between two trues they are the same whatever stands before. The turns
+/// of that copy are not added to the tally.
 impl<'x> ExtendShifted<Viewed<'x>> for Owned {
     fn extend_shifted_tallied<L>(
         &mut self,

@@ -1,5 +1,5 @@
 //! Offsets in unary that are all known before the first is taken: their bits are gathered in words.
-ghost use Rattle.std.specs.Prelude.{◌≡◌, ◌+◌, ◌^◌, ◌<◌, ◌≤◌, [], ◌∷◌, ◌++◌, true, false, OnOk, IfOk, IfErr};
+ghost use Rattle.std.specs.Prelude.{◌≡◌, ◌+◌, ◌^◌, ◌<◌, ◌≤◌, [], ◌∷◌, ◌++◌, length, true, false, OnOk, IfOk, IfErr};
 ghost use Rattle.columnar_core.specs.Format.{IsSound, slice};
 ghost use Rattle.columnar_core.specs.Bounds.{numbers, last_or};
 ghost use Rattle.columnar_core.specs.Earlier.{IsTrueOfNew};
@@ -8,7 +8,7 @@ ghost use Rattle.columnar_core.specs.WordViews.{le_bytes};
 ghost use Rattle.columnar_bits.specs.Bits.{bit as bit_of, truths};
 ghost use Rattle.columnar_bits.specs.BoolColumns.{bools_format, owned_content, owned_bits};
 ghost use Rattle.columnar_sums.specs.Unary.{all_false, runs, falls};
-ghost use Rattle.columnar_sums.specs.UnaryColumns.{unaries_format};
+ghost use Rattle.columnar_sums.specs.UnaryColumns.{unaries_format, offsets_of};
 
 use super::grow::push_falses;
 use columnar_bits::bools::Bools;
@@ -94,6 +94,8 @@ pub(crate) fn in_unary(alloc: Global, offsets: &Vec<u64>) -> Result<Bits, GrowEr
     ensures sound { IfOk result (λ b. IsSound bools_format (owned_content b)) }
     ensures bits { IfOk result (λ b. owned_bits b ≡ runs 0 (numbers (words_format.rows (slice (le_bytes offsets.now.items))))) }
     ensures rise { IfOk result (λ b. falls 0 (numbers (words_format.rows (slice (le_bytes offsets.now.items)))) ≡ false) }
+    ensures offset { falls 0 (offsets_of offsets.now.items) ≡ true → result ≡ Err GrowError.Offset }
+    ensures length { falls 0 (offsets_of offsets.now.items) ≡ false → 2 ^ 64 ≤ last_or 0 (offsets_of offsets.now.items) + length (offsets_of offsets.now.items) → result ≡ Err GrowError.Length }
     ensures err { IfErr result (λ e. IsTrueOfNew e unaries_format (words_format.rows (slice (le_bytes offsets.now.items)))) }
 {
     let last = last_of(offsets);

@@ -1,4 +1,4 @@
-use Rattle.std.proofs.Common.{◌≡◌, ◌-◌, arith}
+use Rattle.std.proofs.Common.{◌≡◌, ◌-◌, ◌<◌, arith}
 use Rattle.columnar_core.specs.AlikeLaws.{row_eq_exact}
 use Rattle.columnar_core.specs.ChangeLaws.{took_none, took_more, refused_more, undone, grew_stayed}
 use Rattle.columnar_core.specs.Elements.{word_row}
@@ -6,7 +6,7 @@ use Rattle.columnar_core.specs.WordViews.{view_bytes}
 use Rattle.columnar_sums.specs.RankColumns.{ranks_format}
 use Rattle.columnar_sums.specs.RankLaws.{ranks_lawful}
 use Rattle.columnar_sums.specs.UnaryLaws.{unary_lawful}
-use Rattle.columnar_sums.specs.UnaryChangeLaws.{copied_exactly}
+use Rattle.columnar_sums.specs.UnaryChangeLaws.{copied_exactly, range_rises, range_refuses}
 use Rattle.columnar_sums.specs.UnaryColumns.{unaries_format, unaries_content, owned_unaries}
 use Rattle.columnar_sums.proofs.unaries.grow.OwnedExtendFromViewed.extend_from_self.Goals as goal
 
@@ -27,3 +27,13 @@ pub returns-clause-ok : goal.returns-clause-ok
 returns-clause-ok c =
     let e : c.loop-i.i ≡ c.args.range.«end» = omega (arith, c.requires.ordered, c.loop-i.auto.i-end c.requires.ordered) in
     copied_exactly unaries_format c.args.range.start row_eq_exact (rw e at c.loop-i.invariant)
+
+pub returns-in-Err-clause-offset : goal.returns-in-Err-clause-offset
+returns-in-Err-clause-offset c = λ n l h b.
+    range_refuses {x = owned_unaries c.args.self.now} {y = owned_unaries c.loop-i.self} (unaries_format.rows (unaries_content view_bytes view_bytes view_bytes c.args.view)) c.args.range.start c.loop-i.i n c.get.result _ c.loop-i.invariant c.loop-i.auto.i h b c.get.ensures.row (omega arith) c.in-Err.ensures.offset
+
+pub returns-clause-offset : goal.returns-clause-offset
+returns-clause-offset c = λ n l h b.
+    let i : c.args.range.start < c.loop-i.i = omega (arith, l, c.loop-i-test.false) in
+    let w = range_rises {x = owned_unaries c.args.self.now} {y = owned_unaries c.loop-i.self} (unaries_format.rows (unaries_content view_bytes view_bytes view_bytes c.args.view)) c.args.range.start c.loop-i.i n c.loop-i.invariant i h in
+    absurd (omega (arith, w, b))

@@ -42,7 +42,7 @@ impl<CC: Words, VC: Words, WC: Words> Column for Unaries<CC, VC, WC> {
 }
 
 impl<CC: Words, VC: Words, WC: Words> Len for Unaries<CC, VC, WC> {
-    /// By one rank: at most 16 words are read.
+    /// By the rank of the end: `RankSelect::rank_tallied` tells what that reads.
     fn len(&self) -> usize {
         self.bits.rank(self.bits.len())
     }
@@ -51,7 +51,7 @@ impl<CC: Words, VC: Words, WC: Words> Len for Unaries<CC, VC, WC> {
 impl<CC: Words, VC: Words, WC: Words> Index for Unaries<CC, VC, WC> {
     type Ref = u64;
 
-    /// By one select.
+    /// By a select: `RankSelect::select_tallied` tells what that reads.
     fn get(&self, index: usize) -> u64 {
         (self.place_of(index) - index) as u64
     }
@@ -137,7 +137,8 @@ impl<CC: Words, VC: Words, WC: Words> Offsets for Unaries<CC, VC, WC> {
         self.get(index)
     }
 
-    /// The next true is looked for from the end of the offset before: at most the words between are read.
+    /// The next true is looked for from the end of the offset before. What is read to go over all offsets,
+    /// `UnaryEnds::next_tallied` tells.
     fn offset_after(&self, index: usize, before: u64) -> u64 {
         match self.bits.next_true(before as usize + index) {
             Some(place) => (place - index) as u64,

@@ -16,7 +16,7 @@ use Rattle.columnar_sums.specs.WeaveLaws.{somes-append}
 use Rattle.columnar_lookback.specs.Recall.{recent, latest, recall, reaches}
 use Rattle.columnar_lookback.specs.RecallLaws.{Among, IsStoring, recall_parts, recall_stayed, recall_took, recall_refused, recall_at, reaches-take, length-recall, recall-take, recall_front, range_recalled, Each, each_taken, each_dropped}
 use Rattle.columnar_lookback.specs.Repeats.{repeats_code, repeats_format, last_is, values_between}
-use Rattle.columnar_lookback.specs.RepeatLaws.{option_values, repeats_alike, repeats_lawful, reaches_near, recall_near, latest_grows}
+use Rattle.columnar_lookback.specs.RepeatLaws.{repeats_options, option_values, repeats_alike, repeats_lawful, reaches_near, recall_near, latest_grows}
 
 -- one row
 
@@ -92,6 +92,29 @@ values_copied us start end old middle new b i p q =
     let d : values_between us (start + 1) end ≡ length (somes (take n (drop (suc start) us))) = ap (λ (m : ℕ). length (somes (take n (drop m us)))) z in
     let f : values_between us start end ≡ length (somes (take (suc n) (drop start us))) = ap (λ (m : ℕ). length (somes (take m (drop start us)))) e in
     omega (arith, p, q, d, f, values_after us n start, at_most_one b)
+
+-- the same, for the row that stands there
+pub values_counted : (same : Row → Row → Bool) (xs : List Row) (q r : Row) (old middle new rest : ℕ) → Some q ≡ Some r → middle ≡ old + cond (last_is same xs q) 0 1 → new ≡ middle + rest → new ≡ old + cond (last_is same xs r) 0 1 + rest
+values_counted same xs q r old middle new rest h p e =
+    let d : q ≡ r = cc in
+    let m : middle ≡ old + cond (last_is same xs r) 0 1 = rw d at p in
+    rw (← m) e
+
+-- a column without rows has no values, and those of a front that it takes are its values
+no_values_held : (t : Format) {x y : Content} → IsSound (repeats_format t) (both x y) → (repeats_format t).rows (both x y) ≡ [] → length (t.rows y) ≡ 0
+no_values_held t {x} {y} s e =
+    let n : weave (ranks_bits x) (t.rows y) ≡ [] = nil_from_length (weave (ranks_bits x) (t.rows y)) (sym (length-recall repeats_code [] (weave (ranks_bits x) (t.rows y))) ∙ ap length e) in
+    ap length (sym (options_somes t (repeats_options t s)) ∙ ap somes n)
+
+pub nothing_between : (t : Format) {x : Content} (y : Content) → IsSound (repeats_format t) (both x y) → (us : List Row) (end : ℕ) → (repeats_format t).rows (both x y) ≡ [] → end ≡ 0 → length (t.rows y) ≡ values_between us 0 end
+nothing_between t y s us end e z = rw z (no_values_held t s e)
+
+pub values_front : (t : Format) {x y v w : Content} (us : List Row) (start end : ℕ) → IsLawful t → IsSound (repeats_format t) (both x y) → (repeats_format t).rows (both x y) ≡ [] → start ≡ 0 → Took (options_format t) (both x y) (both v w) (take (end - start) (drop start us)) → length (t.rows w) ≡ values_between us 0 end
+values_front t {x} {y} {v} {w} us start end l s e z g =
+    let n = values_stored t (take (end - start) (drop start us)) l (repeats_options t s) g in
+    let k = no_values_held t s e in
+    let q : length (t.rows w) ≡ values_between us start end = omega (arith, n, k) in
+    rw z at q
 
 -- ranges
 

@@ -1,5 +1,5 @@
 //! Columns that refer back to one of the last values, as they grow and are cut.
-ghost use Rattle.std.specs.Prelude.{◌≡◌, ◌≢◌, ◌≤◌, ◌+◌, ◌-◌, ◌++◌, [], ◌∷◌, length, take, drop, cond, is_none, OnOk, IfErr, IfSome};
+ghost use Rattle.std.specs.Prelude.{◌≡◌, ◌≢◌, ◌≤◌, ◌+◌, ◌-◌, ◌++◌, [], ◌∷◌, length, take, drop, cond, is_none, None, OnOk, IfErr, IfSome};
 ghost use Rattle.columnar_lookback.specs.LookbackLaws.{lookbacks_lawful, same_lookbacks};
 ghost use Rattle.std.specs.Int.{to_le_bytes, w8};
 ghost use Rattle.columnar_base.specs.Row.{number};
@@ -69,7 +69,8 @@ impl<TC: Reserve, const N: u8> Reserve for Lookbacks<TC, N, Vec<u8>, Vec<u64>, V
 /// An item that is the same as one of the last `N` values is kept as its least distance, any other as a value.
 impl<T: Item + Drop, TC: Truncate + Push<T> + SameAs<T>, const N: u8> Push<T>
     for Lookbacks<TC, N, Vec<u8>, Vec<u64>, Vec<u64>, [u64; 2]> {
-    /// Stores the least distance at which a value is the same as the item, and one value more where there is none.
+    /// Stores the least distance at which a value is the same as the item; where there is none, the item as one value
+    /// more.
     fn push(&mut self, item: T) -> Result<(), GrowError>
         requires sound { IsSound (lookbacks_format TC.format bytes_format) (owned_lookbacks TC.content self.old.inner) }
         requires valid { T.valid item }
@@ -78,17 +79,19 @@ impl<T: Item + Drop, TC: Truncate + Push<T> + SameAs<T>, const N: u8> Push<T>
         ensures stored { OnOk result (length (TC.format.rows (TC.content self.new.inner.oks)) ≡ length (TC.format.rows (TC.content self.old.inner.oks)) + cond (is_none (nearest TC.format.kin N (values_back TC.format (owned_lookbacks TC.content self.old.inner)) (T.meaning item))) 1 0) }
         ensures distance { OnOk result (IfSome (nearest TC.format.kin N (values_back TC.format (owned_lookbacks TC.content self.old.inner)) (T.meaning item)) (λ m. bytes_format.rows (elements (to_le_bytes w8) self.new.inner.errs.items) ≡ bytes_format.rows (elements (to_le_bytes w8) self.old.inner.errs.items) ++ number m ∷ [])) }
         ensures kept { OnOk result (kept_rows TC.format (owned_lookbacks TC.content self.new.inner) ≡ kept_rows TC.format (owned_lookbacks TC.content self.old.inner) ++ nearest TC.format.kin N (values_back TC.format (owned_lookbacks TC.content self.old.inner)) (T.meaning item) ∷ []) }
+        ensures value { OnOk result (nearest TC.format.kin N (values_back TC.format (owned_lookbacks TC.content self.old.inner)) (T.meaning item) ≡ None → Took TC.format (TC.content self.old.inner.oks) (TC.content self.new.inner.oks) (T.meaning item ∷ [])) }
     {
         match self.distance_to(&item) {
             Some(back) => Push::<Result<T, u8>>::push(&mut self.inner, Err(back)),
-            None => Push::<Result<T, u8>>::push(&mut self.inner, Ok(item)),
+            None => push_marked(&mut self.inner.oks, item, &mut self.inner.indexes, true),
         }
     }
 }
 
 impl<T: Item, TC: Truncate + PushRef<T> + SameAs<T>, const N: u8> PushRef<T>
     for Lookbacks<TC, N, Vec<u8>, Vec<u64>, Vec<u64>, [u64; 2]> {
-    /// Stores the least distance at which a value is the same as the item, and one value more where there is none.
+    /// Stores the least distance at which a value is the same as the item; where there is none, the item as one value
+    /// more.
     fn push_ref(&mut self, item: &T) -> Result<(), GrowError>
         requires sound { IsSound (lookbacks_format TC.format bytes_format) (owned_lookbacks TC.content self.old.inner) }
         requires valid { T.valid item.now }
@@ -97,6 +100,7 @@ impl<T: Item, TC: Truncate + PushRef<T> + SameAs<T>, const N: u8> PushRef<T>
         ensures stored { OnOk result (length (TC.format.rows (TC.content self.new.inner.oks)) ≡ length (TC.format.rows (TC.content self.old.inner.oks)) + cond (is_none (nearest TC.format.kin N (values_back TC.format (owned_lookbacks TC.content self.old.inner)) (T.meaning item.now))) 1 0) }
         ensures distance { OnOk result (IfSome (nearest TC.format.kin N (values_back TC.format (owned_lookbacks TC.content self.old.inner)) (T.meaning item.now)) (λ m. bytes_format.rows (elements (to_le_bytes w8) self.new.inner.errs.items) ≡ bytes_format.rows (elements (to_le_bytes w8) self.old.inner.errs.items) ++ number m ∷ [])) }
         ensures kept { OnOk result (kept_rows TC.format (owned_lookbacks TC.content self.new.inner) ≡ kept_rows TC.format (owned_lookbacks TC.content self.old.inner) ++ nearest TC.format.kin N (values_back TC.format (owned_lookbacks TC.content self.old.inner)) (T.meaning item.now) ∷ []) }
+        ensures value { OnOk result (nearest TC.format.kin N (values_back TC.format (owned_lookbacks TC.content self.old.inner)) (T.meaning item.now) ≡ None → Took TC.format (TC.content self.old.inner.oks) (TC.content self.new.inner.oks) (T.meaning item.now ∷ [])) }
     {
         match self.distance_to(item) {
             Some(back) => push_marked(&mut self.inner.errs, back, &mut self.inner.indexes, false),

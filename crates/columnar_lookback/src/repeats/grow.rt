@@ -1,5 +1,6 @@
 //! Columns that keep a run of rows once, as they grow and are cut.
-ghost use Rattle.std.specs.Prelude.{◌≡◌, ◌≤◌, ◌+◌, ◌-◌, [], ◌∷◌, length, take, drop, cond, OnOk, IfErr};
+ghost use Rattle.std.specs.Prelude.{◌≡◌, ◌≢◌, ◌<◌, ◌≤◌, ◌+◌, ◌-◌, [], ◌∷◌, length, take, drop, slice_get, Some, cond, false, OnOk, IfErr};
+ghost use Rattle.columnar_base.specs.Row.{Row};
 ghost use Rattle.columnar_base.specs.Format.{IsSound};
 ghost use Rattle.columnar_base.specs.Change.{Took, Copied, Refused};
 ghost use Rattle.columnar_sums.specs.Options.{options_format};
@@ -14,7 +15,7 @@ use columnar_base::traits::{Clear, Index, Item, Len, Push, PushRef};
 use columnar_base::tuple::taken_back;
 use columnar_base::view::View;
 use columnar_core::container::{Borrow, Container, ExtendFrom, Reborrow};
-use columnar_sums::marked::push_ref_marked;
+use columnar_sums::marked::{push_marked, push_ref_marked};
 use columnar_sums::option::Options;
 use std::alloc::Global;
 use std::ops::Range;
@@ -66,31 +67,33 @@ impl<TC: Reserve> Reserve for Repeats<TC, Vec<u64>, Vec<u64>, [u64; 2]> {
 /// An item that is the same as the last row is kept as None, any other as a value.
 impl<T: Item + Drop, TC: Truncate + Push<T> + SameAs<T>> Push<T>
     for Repeats<TC, Vec<u64>, Vec<u64>, [u64; 2]> {
-    /// Stores one value more, but none where the item is the same as the last row.
+    /// Stores the item as one value more, but no value where the item is the same as the last row.
     fn push(&mut self, item: T) -> Result<(), GrowError>
         requires sound { IsSound (repeats_format TC.format) (owned_repeats TC.content self.old.inner) }
         requires valid { T.valid item }
         ensures ok { OnOk result (Took (repeats_format TC.format) (owned_repeats TC.content self.old.inner) (owned_repeats TC.content self.new.inner) (T.meaning item ∷ [])) }
         ensures err { IfErr result (λ e. Refused (repeats_format TC.format) (owned_repeats TC.content self.old.inner) (owned_repeats TC.content self.new.inner) (T.meaning item ∷ []) e) }
         ensures stored { OnOk result (length (TC.format.rows (TC.content self.new.inner.somes)) ≡ length (TC.format.rows (TC.content self.old.inner.somes)) + cond (last_is TC.format.kin ((repeats_format TC.format).rows (owned_repeats TC.content self.old.inner)) (T.meaning item)) 0 1) }
+        ensures value { OnOk result (last_is TC.format.kin ((repeats_format TC.format).rows (owned_repeats TC.content self.old.inner)) (T.meaning item) ≡ false → Took TC.format (TC.content self.old.inner.somes) (TC.content self.new.inner.somes) (T.meaning item ∷ [])) }
     {
         if self.is_repeated(&item) {
             Push::<Option<T>>::push(&mut self.inner, None)
         } else {
-            Push::<Option<T>>::push(&mut self.inner, Some(item))
+            push_marked(&mut self.inner.somes, item, &mut self.inner.indexes, true)
         }
     }
 }
 
 impl<T: Item, TC: Truncate + PushRef<T> + SameAs<T>> PushRef<T>
     for Repeats<TC, Vec<u64>, Vec<u64>, [u64; 2]> {
-    /// Stores one value more, but none where the item is the same as the last row.
+    /// Stores the item as one value more, but no value where the item is the same as the last row.
     fn push_ref(&mut self, item: &T) -> Result<(), GrowError>
         requires sound { IsSound (repeats_format TC.format) (owned_repeats TC.content self.old.inner) }
         requires valid { T.valid item.now }
         ensures ok { OnOk result (Took (repeats_format TC.format) (owned_repeats TC.content self.old.inner) (owned_repeats TC.content self.new.inner) (T.meaning item.now ∷ [])) }
         ensures err { IfErr result (λ e. Refused (repeats_format TC.format) (owned_repeats TC.content self.old.inner) (owned_repeats TC.content self.new.inner) (T.meaning item.now ∷ []) e) }
         ensures stored { OnOk result (length (TC.format.rows (TC.content self.new.inner.somes)) ≡ length (TC.format.rows (TC.content self.old.inner.somes)) + cond (last_is TC.format.kin ((repeats_format TC.format).rows (owned_repeats TC.content self.old.inner)) (T.meaning item.now)) 0 1) }
+        ensures value { OnOk result (last_is TC.format.kin ((repeats_format TC.format).rows (owned_repeats TC.content self.old.inner)) (T.meaning item.now) ≡ false → Took TC.format (TC.content self.old.inner.somes) (TC.content self.new.inner.somes) (T.meaning item.now ∷ [])) }
     {
         if self.is_repeated(item) {
             Push::<bool>::push(&mut self.inner.indexes, false)
@@ -112,7 +115,8 @@ impl<'x, V: Index + Copy, TC: ExtendFrom<V> + Push<V::Ref> + SameAs<V::Ref>> Ext
         <Inner<TC> as ExtendFrom<ViewedInner<'x, V>>>::add_room(room, view.inner)
     }
 
-    /// Stores at most one value more than the range of the view does.
+    /// Stores the first row of the range as a value where it is not the same as the last row, and the values that stand
+    /// after it in the range of the view; of a front that is copied into a column without rows the values of that range.
     fn extend_from_self(
         &mut self,
         view: Viewed<'x, V>,
@@ -125,6 +129,8 @@ impl<'x, V: Index + Copy, TC: ExtendFrom<V> + Push<V::Ref> + SameAs<V::Ref>> Ext
         ensures ok { OnOk result (Copied (repeats_format TC.format) (owned_repeats TC.content self.old.inner) (owned_repeats TC.content self.new.inner) range.start (take (range.«end» - range.start) (drop range.start ((repeats_format V.format).rows (viewed_repeats V.content view.entry.inner))))) }
         ensures err { IfErr result (λ e. Refused (repeats_format TC.format) (owned_repeats TC.content self.old.inner) (owned_repeats TC.content self.new.inner) (take (range.«end» - range.start) (drop range.start ((repeats_format V.format).rows (viewed_repeats V.content view.entry.inner)))) e) }
         ensures stored { OnOk result (length (TC.format.rows (TC.content self.new.inner.somes)) ≤ length (TC.format.rows (TC.content self.old.inner.somes)) + (values_between ((options_format V.format).rows (viewed_repeats V.content view.entry.inner)) range.start range.«end» + 1)) }
+        ensures counted { OnOk result ((r : Row) → range.start < range.«end» → slice_get ((repeats_format V.format).rows (viewed_repeats V.content view.entry.inner)) range.start ≡ Some r → ((repeats_format TC.format).rows (owned_repeats TC.content self.old.inner) ≡ [] → range.start ≢ 0) → length (TC.format.rows (TC.content self.new.inner.somes)) ≡ length (TC.format.rows (TC.content self.old.inner.somes)) + cond (last_is TC.format.kin ((repeats_format TC.format).rows (owned_repeats TC.content self.old.inner)) r) 0 1 + values_between ((options_format V.format).rows (viewed_repeats V.content view.entry.inner)) (range.start + 1) range.«end») }
+        ensures front { OnOk result ((repeats_format TC.format).rows (owned_repeats TC.content self.old.inner) ≡ [] → range.start ≡ 0 → length (TC.format.rows (TC.content self.new.inner.somes)) ≡ values_between ((options_format V.format).rows (viewed_repeats V.content view.entry.inner)) 0 range.«end») }
     {
         let start = range.start;
         let end = range.end;

@@ -1,6 +1,7 @@
-use Rattle.std.proofs.Common.{◌<◌, ◌^◌, sym, ◌∙◌, arith}
+use Rattle.std.proofs.Common.{ℕ, ◌≡◌, ◌<◌, ◌^◌, sym, ◌∙◌, arith}
+use Rattle.std.specs.Prelude.{Some, None}
 use Rattle.std.specs.Int.{w8}
-use Rattle.std.proofs.lemmas.Result.{IfErr-weaker}
+use Rattle.std.proofs.lemmas.Result.{on_ok_weaker, IfErr-weaker}
 use Rattle.columnar_base.specs.ElementLaws.{elements_lawful}
 use Rattle.columnar_base.specs.Row.{ok, err}
 use Rattle.columnar_base.specs.Numbers.{unsigned_row, unsigned_row_of}
@@ -43,3 +44,12 @@ returns-in-Some-clause-kept g c = let e = (sym c.distance_to.ensures ∙ c.in-So
 
 pub returns-in-None-clause-kept : goal.returns-in-None-clause-kept
 returns-in-None-clause-kept g c = let e = sym c.distance_to.ensures ∙ c.in-None.is in on_ok_both c.push_ref_marked.result (λ h k. pushed_value g.TC.Column.format g.row.N (g.T.Item.meaning c.args.item.now) e (results_took_ok g.TC.Column.format bytes_format g.met.TC.Truncate.lawful.same ((elements_lawful 1 1 (unsigned_row_of w8)).same) (lookbacks_results g.TC.Column.format bytes_format c.requires.sound) h k)) c.push_ref_marked.ensures.value c.push_ref_marked.ensures.bit
+
+pub returns-in-Some-clause-value : goal.returns-in-Some-clause-value
+returns-in-Some-clause-value g c = on_ok_weaker c.push_marked.result (λ h f. absurd (apart c.in-Some.back (sym (sym c.distance_to.ensures ∙ c.in-Some.is) ∙ f))) c.push_marked.ensures.value
+  where
+    apart : (n : ℕ) → Some n ≡ None → ⊥
+    apart n h = cc
+
+pub returns-in-None-clause-value : goal.returns-in-None-clause-value
+returns-in-None-clause-value g c = on_ok_weaker c.push_ref_marked.result (λ h f. h) c.push_ref_marked.ensures.value

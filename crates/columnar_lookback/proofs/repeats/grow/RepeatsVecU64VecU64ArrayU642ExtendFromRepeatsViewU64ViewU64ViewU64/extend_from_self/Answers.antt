@@ -7,9 +7,9 @@ use Rattle.columnar_sums.specs.Options.{weave, options_format}
 use Rattle.columnar_sums.specs.RankColumns.{ranks_bits, ranks_content, owned_ranks}
 use Rattle.columnar_lookback.specs.Recall.{recall}
 use Rattle.columnar_lookback.specs.RecallLaws.{length-recall}
-use Rattle.columnar_lookback.specs.Repeats.{repeats_code, viewed_repeats}
+use Rattle.columnar_lookback.specs.Repeats.{repeats_code, repeats_format, viewed_repeats}
 use Rattle.columnar_lookback.specs.RepeatLaws.{repeats_options}
-use Rattle.columnar_lookback.specs.RepeatChangeLaws.{values_stored, values_copied, copied_nothing, repeats_copied_front, repeats_copied_rest, repeats_refused_range, repeats_refused_first, repeats_refused_rest, repeats_taken_back, repeats_nothing, repeats_something}
+use Rattle.columnar_lookback.specs.RepeatChangeLaws.{values_stored, values_copied, values_counted, values_front, nothing_between, copied_nothing, repeats_copied_front, repeats_copied_rest, repeats_refused_range, repeats_refused_first, repeats_refused_rest, repeats_taken_back, repeats_nothing, repeats_something}
 use Rattle.columnar_lookback.proofs.repeats.grow.RepeatsVecU64VecU64ArrayU642ExtendFromRepeatsViewU64ViewU64ViewU64.extend_from_self.Goals as goal
 use Rattle.columnar_lookback.proofs.repeats.grow.RepeatsVecU64VecU64ArrayU642ExtendFromRepeatsViewU64ViewU64ViewU64.extend_from_self.Goals.{else-before-eq0-via-then-before-eq0+else-start-eq0, else-before-eq0-via-else-before-eq0}
 
@@ -66,3 +66,24 @@ returns-in-Ok-clause-stored g c =
     let us = (options_format g.V.Column.format).rows (viewed_repeats g.V.Column.content c.args.view.inner) in
     let e = values_stored g.TC.Column.format (take (c.args.range.«end» - (c.args.range.start + 1)) (drop (c.args.range.start + 1) us)) g.met.TC.Truncate.lawful (repeats_options g.TC.Column.format c.in_ok-push.ensures.ok.grew.sound) c.in-Ok.ensures.ok.took in
     values_copied us c.args.range.start c.args.range.«end» _ _ _ _ (omega (arith, c.if-start-end.false)) c.in_ok-push.ensures.stored e
+
+pub returns-then-start-end-clause-counted : goal.returns-then-start-end-clause-counted
+returns-then-start-end-clause-counted g c = λ r l h f. absurd (omega (arith, l, c.if-start-end.true))
+
+pub returns-then-start-end-clause-front : goal.returns-then-start-end-clause-front
+returns-then-start-end-clause-front g c = λ p z. nothing_between g.TC.Column.format _ c.requires.sound ((options_format g.V.Column.format).rows (viewed_repeats g.V.Column.content c.args.view.inner)) c.args.range.«end» p (omega (arith, z, c.if-start-end.true))
+
+pub returns-then-start-eq0-clause-counted : goal.returns-then-start-eq0-clause-counted
+returns-then-start-eq0-clause-counted g c = on_ok_weaker c.extend_from_self.result (λ h r l k f. absurd (f (repeats_nothing g.TC.Column.format (both (owned_ranks c.args.self.now.inner.indexes) (g.TC.Column.content c.args.self.now.inner.somes)) (sym c.len-before.ensures ∙ c.if-before-eq0.true)) c.if-start-eq0.true)) c.extend_from_self.ensures.ok
+
+pub returns-then-start-eq0-clause-front : goal.returns-then-start-eq0-clause-front
+returns-then-start-eq0-clause-front g c = on_ok_weaker c.extend_from_self.result (λ h p z. values_front g.TC.Column.format ((options_format g.V.Column.format).rows (viewed_repeats g.V.Column.content c.args.view.inner)) c.args.range.start c.args.range.«end» g.met.TC.Truncate.lawful c.requires.sound p z h.took) c.extend_from_self.ensures.ok
+
+pub returns-in-Ok-clause-counted : goal.returns-in-Ok-clause-counted
+returns-in-Ok-clause-counted g c = λ r l h f.
+    let us = (options_format g.V.Column.format).rows (viewed_repeats g.V.Column.content c.args.view.inner) in
+    let e = values_stored g.TC.Column.format (take (c.args.range.«end» - (c.args.range.start + 1)) (drop (c.args.range.start + 1) us)) g.met.TC.Truncate.lawful (repeats_options g.TC.Column.format c.in_ok-push.ensures.ok.grew.sound) c.in-Ok.ensures.ok.took in
+    values_counted g.TC.Column.format.kin ((repeats_format g.TC.Column.format).rows (both (owned_ranks c.args.self.now.inner.indexes) (g.TC.Column.content c.args.self.now.inner.somes))) _ r _ _ _ _ (sym c.get.ensures.row ∙ h) c.in_ok-push.ensures.stored e
+
+pub returns-in-Ok-clause-front : goal.returns-in-Ok-clause-front
+returns-in-Ok-clause-front g c = λ p q. absurd (elim c.else-before-eq0.branch [ else-before-eq0-via-then-before-eq0+else-start-eq0 w ↦ w.if-start-eq0.false q | else-before-eq0-via-else-before-eq0 w ↦ w.if-before-eq0.false (c.len-before.ensures ∙ repeats_something g.TC.Column.format (both (owned_ranks c.args.self.now.inner.indexes) (g.TC.Column.content c.args.self.now.inner.somes)) p) ])

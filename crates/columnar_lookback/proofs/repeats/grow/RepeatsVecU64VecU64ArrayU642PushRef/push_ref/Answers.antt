@@ -1,4 +1,4 @@
-use Rattle.std.proofs.Common.{sym, ◌∙◌}
+use Rattle.std.proofs.Common.{◌≡◌, true, false, sym, ◌∙◌}
 use Rattle.std.proofs.lemmas.Result.{on_ok_weaker, IfErr-weaker}
 use Rattle.columnar_base.specs.Row.{none, some}
 use Rattle.columnar_sums.specs.MarkedLaws.{on_ok_both}
@@ -27,3 +27,12 @@ returns-then-is_repeated-clause-stored g c = let e = sym c.is_repeated.ensures �
 
 pub returns-else-is_repeated-clause-stored : goal.returns-else-is_repeated-clause-stored
 returns-else-is_repeated-clause-stored g c = let e = sym c.is_repeated.ensures ∙ c.if-is_repeated.false in on_ok_both c.push_ref_marked.result (λ h k. rw e (values_pushed g.TC.Column.format (some (g.T.Item.meaning c.args.item.now)) g.met.TC.Truncate.lawful (repeats_options g.TC.Column.format c.requires.sound) (options_took_some g.TC.Column.format g.met.TC.Truncate.lawful.same (repeats_options g.TC.Column.format c.requires.sound) h k))) c.push_ref_marked.ensures.value c.push_ref_marked.ensures.bit
+
+pub returns-then-is_repeated-clause-value : goal.returns-then-is_repeated-clause-value
+returns-then-is_repeated-clause-value g c = on_ok_weaker c.push.result (λ h f. absurd (apart (sym (sym c.is_repeated.ensures ∙ c.if-is_repeated.true) ∙ f))) c.push.ensures.ok
+  where
+    apart : true ≡ false → ⊥
+    apart h = cc
+
+pub returns-else-is_repeated-clause-value : goal.returns-else-is_repeated-clause-value
+returns-else-is_repeated-clause-value g c = on_ok_weaker c.push_ref_marked.result (λ h f. h) c.push_ref_marked.ensures.value

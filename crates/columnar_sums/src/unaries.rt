@@ -137,8 +137,8 @@ impl<CC: Words, VC: Words, WC: Words> Offsets for Unaries<CC, VC, WC> {
         self.get(index)
     }
 
-    /// The next true is looked for from the end of the offset before. What is read to go over all offsets,
-    /// `UnaryEnds::next_tallied` tells.
+    /// The next true is looked for from the end of the offset before. `ends_tallied` goes over all offsets, and tells
+    /// what it reads.
     fn offset_after(&self, index: usize, before: u64) -> u64 {
         match self.bits.next_true(before as usize + index) {
             Some(place) => (place - index) as u64,

@@ -1,4 +1,4 @@
-use Rattle.std.proofs.Common.{◌≡◌, ◌+◌, ◌^◌, ◌≤◌, true, false, List, [], sym, arith}
+use Rattle.std.proofs.Common.{◌≡◌, ◌+◌, ◌^◌, ◌≤◌, List, [], sym, arith}
 use Rattle.columnar_core.specs.Bounds.{numbers}
 use Rattle.columnar_core.specs.Elements.{words_format}
 use Rattle.columnar_core.specs.Format.{slice}

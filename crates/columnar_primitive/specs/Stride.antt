@@ -67,7 +67,7 @@ strides_format = record {
   refuses = λ e c n rs. past_count e (n + length rs);
 }
 
--- the stride of a column all of whose offsets follow it
+-- the head's stride, where no offset stands as it is
 abbrev pub strided : Content → Option ℕ
 strided (both x y) = cond (nat_eq (length (bounds_rows y)) 0) (Some (stride_of x)) None
 strided (slice bs) = None

@@ -1,11 +1,11 @@
 //! Offsets that follow a stride as far as they go, and then stand as they are.
-ghost use Rattle.std.specs.Prelude.{◌≡◌, ◌+◌, ◌-◌, ◌*◌, ◌/◌, ◌%◌, ◌^◌, ◌<◌, ◌≤◌, ◌∷◌, [], length, take, drop, slice_get, Some, Err, OnOk, OnErr, IfErr, IsOk, IsTrue, refl};
+ghost use Rattle.std.specs.Prelude.{◌≡◌, ℕ, ◌+◌, ◌-◌, ◌*◌, ◌/◌, ◌%◌, ◌^◌, ◌<◌, ◌≤◌, ◌∷◌, [], length, take, drop, slice_get, Some, Err, OnOk, OnErr, IfErr, IsOk, IsTrue, refl};
 ghost use Rattle.std.specs.Iterator.{IsFinite};
 ghost use Rattle.columnar_core.specs.Row.{number};
 ghost use Rattle.columnar_core.specs.Format.{both, slice, first, moved, IsSound};
 ghost use Rattle.columnar_core.specs.Elements.{word_row};
 ghost use Rattle.columnar_core.specs.Faults.{verdict};
-ghost use Rattle.columnar_core.specs.Bounds.{rises, numbers};
+ghost use Rattle.columnar_core.specs.Bounds.{rises, numbers, shifted};
 ghost use Rattle.columnar_core.specs.Change.{Copied, Refused, Stayed, Took, WasCut};
 ghost use Rattle.columnar_primitive.specs.Stride.{strides_format, strides_broken, strides_rows, bounds_rows, strided, head_and_bounds, follows, joins, grown, head_pushed, bounds_pushed, offsets_in, head_extended, bounds_extended, all_join, head_cut, bounds_cut};
 ghost use Rattle.columnar_primitive.specs.StrideLaws.{strides_lawful, strides_storable, strides_bounds};
@@ -17,7 +17,7 @@ use columnar_core::container::{
 };
 use columnar_core::earlier::Kept;
 use columnar_core::fault::{GrowError, StoreFault};
-use columnar_core::offsets::{ExtendShifted, Offsets, PushAfter, StoredOffsets, push_shifted};
+use columnar_core::offsets::{ExtendShifted, Offsets, PushAfter, StoredOffsets};
 use columnar_core::store::{DecodedStore, word_in_bytes};
 use columnar_core::tally::Tally;
 use columnar_core::traits::{Clear, Column, Index, Len, Push, PushRef};
@@ -74,7 +74,8 @@ impl<BC: Words, HC: Words> Strides<BC, HC> {
         (lower as usize, self.get(index) as usize)
     }
 
-    /// The stride, where all offsets follow it, as where there is none.
+    /// The stride, where no bound stands after the multiples. Where there is no offset that is what the head has: the stride
+    /// that offsets had before they were cut, 0 where none came.
     pub fn strided(&self) -> Option<u64>
         requires { IsSound strides_format (⟦<Strides<BC, HC> as Column>⟧.content self.now) }
         ensures { result ≡ strided (⟦<Strides<BC, HC> as Column>⟧.content self.now) }
@@ -542,13 +543,25 @@ impl<BC: Words, HC: Words> Offsets for Strides<BC, HC> {
 }
 
 impl PushAfter for Strides<Vec<u64>, [u64; 2]> {
-    fn push_after(&mut self, _last: u64, offset: u64) -> Result<(), GrowError> {
+    /// As `Strides::push`.
+    fn push_after(&mut self, _last: u64, offset: u64) -> Result<(), GrowError>
+        requires sound { IsSound strides_format (head_and_bounds self.old.head self.old.bounds.items) }
+        ensures ok { OnOk result (Took strides_format (head_and_bounds self.old.head self.old.bounds.items) (head_and_bounds self.new.head self.new.bounds.items) (word_row offset ∷ [])) }
+        ensures err { IfErr result (λ e. Refused strides_format (head_and_bounds self.old.head self.old.bounds.items) (head_and_bounds self.new.head self.new.bounds.items) (word_row offset ∷ []) e) }
+        ensures head { OnOk result (self.new.head ≡ head_pushed self.old.head self.old.bounds.items offset) }
+        ensures bounds { OnOk result (self.new.bounds.items ≡ bounds_pushed self.old.head self.old.bounds.items offset) }
+        ensures head_stays { OnErr result (self.new.head ≡ self.old.head) }
+        ensures bounds_stay { OnErr result (self.new.bounds.items ≡ self.old.bounds.items) }
+        ensures full { length (strides_rows (head_and_bounds self.old.head self.old.bounds.items)) ≡ 2 ^ 64 - 1 → result ≡ Err GrowError.Length }
+        ensures no_memory { length (strides_rows (head_and_bounds self.old.head self.old.bounds.items)) < 2 ^ 64 - 1 → IsTrue (joins self.old.head self.old.bounds.items offset) → IsOk result }
+    {
         Push::<u64>::push(self, offset)
     }
 }
 
-/// A push for each offset.
 impl<W: Offsets> ExtendShifted<W> for Strides<Vec<u64>, [u64; 2]> {
+    /// Pushes the moved offsets in turn, or none of them. Where each of them joins the multiples that takes no memory,
+    /// and Length is answered where there would be more than 2^64 - 1 offsets. After a refusal nothing has changed.
     fn extend_shifted_tallied<L>(
         &mut self,
         view: &W,
@@ -556,8 +569,39 @@ impl<W: Offsets> ExtendShifted<W> for Strides<Vec<u64>, [u64; 2]> {
         lower: u64,
         start: usize,
         tally: &mut Tally<L>,
-    ) -> Result<(), GrowError> {
-        push_shifted(self, view, range, lower, start, tally)
+    ) -> Result<(), GrowError>
+        requires sound { IsSound strides_format (head_and_bounds self.old.head self.old.bounds.items) }
+        requires view_sound { IsSound W.format (W.content view.now) }
+        requires ordered { range.start ≤ range.«end» }
+        requires in_range { range.«end» ≤ length (W.format.rows (W.content view.now)) }
+        requires lower { slice_get (0 ∷ numbers (W.format.rows (W.content view.now))) range.start ≡ Some lower }
+        requires held { (i n : ℕ) → range.start ≤ i → i < range.«end» → slice_get (numbers (W.format.rows (W.content view.now))) i ≡ Some n → (lower ≤ n) × (start + (n - lower) < 2 ^ 64) }
+        ensures ok { OnOk result (Took strides_format (head_and_bounds self.old.head self.old.bounds.items) (head_and_bounds self.new.head self.new.bounds.items) (take (range.«end» - range.start) (drop range.start (shifted lower start (numbers (W.format.rows (W.content view.now))))))) }
+        ensures err { IfErr result (λ e. Refused strides_format (head_and_bounds self.old.head self.old.bounds.items) (head_and_bounds self.new.head self.new.bounds.items) (take (range.«end» - range.start) (drop range.start (shifted lower start (numbers (W.format.rows (W.content view.now)))))) e) }
+        ensures head { OnOk result (self.new.head ≡ head_extended self.old.head self.old.bounds.items (numbers (take (range.«end» - range.start) (drop range.start (shifted lower start (numbers (W.format.rows (W.content view.now)))))))) }
+        ensures bounds { OnOk result (self.new.bounds.items ≡ bounds_extended self.old.head self.old.bounds.items (numbers (take (range.«end» - range.start) (drop range.start (shifted lower start (numbers (W.format.rows (W.content view.now)))))))) }
+        ensures head_stays { OnErr result (self.new.head ≡ self.old.head) }
+        ensures bounds_stay { OnErr result (self.new.bounds.items ≡ self.old.bounds.items) }
+        ensures full { 2 ^ 64 - 1 < length (strides_rows (head_and_bounds self.old.head self.old.bounds.items)) + (range.«end» - range.start) → IsTrue (all_join self.old.head self.old.bounds.items (numbers (take (range.«end» - range.start) (drop range.start (shifted lower start (numbers (W.format.rows (W.content view.now)))))))) → result ≡ Err GrowError.Length }
+        ensures no_memory { length (strides_rows (head_and_bounds self.old.head self.old.bounds.items)) + (range.«end» - range.start) ≤ 2 ^ 64 - 1 → IsTrue (all_join self.old.head self.old.bounds.items (numbers (take (range.«end» - range.start) (drop range.start (shifted lower start (numbers (W.format.rows (W.content view.now)))))))) → IsOk result }
+        ensures turns { tally.new.turns ≤ tally.old.turns + (range.«end» - range.start) }
+    {
+        let head_before = self.head;
+        let count_before = self.bounds.len();
+        let mut last = lower;
+        for i in range.start..range.end {
+            tally.tick();
+            last = view.offset_after(i, last);
+            match Strides::push(self, start as u64 + (last - lower)) {
+                Ok(()) => {}
+                Err(error) => {
+                    self.head = head_before;
+                    self.bounds.truncate(count_before);
+                    return Err(error);
+                }
+            }
+        }
+        Ok(())
     }
 }
 

@@ -19,13 +19,16 @@ pub no_bounds : (bs : List ℕ) → length bs ≡ 0 → bounds_rows (slice bs) �
 no_bounds [] e = refl
 no_bounds (b ∷ bs) e = absurd (omega arith)
 
-pub tried_ok : (k : ℕ) (hs bs cs : List ℕ) → length bs ≡ 0 → word hs 0 ≡ k → length cs ≡ 8 → word cs 0 ≡ word hs 1 → (strided (both (slice hs) (slice bs)) ≡ Some k) × (IsSound strides_format (both (slice hs) (slice bs)) → (IsSound (fixed_format k) (slice cs) × (fixed_rows k (slice cs) ≡ strides_rows (both (slice hs) (slice bs)))))
+pub tried_ok : (k : ℕ) (hs bs cs : List ℕ) → length bs ≡ 0 → word hs 0 ≡ k → length cs ≡ 8 → word cs 0 ≡ word hs 1 → (strided (both (slice hs) (slice bs)) ≡ Some k) × ((fixed_rows k (slice cs) ≡ strides_rows (both (slice hs) (slice bs))) × (IsSound strides_format (both (slice hs) (slice bs)) → IsSound (fixed_format k) (slice cs)))
 tried_ok k hs bs cs e s l w =
     let n = no_bounds bs e in (
       rw (n, s) refl,
-      λ sound.
-          let p = strides_parts sound in
-          (fixed_sound k (record { size = l; fits = rw (w, ← s) p.fits }), rw (w, n, s) (sym (append-nil (multiples k 0 (word hs 1))))),
+      (
+        rw (w, n, s) (sym (append-nil (multiples k 0 (word hs 1)))),
+        λ sound.
+            let p = strides_parts sound in
+            fixed_sound k (record { size = l; fits = rw (w, ← s) p.fits }),
+      ),
     )
 
 -- a whole number of words that is none

@@ -325,7 +325,15 @@ impl<const K: u64, CC: Words> Offsets for Fixeds<K, CC> {
 }
 
 impl<const K: u64> PushAfter for Fixeds<K, u64> {
-    fn push_after(&mut self, _last: u64, offset: u64) -> Result<(), GrowError> {
+    /// As the push of a `u64`.
+    fn push_after(&mut self, _last: u64, offset: u64) -> Result<(), GrowError>
+        requires sound { IsSound (fixed_format K) (counted self.old.count) }
+        ensures ok { OnOk result (Took (fixed_format K) (counted self.old.count) (counted self.new.count) (word_row offset ∷ [])) }
+        ensures err { IfErr result (λ e. Refused (fixed_format K) (counted self.old.count) (counted self.new.count) (word_row offset ∷ []) e) }
+        ensures limit { IfErr result IsLimit }
+        ensures length { (result ≡ Err GrowError.Length) ↔ IsTrue (passes K (self.old.count + 1)) }
+        ensures offset { (result ≡ Err GrowError.Offset) ↔ (IsFalse (passes K (self.old.count + 1)) × (offset ≡ K * (self.old.count + 1) → ⊥)) }
+    {
         Push::<u64>::push(self, offset)
     }
 }
@@ -368,7 +376,8 @@ fn all_follow<HC: Words, BC: Words>(head: &HC, bounds: &BC, stride: u64) -> bool
     head.word(0) == stride
 }
 
-/// Ok exactly where all offsets follow the stride `K`; else the column is given back as it is.
+/// Ok exactly where `strided` answers `Some(K)`: no bound stands after the multiples, and the stride is `K`. An empty
+/// column that has no stride yet answers `Some(0)`. Else the column is given back as it is.
 impl<const K: u64> TryFrom<Strides<Vec<u64>, [u64; 2]>> for Fixeds<K, u64> {
     type Error = Strides<Vec<u64>, [u64; 2]>;
 
@@ -385,8 +394,9 @@ impl<const K: u64> TryFrom<Strides<Vec<u64>, [u64; 2]>> for Fixeds<K, u64> {
     }
 }
 
-/// Ok exactly where all offsets of a well-formed view follow the stride `K`. Else the view is given back as it is, well
-/// formed or not. A view that is not well formed may become one that is not either.
+/// Ok exactly where `strided` answers `Some(K)`, of a well-formed view: no bound stands after the multiples, and the
+/// stride is `K`. Else the view is given back as it is, well formed or not. A view that is not well formed may become one
+/// that is not either, of the same rows.
 impl<'v, const K: u64> TryFrom<Strides<View<'v, u64>, View<'v, u64>>> for Fixeds<K, View<'v, u64>> {
     type Error = Strides<View<'v, u64>, View<'v, u64>>;
 

@@ -7,7 +7,8 @@ use columnar_core::earlier::Earlier;
 use columnar_core::offsets::StoredOffsets;
 use std::alloc::Global;
 
-/// The earlier form is that of the lists over those of both parts. Offset is never answered, since the old bounds rise.
+/// The earlier form is that of the lists over those of both parts. Offset is answered only where the bounds' own `from_old`
+/// answers it of bounds that rise, which none of this library's does.
 impl<TC: Earlier, BC: Earlier<Old: StoredOffsets> + Drop> Earlier for Vecs<TC, BC> {
     type Old = Vecs<TC::Old, BC::Old>;
 

@@ -7,7 +7,8 @@ use columnar_core::earlier::Earlier;
 use columnar_core::offsets::StoredOffsets;
 use std::alloc::Global;
 
-/// The earlier form is that of the strings over those of both parts. Offset is never answered, since the old bounds rise.
+/// The earlier form is that of the strings over those of both parts. Offset is answered only where the bounds' own `from_old`
+/// answers it of bounds that rise, which none of this library's does.
 impl<BC: Earlier<Old: StoredOffsets> + Drop, VC: Earlier> Earlier for Strings<BC, VC> {
     type Old = Strings<BC::Old, VC::Old>;
 

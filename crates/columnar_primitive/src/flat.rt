@@ -18,7 +18,8 @@ pub trait Flat: Index + Stored {
         requires representable { IsTrue (representable Self.format) }
         requires fits { Fits Self.format offset (slices_in store.now) }
         requires in_range { index < length (Self.format.rows (Self.format.build (drop offset (slices_in store.now)))) }
-        ensures { slice_get (Self.format.rows (Self.format.build (drop offset (slices_in store.now)))) index ≡ Some (Self.Ref.meaning result) };
+        ensures row { slice_get (Self.format.rows (Self.format.build (drop offset (slices_in store.now)))) index ≡ Some (Self.Ref.meaning result) }
+        ensures valid { Self.Ref.valid result };
 
     ghost flat: { IsFlat Self.format };
 

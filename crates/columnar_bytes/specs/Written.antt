@@ -6,7 +6,8 @@ use Rattle.columnar_core.specs.Sent.{AppendsBeginning}
 use Rattle.columnar_core.specs.declared.fault.WriteFault.{WriteFault}
 use Rattle.columnar_core.specs.declared.fault.WriteFault.TheVariants.{Length, Writer}
 
--- `Length`: the bytes can't be counted in 64 bits, and none went out. `Writer`: they can, and a beginning of them did.
+-- `Length`: the bytes can't be counted in 64 bits, and none went out. `Writer`: they can, and a beginning of them did, not
+-- all.
 abbrev pub IsLeftBy : {E : Type 0} → Option (List ℕ) → Option (List ℕ) → List (List ℕ) → WriteFault E → Type 0
 IsLeftBy old new slices Length = (2 ^ 64 ≤ 8 * length (words slices)) × Keeps old new
 IsLeftBy old new slices (Writer e) = (8 * length (words slices) < 2 ^ 64) × AppendsBeginning old new (store_bytes slices)

@@ -1,5 +1,5 @@
 -- The steps of what goes out to a writer, or into a list.
-use Rattle.std.proofs.Common.{ℕ, List, [], ◌++◌, ◌≡◌, ◌+◌, length, length-append, arith, refl, sym, ◌∙◌, ap, append_assoc, subst, Option, Some, None}
+use Rattle.std.proofs.Common.{ℕ, List, [], ◌++◌, ◌≡◌, ◌+◌, length, length-append, arith, refl, sym, ◌∙◌, ap, append_assoc, subst, ◌<◌, Option, Some, None}
 use Rattle.std.proofs.lemmas.List.{append-nil}
 use Rattle.std.specs.Io.KnownBytes.{Appends, Keeps}
 use Rattle.columnar_core.specs.Sent.{WentOut, AppendsBeginning}
@@ -37,13 +37,16 @@ sent_all o n rest all w e = subst (λ (t : List ℕ). Appends o n t) (sym (w.spl
 pub sent_part : (o m n : Option (List ℕ)) (rest bs after all : List ℕ) → WentOut o m rest all → rest ≡ bs ++ after → AppendsBeginning m n bs → AppendsBeginning o n all
 sent_part o m n rest bs after all w e p = (
   p.0 ++ after,
-  sent_more o m n rest p.1.front (p.0 ++ after) all w
-      (e ∙ ap (λ t. t ++ after) p.1.split ∙ append_assoc p.1.front p.0 after) p.1.appended,
+  (
+    omega (arith, p.1.0, length-append p.0 after),
+    sent_more o m n rest p.1.1.front (p.0 ++ after) all w
+        (e ∙ ap (λ t. t ++ after) p.1.1.split ∙ append_assoc p.1.1.front p.0 after) p.1.1.appended,
+  ),
 )
 
--- a writer that kept what it held
-pub sent_kept : (o m n : Option (List ℕ)) (rest all : List ℕ) → WentOut o m rest all → Keeps m n → AppendsBeginning o n all
-sent_kept o m n rest all w k = (rest, record { front = w.front; split = w.split; appended = appends_kept o m n w.front w.appended k })
+-- a writer that kept what it held, where some bytes were to follow
+pub sent_kept : (o m n : Option (List ℕ)) (rest all : List ℕ) → WentOut o m rest all → 0 < length rest → Keeps m n → AppendsBeginning o n all
+sent_kept o m n rest all w l k = (rest, (l, record { front = w.front; split = w.split; appended = appends_kept o m n w.front w.appended k }))
 
 -- what is there and what is to follow are as long as what was there and all
 pub sent_length : (xs ys rest all : List ℕ) → WentOut (Some xs) (Some ys) rest all → length ys + length rest ≡ length xs + length all

@@ -149,7 +149,7 @@ impl<'a> ByteSlice<'a> {
         }
     }
 
-    /// Writes its bytes, and nothing else. After a fault a beginning of them went out.
+    /// Writes its bytes, and nothing else. After a fault a beginning of them went out, and not all.
     pub fn write<W: WriteBytes>(&self, writer: &mut W) -> Result<(), W::Error>
         ensures ok { OnOk result (Appends (W.contents writer.old) (W.contents writer.new) (bytes_in self.now)) }
         ensures err { OnErr result (AppendsBeginning (W.contents writer.old) (W.contents writer.new) (bytes_in self.now)) }

@@ -13,7 +13,8 @@ pub trait WriteBytes {
     // the bytes that the writer holds, where they are known
     ghost contents: { Self → Option (List ℕ) };
 
-    /// Writes all the bytes. After a fault a beginning of them went out, of which nothing more is known.
+    /// Writes all the bytes. After a fault a beginning of them went out, of which nothing more is known than that it is not
+    /// all of them; so a write of no bytes does not fail.
     fn write_all(&mut self, bytes: &[u8]) -> Result<(), Self::Error>
         ensures ok { OnOk result (Appends (contents self.old) (contents self.new) bytes.now) }
         ensures err { OnErr result (AppendsBeginning (contents self.old) (contents self.new) bytes.now) };

@@ -76,7 +76,7 @@ impl Outcome {
     }
 }
 
-/// Writes the text, whole; after a failure a beginning of it went out.
+/// Writes the text, whole; after a failure a beginning of it went out, and not all.
 pub fn put<O: WriteBytes>(out: &mut O, text: &str) -> Result<(), Failure>
     ensures ok { OnOk result (Appends (O.contents out.old) (O.contents out.new) text.now) }
     ensures err { OnErr result (AppendsBeginning (O.contents out.old) (O.contents out.new) text.now) }

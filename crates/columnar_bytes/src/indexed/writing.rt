@@ -21,7 +21,7 @@ static ZEROS: [u8; 8] = [0, 0, 0, 0, 0, 0, 0, 0];
 
 /// Writes the bytes of the column's encoding, each word lowest byte first, and nothing else. Refused with `Length`
 /// exactly where they would pass 2^64 - 1, before any byte; ended with `Writer` where the writer failed, after a
-/// beginning of the bytes. Asks that the type is representable.
+/// beginning of the bytes that is not all of them. Asks that the type is representable.
 pub fn write<'a, W: WriteBytes, S: AsBytes<'a>>(
     writer: &mut W,
     item: &S,

@@ -113,7 +113,7 @@ impl<C: ContainerBytes, B: ByteStore> Stash<C, B> {
 
     /// Writes the column's encoding, or the bytes as they are. Refused with `Length` exactly where the encoding's bytes
     /// would pass 2^64 - 1, before any byte; ended with `Writer` where the writer failed, after a beginning of the
-    /// bytes.
+    /// bytes that is not all of them.
     pub fn write_bytes<W: WriteBytes>(&self, writer: &mut W) -> Result<(), WriteFault<W::Error>>
     where
         W::Error: Drop,

@@ -365,7 +365,7 @@ impl<const K: u64, CC: Words> StoredOffsets for Fixeds<K, CC> {
     }
 }
 
-// Do all offsets of a head and bounds follow the stride?
+// Does no bound stand after the multiples of a head, and is its stride this one?
 fn all_follow<HC: Words, BC: Words>(head: &HC, bounds: &BC, stride: u64) -> bool
     ensures yes { result ≡ true → (length (HC.bytes head.now) ≡ 16) × ((length (BC.bytes bounds.now) ≡ 0) × (word (HC.bytes head.now) 0 ≡ stride)) }
     ensures no { result ≡ false → length (HC.bytes head.now) ≡ 16 → length (BC.bytes bounds.now) ≡ 0 → word (HC.bytes head.now) 0 ≡ stride → ⊥ }
@@ -376,8 +376,8 @@ fn all_follow<HC: Words, BC: Words>(head: &HC, bounds: &BC, stride: u64) -> bool
     head.word(0) == stride
 }
 
-/// Ok exactly where `strided` answers `Some(K)`: no bound stands after the multiples, and the stride is `K`. An empty
-/// column that has no stride yet answers `Some(0)`. Else the column is given back as it is.
+/// Ok exactly where `strided` answers `Some(K)`: no bound stands after the multiples, and the stride is `K`, which is 0
+/// where no offset came yet. Else the column is given back as it is.
 impl<const K: u64> TryFrom<Strides<Vec<u64>, [u64; 2]>> for Fixeds<K, u64> {
     type Error = Strides<Vec<u64>, [u64; 2]>;
 

@@ -1,5 +1,5 @@
 -- The bytes of a slice's elements.
-use Rattle.std.specs.Prelude.{ℕ, List, length, ◌≡◌}
+use Rattle.std.specs.Prelude.{ℕ, Bool, true, false, List, length, ◌≡◌}
 use Rattle.std.specs.List.{flat_map}
 use Rattle.std.specs.Int.{w8, w16, w32, w64, to_le_bytes}
 use Rattle.std.specs.declared.num.Wrapping.{Wrapping}
@@ -30,6 +30,11 @@ element_bytes (WrappingI8 xs) = flat_map (inside (signed_bytes w8)) xs.now
 element_bytes (WrappingI16 xs) = flat_map (inside (signed_bytes w16)) xs.now
 element_bytes (WrappingI32 xs) = flat_map (inside (signed_bytes w32)) xs.now
 element_bytes (WrappingI64 xs) = flat_map (inside (signed_bytes w64)) xs.now
+
+-- are the elements words
+abbrev pub are_words : Elements → Bool
+are_words (U64 xs) = true
+are_words _ = false
 
 -- so many they are, and each is a byte
 pub record IsCounted (count : ℕ) (bs : List ℕ) : Type 0 where

@@ -1,7 +1,7 @@
 -- What a slice of a column holds.
-use Rattle.std.specs.Prelude.{ℕ, List}
+use Rattle.std.specs.Prelude.{ℕ, Bool, List}
 use Rattle.columnar_core.specs.declared.byte_slice.ByteSlice.{ByteSlice}
-use Rattle.columnar_core.specs.SliceBytes.{element_bytes}
+use Rattle.columnar_core.specs.SliceBytes.{element_bytes, are_words}
 
 -- the bytes that a slice stands for
 abbrev pub bytes_in : ByteSlice → List ℕ
@@ -10,3 +10,7 @@ bytes_in slice = element_bytes slice.elements
 -- the alignment that its elements ask for, in bytes
 abbrev pub alignment : ByteSlice → ℕ
 alignment slice = slice.align
+
+-- is it made of words that stand in memory
+abbrev pub has_words : ByteSlice → Bool
+has_words slice = are_words slice.elements

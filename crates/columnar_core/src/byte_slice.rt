@@ -1,5 +1,5 @@
 //! The slices of a column, before they are written.
-ghost use Rattle.std.specs.Prelude.{◌≡◌, ◌<◌, ◌*◌, ◌+◌, ◌^◌, length, slice_index, IfSome, OnOk, OnErr};
+ghost use Rattle.std.specs.Prelude.{◌≡◌, ◌↔◌, ◌<◌, ◌*◌, ◌+◌, ◌^◌, length, slice_index, IfSome, IsSome, IsTrue, IsFalse, OnOk, OnErr};
 ghost use Rattle.std.specs.List.{flat_map};
 ghost use Rattle.std.specs.Io.KnownBytes.{Appends};
 ghost use Rattle.columnar_base.specs.WordViews.{view_bytes};
@@ -51,12 +51,13 @@ enum Elements<'a> {
 }
 
 impl<'a> ByteSlice<'a> {
-    ghost use Rattle.columnar_core.specs.Slices.{bytes_in, alignment};
+    ghost use Rattle.columnar_core.specs.Slices.{bytes_in, alignment, has_words};
 
     /// The slice of these bytes.
     pub fn of_bytes(bytes: &'a [u8]) -> Self
         ensures bytes { bytes_in result ≡ bytes.entry.now }
         ensures align { alignment result ≡ 1 }
+        ensures words { IsFalse (has_words result) }
     {
         ByteSlice::of_le_bytes(bytes, 1)
     }
@@ -65,6 +66,7 @@ impl<'a> ByteSlice<'a> {
     pub fn of_le_bytes(bytes: &'a [u8], align: u64) -> Self
         ensures bytes { bytes_in result ≡ bytes.entry.now }
         ensures align { alignment result ≡ align }
+        ensures words { IsFalse (has_words result) }
     {
         let count = bytes.len();
         ByteSlice {
@@ -78,6 +80,7 @@ impl<'a> ByteSlice<'a> {
     pub fn of_words(words: &'a [u64]) -> Self
         ensures bytes { bytes_in result ≡ le_bytes words.entry.now }
         ensures align { alignment result ≡ 8 }
+        ensures words { IsTrue (has_words result) }
     {
         let count = 8 * words.len();
         ByteSlice {
@@ -114,7 +117,8 @@ impl<'a> ByteSlice<'a> {
 
     /// Its words, where it is made of words that stand in memory.
     pub fn as_words(&self) -> Option<&'a [u64]>
-        ensures { IfSome result (λ words. bytes_in self.now ≡ le_bytes words.now) }
+        ensures bytes { IfSome result (λ words. bytes_in self.now ≡ le_bytes words.now) }
+        ensures some { IsSome result ↔ IsTrue (has_words self.now) }
     {
         match self.elements {
             Elements::U64(words) => Some(words),

@@ -1,7 +1,8 @@
 //! Elements whose slices can go out as bytes.
-ghost use Rattle.std.specs.Prelude.{ℕ, ◌≡◌, ◌<◌, ◌^◌};
+ghost use Rattle.std.specs.Prelude.{ℕ, ◌≡◌, ◌<◌, ◌^◌, IsTrue};
 ghost use Rattle.std.specs.List.{flat_map};
-ghost use Rattle.columnar_core.specs.Slices.{bytes_in, alignment};
+ghost use Rattle.columnar_core.specs.Slices.{bytes_in, alignment, has_words};
+ghost use Rattle.columnar_core.specs.Bytes.{le_bytes};
 
 use super::{ByteSlice, Elements};
 use columnar_base::element::Element;
@@ -65,7 +66,11 @@ impl Sliced for u64 {
         8
     }
 
-    fn byte_slice(items: &[u64]) -> ByteSlice<'_> {
+    fn byte_slice(items: &[u64]) -> ByteSlice<'_>
+        ensures bytes { bytes_in result ≡ le_bytes items.now }
+        ensures align { alignment result ≡ 8 }
+        ensures words { IsTrue (has_words result) }
+    {
         let count = 8 * items.len();
         ByteSlice {
             elements: Elements::U64(items),

@@ -1,10 +1,11 @@
 //! Offsets that are the multiples of a constant, of which the count alone is kept.
-ghost use Rattle.std.specs.Prelude.{◌≡◌, ◌+◌, ◌-◌, ◌*◌, ◌<◌, ◌≤◌, ◌^◌, ◌∷◌, [], List, length, take, drop, OnOk, OnErr, IfOk, IfErr, IsTrue, IsFalse, Err, ◌↔◌, true, false, refl};
+ghost use Rattle.std.specs.Prelude.{◌≡◌, ℕ, ◌+◌, ◌-◌, ◌*◌, ◌<◌, ◌≤◌, ◌^◌, ◌∷◌, [], List, length, take, drop, slice_get, Some, OnOk, OnErr, IfOk, IfErr, IsTrue, IsFalse, Err, ◌↔◌, true, false, refl};
 ghost use Rattle.columnar_core.specs.Row.{Row, number};
 ghost use Rattle.columnar_core.specs.Format.{slice, first, moved, IsSound};
 ghost use Rattle.columnar_core.specs.Bytes.{word};
 ghost use Rattle.columnar_core.specs.Elements.{word_row};
 ghost use Rattle.columnar_core.specs.Faults.{verdict};
+ghost use Rattle.columnar_core.specs.Bounds.{numbers, shifted};
 ghost use Rattle.columnar_core.specs.Change.{Copied, Refused, Took};
 ghost use Rattle.columnar_primitive.specs.Held.{counted};
 ghost use Rattle.columnar_primitive.specs.Fixed.{fixed_broken, fixed_format, fixed_rows, passes, strays, IsFixedCause, IsLimit};
@@ -19,7 +20,7 @@ use columnar_core::container::{
 };
 use columnar_core::earlier::Kept;
 use columnar_core::fault::{GrowError, StoreFault};
-use columnar_core::offsets::{ExtendShifted, Offsets, PushAfter, StoredOffsets, push_shifted};
+use columnar_core::offsets::{ExtendShifted, Offsets, PushAfter, StoredOffsets};
 use columnar_core::store::{DecodedStore, word_in_bytes};
 use columnar_core::tally::Tally;
 use columnar_core::traits::{Clear, Column, Index, Len, Push, PushRef};
@@ -338,8 +339,8 @@ impl<const K: u64> PushAfter for Fixeds<K, u64> {
     }
 }
 
-/// A push for each offset.
 impl<const K: u64, W: Offsets> ExtendShifted<W> for Fixeds<K, u64> {
+    /// Pushes the moved offsets in turn, or none of them. It takes no memory, and wants none.
     fn extend_shifted_tallied<L>(
         &mut self,
         view: &W,
@@ -347,8 +348,33 @@ impl<const K: u64, W: Offsets> ExtendShifted<W> for Fixeds<K, u64> {
         lower: u64,
         start: usize,
         tally: &mut Tally<L>,
-    ) -> Result<(), GrowError> {
-        push_shifted(self, view, range, lower, start, tally)
+    ) -> Result<(), GrowError>
+        requires sound { IsSound (fixed_format K) (counted self.old.count) }
+        requires view_sound { IsSound W.format (W.content view.now) }
+        requires ordered { range.start ≤ range.«end» }
+        requires in_range { range.«end» ≤ length (W.format.rows (W.content view.now)) }
+        requires lower { slice_get (0 ∷ numbers (W.format.rows (W.content view.now))) range.start ≡ Some lower }
+        requires held { (i n : ℕ) → range.start ≤ i → i < range.«end» → slice_get (numbers (W.format.rows (W.content view.now))) i ≡ Some n → (lower ≤ n) × (start + (n - lower) < 2 ^ 64) }
+        ensures ok { OnOk result (Took (fixed_format K) (counted self.old.count) (counted self.new.count) (take (range.«end» - range.start) (drop range.start (shifted lower start (numbers (W.format.rows (W.content view.now))))))) }
+        ensures err { IfErr result (λ e. Refused (fixed_format K) (counted self.old.count) (counted self.new.count) (take (range.«end» - range.start) (drop range.start (shifted lower start (numbers (W.format.rows (W.content view.now)))))) e) }
+        ensures limit { IfErr result IsLimit }
+        ensures count_stays { OnErr result (self.new.count ≡ self.old.count) }
+        ensures turns { tally.new.turns ≤ tally.old.turns + (range.«end» - range.start) }
+    {
+        let before = self.count;
+        let mut last = lower;
+        for i in range.start..range.end {
+            tally.tick();
+            last = view.offset_after(i, last);
+            match Push::<u64>::push(self, start as u64 + (last - lower)) {
+                Ok(()) => {}
+                Err(error) => {
+                    self.count = before;
+                    return Err(error);
+                }
+            }
+        }
+        Ok(())
     }
 }
 

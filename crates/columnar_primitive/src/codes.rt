@@ -1,5 +1,5 @@
 //! Columns of values that are each kept as a number of a fixed width, their code.
-ghost use Rattle.std.specs.Prelude.{◌≡◌, ◌↔◌, ℕ, ◌+◌, ◌*◌, ◌≤◌, Bool, true, false, length, IsTrue, drop};
+ghost use Rattle.std.specs.Prelude.{◌≡◌, ℕ, ◌+◌, ◌*◌, ◌≤◌, Bool, true, false, length, IsTrue, drop};
 ghost use Rattle.columnar_base.specs.Row.{Row};
 ghost use Rattle.columnar_base.specs.Format.{Fits, IsSound, representable};
 ghost use Rattle.columnar_core.specs.Store.{slices_in};
@@ -40,9 +40,10 @@ pub trait Coded: Copy + Item + Rule {
         ensures row { Self.meaning result ≡ row_of (Self.Code.meaning code) }
         ensures valid { Self.valid result };
 
-    /// Is each row that of a code? A test of foreign bytes then looks at none.
+    /// Is each row that of a code? Where it is, a test of foreign bytes looks at none; false is always a right answer, and
+    /// costs a turn for each row.
     fn always_fits() -> bool
-        ensures { IsTrue result ↔ ((r : Row) → Self.is_code r ≡ true) };
+        ensures { IsTrue result → (r : Row) → Self.is_code r ≡ true };
 }
 
 /// A column of `T`s, each kept as its code.

@@ -5,7 +5,7 @@ use Rattle.columnar_primitive.specs.MappedLaws.{mapped_fine, pass_always, turns_
 use Rattle.columnar_primitive.proofs.codes.CodesCheck.check_from_tallied.Goals as goal
 
 pub returns-then-always_fits-clause-exact : goal.returns-then-always_fits-clause-exact
-returns-then-always_fits-clause-exact g c = mapped_fine g.CV.Column.format g.T.Coded.row_of g.T.Rule.is_code (g.CV.Column.content c.args.self.now.values) c.args.from c.in_ok-check_from_tallied.ensures.exact (pass_always g.T.Rule.is_code (c.always_fits.ensures.0 c.if-always_fits.true) (g.CV.Column.format.rows (g.CV.Column.content c.args.self.now.values)))
+returns-then-always_fits-clause-exact g c = mapped_fine g.CV.Column.format g.T.Coded.row_of g.T.Rule.is_code (g.CV.Column.content c.args.self.now.values) c.args.from c.in_ok-check_from_tallied.ensures.exact (pass_always g.T.Rule.is_code (c.always_fits.ensures c.if-always_fits.true) (g.CV.Column.format.rows (g.CV.Column.content c.args.self.now.values)))
 
 pub all_fit-requires : goal.all_fit-requires
 all_fit-requires g c = sound_from g.CV.Column.format (g.CV.Column.content c.args.self.now.values) c.args.from c.in_ok-check_from_tallied.ensures.exact

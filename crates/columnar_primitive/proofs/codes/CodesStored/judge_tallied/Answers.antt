@@ -8,7 +8,7 @@ use Rattle.columnar_primitive.proofs.codes.CodesStored.judge_tallied.Goals as go
 pub returns-then-always_fits-clause-exact : goal.returns-then-always_fits-clause-exact
 returns-then-always_fits-clause-exact g c =
     let x = g.CV.Column.format.build (drop c.args.offset (slices_in c.args.store.now)) in
-    mapped_fine g.CV.Column.format g.T.Coded.row_of g.T.Rule.is_code x c.args.offset c.in_ok-judge_tallied.ensures.exact (pass_always g.T.Rule.is_code (c.always_fits.ensures.0 c.if-always_fits.true) (g.CV.Column.format.rows x))
+    mapped_fine g.CV.Column.format g.T.Coded.row_of g.T.Rule.is_code x c.args.offset c.in_ok-judge_tallied.ensures.exact (pass_always g.T.Rule.is_code (c.always_fits.ensures c.if-always_fits.true) (g.CV.Column.format.rows x))
 
 pub all_fit_in-requires-clause-fits : goal.all_fit_in-requires-clause-fits
 all_fit_in-requires-clause-fits g c = fits_from g.CV.Column.format c.args.offset (slices_in c.args.store.now) c.requires.room c.in_ok-judge_tallied.ensures.exact

@@ -18,7 +18,7 @@ LIST = ".ci/hostile/memory_calls.txt"
 ERRORS = re.compile(r"\b(GrowError|OwnError|EncodeError|EitherFault|AllocError)\b")
 
 # Calls whose contracts say that they never answer Memory
-NEVER = {("Strings", "get_str"): "it answers Utf8 alone", ("Slice", "clone"): "it is a copy"}
+NEVER = {("Strings", "get_str"): "it answers Utf8 alone", ("string", "as_text"): "so does it", ("Slice", "clone"): "it is a copy"}
 
 # What is no column and no value: views, which have the calls of what they are views of, and frames of slices
 NEITHER = {"View", "references", "Framed", "Owned"}

@@ -94,7 +94,6 @@ pub use Rattle.columnar_primitive.specs.Tried
 pub use Rattle.columnar_primitive.specs.Units
 pub use Rattle.columnar_sums.specs.Agree
 pub use Rattle.columnar_sums.specs.Cursors
-pub use Rattle.columnar_sums.specs.Cursors
 pub use Rattle.columnar_sums.specs.CursorLaws
 pub use Rattle.columnar_sums.specs.Marked
 pub use Rattle.columnar_sums.specs.MarkedLaws

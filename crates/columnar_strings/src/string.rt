@@ -90,10 +90,11 @@ impl<'a, BC: Offsets> Index for &'a Strings<BC, Vec<u8>> {
     }
 }
 
-// The bytes as text.
-fn as_text(bytes: &[u8]) -> Result<&str, OwnError>
+/// The bytes as text, as a row of strings is read; Utf8 exactly where they are no UTF-8. Nothing is copied.
+pub fn as_text(bytes: &[u8]) -> Result<&str, OwnError>
     ensures ok { IfOk result (λ s. (s.now ≡ bytes.now) × IsUtf8 bytes.now) }
-    ensures err { IfErr result (λ e. (e ≡ OwnError.Utf8) × (IsUtf8 (text_bytes (text_row bytes.now)) → ⊥)) }
+    ensures err { IfErr result (λ e. (e ≡ OwnError.Utf8) × (IsUtf8 bytes.now → ⊥)) }
+    ensures row { IfErr result (λ _. IsUtf8 (text_bytes (text_row bytes.now)) → ⊥) }
 {
     match str::from_utf8(bytes) {
         Ok(text) => Ok(text),

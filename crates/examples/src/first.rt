@@ -1,5 +1,6 @@
 //! A record type, its column, its bytes and its rows: the first column of README.
 use columnar::bytes::stash::Stash;
+use columnar::string::as_text;
 use columnar::{Columnar, ContainerOf, Field, Index, Len, SetItem};
 use std::alloc::Global;
 use std::io::Write;
@@ -26,7 +27,8 @@ pub fn show<O: Write>(alloc: Global, out: &mut O) -> anyhow::Result<()> {
     Stash::<Columns, Vec<u8>>::Typed(columns).write_bytes(&mut bytes)?;
     let mut opened = Stash::<Columns, Vec<u8>>::try_from_bytes(alloc, bytes)?;
     for (time, name, length) in opened.borrow().into_index_iter() {
-        writeln!(out, "{time} {name:?} {length:?}")?;
+        let name = as_text(name)?;
+        writeln!(out, "{time} {name} {length:?}")?;
     }
     if opened.len() > 0 {
         opened.make_typed()?.set_item(0, Field::<0>, 13u64);

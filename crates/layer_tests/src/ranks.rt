@@ -1,9 +1,10 @@
 //! Counting, finding and cursors, by worked rows.
-ghost use Rattle.std.specs.Prelude.{◌≡◌, length, IfOk};
+ghost use Rattle.std.specs.Prelude.{◌≡◌, ◌≤◌, length, IfOk, IfSome};
 ghost use Rattle.columnar_core.specs.Format.{IsSound};
 ghost use Rattle.columnar_sums.specs.RankColumns.{ranks_format, owned_ranks, ranked_bits};
 
 use columnar_core::container::{Borrow, Storage};
+use columnar_core::tally::Tally;
 use columnar_core::traits::Index;
 use columnar_core::words::Words;
 use columnar_sums::rank_select::{Cursor, RankSelect, select_in_word};
@@ -106,6 +107,35 @@ fn ranks_over_chunks(rt: HostRuntime) -> Result<(), Fail> {
     equal!(rt; bits.select(1), Some(1024));
     equal!(rt; bits.select(2), None);
     equal!(rt; bits.borrow().rank(1025), 2);
+    Ok(())
+}
+
+// What `select` gives of a column that counts 64 chunks, and what it read for it
+fn place_read(bits: &Held, rank: u64) -> Option<(Option<usize>, Tally)>
+    requires { IsSound ranks_format (owned_ranks bits.now) }
+    ensures counts { IfSome result (λ p. p.1.counts ≤ 8) }
+    ensures words { IfSome result (λ p. length p.1.words ≤ 17) }
+{
+    if bits.counts.len() != 64 {
+        return None;
+    }
+    let mut tally = Tally::new();
+    let place = bits.select_tallied(rank, &mut tally);
+    Some((place, tally))
+}
+
+#[test]
+fn places_among_64_chunks(rt: HostRuntime) -> Result<(), Fail> {
+    let bits = column(rt.alloc(), 65536, &[0, 1023, 40000, 65535])?;
+    for (rank, place) in [
+        (0, Some(0)),
+        (1, Some(1023)),
+        (2, Some(40000)),
+        (3, Some(65535)),
+        (4, None),
+    ] {
+        holds!(rt; place_read(&bits, rank).is_some_and(|read| read.0 == place));
+    }
     Ok(())
 }
 

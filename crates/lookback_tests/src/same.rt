@@ -4,7 +4,9 @@ ghost use Rattle.columnar_core.specs.Format.{IsSound};
 use columnar_bits::bools::Bools;
 use columnar_core::boxed::Boxed;
 use columnar_core::container::Storage;
-use columnar_core::traits::{Item, Len, Push};
+use columnar_core::traits::{Item, Len, Push, PushRef};
+use columnar_lookback::lookbacks::Lookbacks;
+use columnar_lookback::repeats::Repeats;
 use columnar_lookback::same::SameAs;
 use columnar_primitive::chars::Chars;
 use columnar_primitive::durations::Durations;
@@ -141,6 +143,31 @@ fn rows_that_may_be_absent_and_boxes(rt: HostRuntime) -> Result<(), Fail> {
         told::<_, Boxed<Vec<u64>>>(alloc, Boxed(1u64), Boxed(2), &Boxed(1))?,
         (true, false)
     );
+    Ok(())
+}
+
+// A column of boxes of these numbers, each pushed by reference
+fn boxes_of<C: Storage + PushRef<Box<u64>>>(
+    alloc: Global,
+    first: u64,
+    second: u64,
+    third: u64,
+) -> Result<C, Fail> {
+    let mut column = C::empty(alloc);
+    column.push_ref(&Box::new(alloc, first)?)?;
+    column.push_ref(&Box::new(alloc, second)?)?;
+    column.push_ref(&Box::new(alloc, third)?)?;
+    Ok(column)
+}
+
+#[test]
+fn boxes_that_come_again(rt: HostRuntime) -> Result<(), Fail> {
+    let alloc = rt.alloc();
+    let runs = boxes_of::<Repeats<Boxed<Vec<u64>>>>(alloc, 7, 7, 8)?;
+    equal!(rt; runs.inner.somes.0.as_slice(), [7, 8].as_slice());
+    let backs = boxes_of::<Lookbacks<Boxed<Vec<u64>>, 255>>(alloc, 7, 8, 7)?;
+    equal!(rt; backs.inner.oks.0.as_slice(), [7, 8].as_slice());
+    equal!(rt; backs.inner.errs.as_slice(), [1].as_slice());
     Ok(())
 }
 

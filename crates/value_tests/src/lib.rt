@@ -7,6 +7,8 @@ mod bools;
 #[cfg(test)]
 mod byte_slices;
 #[cfg(test)]
+mod callers;
+#[cfg(test)]
 mod claims;
 #[cfg(test)]
 mod held;

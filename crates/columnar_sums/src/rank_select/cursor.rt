@@ -284,7 +284,8 @@ impl<'a, CC: Words, VC: Words, WC: Words> Cursor<'a, CC, VC, WC> {
         Some(bit)
     }
 
-    /// As `seek_to_pos`; what it reads is added to the tally: at most one count and 17 words, in at most 16 turns.
+    /// As `seek_to_pos`; what it reads is added to the tally: at most one count and 17 words, in at most 16 turns, and
+    /// nothing where it stays in the word in which it stood.
     pub fn seek_to_pos_tallied<L>(&mut self, target: usize, tally: &mut Tally<L>) -> bool
         requires { self.old.pos ≤ target }
         ensures bits { (self.new.bits ≡ self.old.bits) × (self.new.counts ≡ self.old.counts) }
@@ -295,6 +296,7 @@ impl<'a, CC: Words, VC: Words, WC: Words> Cursor<'a, CC, VC, WC> {
         ensures pos { self.new.pos ≡ min target (length self.old.bits) }
         ensures reads { Adds 1 17 tally.old tally.new }
         ensures turns { tally.new.turns ≤ tally.old.turns + 16 }
+        ensures still { min target (length self.old.bits) / 64 ≡ self.old.word → tally.new ≡ tally.old }
     {
         let column = self.column;
         let len = column.len();

@@ -248,6 +248,14 @@ ones_below_mono f m n h =
     let s = sym (ap (ones_below f) e) ∙ ones_below_add f (λ (j : ℕ). f (m + j)) m (n - m) (λ j l. refl) in
     omega arith
 
+-- no count is less than the one before
+pub counts_rise : (ws cs : List ℕ) → CountWords ws cs → (i : ℕ) → i + 1 < length cs → slice_index cs i ≤ slice_index cs (i + 1)
+counts_rise ws cs exact i h =
+    let a : slice_index cs i ≡ ones_below (bit_in ws) (1024 * (i + 1)) = sym (count_before_next cs i) ∙ count_before_is ws cs (i + 1) exact (omega arith) in
+    let b : slice_index cs (i + 1) ≡ ones_below (bit_in ws) (1024 * (i + 1 + 1)) = sym (count_before_next cs (i + 1)) ∙ count_before_is ws cs (i + 1 + 1) exact (omega arith) in
+    let m = ones_below_mono (bit_in ws) (1024 * (i + 1)) (1024 * (i + 1 + 1)) (omega arith) in
+    omega arith
+
 -- a chunk of 16 words was looked at, or all the words that are left
 pub none_left : (ws cs : List ℕ) (rank chunk at sum end : ℕ) → CountWords ws cs → length ws ≤ 16 * length cs + 16 → 16 * length cs < length ws → chunk ≤ length cs → (chunk < length cs → rank < slice_index cs chunk) → end ≡ min (16 * chunk + 16) (length ws) → at ≡ end → sum ≡ ones_below (bit_in ws) (64 * at) → sum ≤ rank → ones_below (bit_in ws) (64 * length ws) ≤ rank
 none_left ws cs rank chunk at sum end exact short enough c above e a s le =

@@ -21,8 +21,36 @@ use columnar_core::view::View;
 use columnar_core::words::Words;
 use std::alloc::Global;
 
-// Appends a variant and an offset; both or neither.
+// Appends a variant and an offset; both or neither. Where the variants have room, that is a few instructions.
+#[inline(always)]
 fn push_both(
+    variants: &mut Vec<u8>,
+    offsets: &mut Vec<u64>,
+    variant: u8,
+    offset: u64,
+) -> Result<(), GrowError>
+    ensures variants { OnOk result (variants.new.items ≡ variants.old.items ++ variant ∷ []) }
+    ensures offsets { OnOk result (offsets.new.items ≡ offsets.old.items ++ offset ∷ []) }
+    ensures variants_stay { OnErr result (variants.new.items ≡ variants.old.items) }
+    ensures offsets_stay { OnErr result (offsets.new.items ≡ offsets.old.items) }
+    ensures memory { IfErr result (λ e. e ≡ GrowError.Memory) }
+{
+    if Vec::len(variants) == variants.capacity() {
+        return grow_both(variants, offsets, variant, offset);
+    }
+    match offsets.push(offset) {
+        Ok(()) => {
+            variants.push(variant)?;
+            Ok(())
+        }
+        Err(_) => Err(GrowError::Memory),
+    }
+}
+
+// As `push_both`, of variants that have no room; apart, so that the push of any other is small.
+#[cold]
+#[inline(never)]
+fn grow_both(
     variants: &mut Vec<u8>,
     offsets: &mut Vec<u64>,
     variant: u8,

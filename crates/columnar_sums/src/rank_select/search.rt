@@ -103,31 +103,36 @@ pub fn select_in_word(word: u64, rank: u64) -> u64
     }
 }
 
-// The first chunk with more than `rank` trues up to its end, by binary search. Both ways through a turn are a few sums, so that
-// neither is a jump, which no processor could tell beforehand.
+// The first chunk with more than `rank` trues up to its end, and how many stand before it, by binary search. How many turns there
+// are depends on the number of counts alone, and what a turn reads decides two moves: no jump depends on it, which no processor
+// could tell beforehand.
 #[tactic(auto, using(crate::specs::CountLaws::digits_from))]
-fn find_chunk<L>(counts: &MeteredCounts<'_, L>, rank: u64, tally: &mut Tally<L>) -> usize
-    ensures within { result ≤ length counts.now }
-    ensures below { count_before counts.now result ≤ rank }
-    ensures above { result < length counts.now → rank < slice_index counts.now result }
+fn find_chunk<L>(counts: &MeteredCounts<'_, L>, rank: u64, tally: &mut Tally<L>) -> (usize, u64)
+    requires rising { (i : ℕ) → i + 1 < length counts.now → slice_index counts.now i ≤ slice_index counts.now (i + 1) }
+    ensures within { result.0 ≤ length counts.now }
+    ensures before { result.1 ≡ count_before counts.now result.0 }
+    ensures below { result.1 ≤ rank }
+    ensures above { result.0 < length counts.now → rank < slice_index counts.now result.0 }
     ensures cost { tally.new.counts ≤ tally.old.counts + digits (length counts.now) }
     ensures counts { tally.old.counts ≤ tally.new.counts }
     ensures words { tally.new.words ≡ tally.old.words }
     ensures turns { tally.new.turns ≤ tally.old.turns + digits (length counts.now) }
 {
     let mut low = 0;
+    let mut sum = 0;
     let mut rest = counts.len();
     while rest > 0 {
         tally.tick();
         let half = rest / 2;
-        if counts.read(low + half, tally) <= rank {
-            low += half + 1;
-            rest -= half + 1;
-        } else {
-            rest = half;
+        let step = rest - half;
+        let count = counts.read(low + step - 1, tally);
+        if count <= rank {
+            low += step;
+            sum = count;
         }
+        rest = half;
     }
-    low
+    (low, sum)
 }
 
 // The place of the set bit before which there are `rank` others.
@@ -147,8 +152,7 @@ pub(crate) fn select_in<L>(
     ensures some_read { length tally.old.words < length tally.new.words }
     ensures turns { tally.new.turns ≤ tally.old.turns + (digits (length counts.now) + 22) }
 {
-    let chunk = find_chunk(counts, rank, tally);
-    let mut sum = ones_before(counts, chunk, tally);
+    let (chunk, mut sum) = find_chunk(counts, rank, tally);
     let end = (16 * chunk + 16).min(words.len());
     for at in 16 * chunk..end {
         tally.tick();

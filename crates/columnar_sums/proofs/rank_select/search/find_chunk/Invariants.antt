@@ -7,7 +7,8 @@ abbrev pub invariant-loop-rest : goal.invariant-loop-rest
 invariant-loop-rest g l =
     record {
       within : l.low + l.rest ≤ length l.counts;
-      below : count_before l.counts l.low ≤ l.rank;
+      before : l.sum ≡ count_before l.counts l.low;
+      below : l.sum ≤ l.rank;
       above : l.low + l.rest < length l.counts → l.rank < slice_index l.counts (l.low + l.rest);
       more : l.fn.tally.counts ≤ l.tally.counts;
       shrinks : 2 ^ (l.tally.counts - l.fn.tally.counts) * l.rest ≤ length l.counts;

@@ -2,19 +2,22 @@ use Rattle.std.proofs.Common.{◌≡◌, ℕ, ◌*◌, ◌∙◌, ap, length, ta
 use Rattle.std.proofs.lemmas.List.{take_all}
 use Rattle.columnar_bits.specs.Bits.{bit_in}
 use Rattle.columnar_sums.specs.Counting.{ones_below}
-use Rattle.columnar_sums.specs.CountLaws.{count_before_is, found_in, none_left}
+use Rattle.columnar_sums.specs.CountLaws.{count_before_is, counts_rise, found_in, none_left}
 use Rattle.columnar_sums.proofs.rank_select.search.select_in.Goals as goal
+
+pub find_chunk-chunk-requires : goal.find_chunk-chunk-requires
+find_chunk-chunk-requires g c = record { rising = counts_rise c.args.words.now c.args.counts.now c.requires.exact }
 
 pub loop-at-init : goal.loop-at-init
 loop-at-init g c =
-    let chunk : ℕ = c.find_chunk-chunk.result in
+    let chunk : ℕ = c.find_chunk-chunk.result.0 in
     record {
-      sum = c.ones_before-sum.ensures.value ∙ count_before_is _ _ chunk c.requires.exact (omega arith) ∙ ap (ones_below (bit_in c.args.words.now)) (let e : 1024 * chunk ≡ 64 * (16 * chunk) = omega arith in e);
+      sum = c.find_chunk-chunk.ensures.before ∙ count_before_is _ _ chunk c.requires.exact (omega arith) ∙ ap (ones_below (bit_in c.args.words.now)) (let e : 1024 * chunk ≡ 64 * (16 * chunk) = omega arith in e);
       below = omega arith;
       counts = omega arith;
-      words = omega (arith, ap length c.ones_before-sum.ensures.words, ap length c.find_chunk-chunk.ensures.words);
+      words = omega (arith, ap length c.find_chunk-chunk.ensures.words);
       turns = omega arith;
-      kept = ap (take (length c.args.tally.now.words)) (c.ones_before-sum.ensures.words ∙ c.find_chunk-chunk.ensures.words) ∙ take_all _ _ (omega arith);
+      kept = ap (take (length c.args.tally.now.words)) c.find_chunk-chunk.ensures.words ∙ take_all _ _ (omega arith);
     }
 
 pub returns-then-rank-sum-clause-value : goal.returns-then-rank-sum-clause-value
@@ -24,4 +27,4 @@ returns-then-rank-sum-clause-value g c =
 
 pub returns-clause-value : goal.returns-clause-value
 returns-clause-value g c =
-    none_left c.args.words.now c.args.counts.now c.args.rank c.find_chunk-chunk.result c.loop-at.at c.loop-at.sum c.min-end.result c.requires.exact (omega arith) c.requires.enough c.find_chunk-chunk.ensures.within c.find_chunk-chunk.ensures.above (omega arith) (omega arith) c.loop-at.invariant.sum c.loop-at.invariant.below
+    none_left c.args.words.now c.args.counts.now c.args.rank c.find_chunk-chunk.result.0 c.loop-at.at c.loop-at.sum c.min-end.result c.requires.exact (omega arith) c.requires.enough c.find_chunk-chunk.ensures.within c.find_chunk-chunk.ensures.above (omega arith) (omega arith) c.loop-at.invariant.sum c.loop-at.invariant.below

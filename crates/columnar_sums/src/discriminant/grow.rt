@@ -38,13 +38,9 @@ fn push_both(
     if Vec::len(variants) == variants.capacity() {
         return grow_both(variants, offsets, variant, offset);
     }
-    match offsets.push(offset) {
-        Ok(()) => {
-            variants.push(variant)?;
-            Ok(())
-        }
-        Err(_) => Err(GrowError::Memory),
-    }
+    offsets.push(offset)?;
+    variants.push(variant)?;
+    Ok(())
 }
 
 // As `push_both`, of variants that have no room; apart, so that the push of any other is small.

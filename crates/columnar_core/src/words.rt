@@ -1,5 +1,5 @@
 //! Columns of 64-bit numbers as offsets.
-ghost use Rattle.std.specs.Prelude.{◌≡◌, ◌+◌, ◌*◌, ◌≤◌, length, drop, IsTrue};
+ghost use Rattle.std.specs.Prelude.{◌≡◌, ℕ, ◌+◌, ◌*◌, ◌^◌, ◌<◌, ◌≤◌, length, drop, false, IsTrue, MatchOption};
 ghost use Rattle.columnar_base.specs.Format.{Fits, IsSound, bytes_held, representable};
 ghost use Rattle.columnar_base.specs.Elements.{elements_rows, first_slice, word_row_of, words_format};
 ghost use Rattle.columnar_core.specs.Bounds.{rises, numbers};
@@ -16,7 +16,40 @@ use columnar_base::view::View;
 pub use columnar_base::words::{Words, byte_count, word_at, word_count};
 use std::ops::Range;
 
-// As `rises_to` of a column of numbers: reads them one by one, a turn for each.
+// How many numbers are looked at before it is asked whether one fell: the compiler writes them out one by one, with no jump
+// for each.
+const STRETCH: usize = 16;
+
+// The last of the `count` numbers from `from` on, `first` where there is none; None where one falls, from `first` on. A turn
+// for each.
+#[inline(always)]
+fn risen<C: Index<Ref = u64> + Len, L>(
+    column: &C,
+    from: usize,
+    count: usize,
+    first: u64,
+    tally: &mut Tally<L>,
+) -> Option<u64>
+    requires sound { IsSound C.format (C.content column.now) }
+    requires within { from + count ≤ length (C.format.rows (C.content column.now)) }
+    requires fits { from + count < 2 ^ 64 }
+    ensures value { (end : ℕ) → MatchOption result (rises first (drop from (numbers (C.format.rows (C.content column.now)))) end ≡ false) (λ last. rises first (drop from (numbers (C.format.rows (C.content column.now)))) end ≡ rises last (drop (from + count) (numbers (C.format.rows (C.content column.now)))) end) }
+    ensures turns { tally.new.turns ≡ tally.old.turns + count }
+{
+    let mut last = first;
+    let mut rising = true;
+    for i in 0..count {
+        tally.tick();
+        let next = column.get(from + i);
+        if next < last {
+            rising = false;
+        }
+        last = next;
+    }
+    if rising { Some(last) } else { None }
+}
+
+// As `rises_to` of a column of numbers: reads them one by one, a turn for each, and ends with the stretch in which one falls.
 fn rises_by_reading<C: Index<Ref = u64> + Len, L>(
     column: &C,
     end: u64,
@@ -26,16 +59,17 @@ fn rises_by_reading<C: Index<Ref = u64> + Len, L>(
     ensures value { result ≡ rises 0 (numbers (C.format.rows (C.content column.now))) end }
     ensures turns { tally.new.turns ≤ tally.old.turns + length (C.format.rows (C.content column.now)) }
 {
+    let count = column.len();
     let mut last = 0u64;
-    for i in 0..column.len() {
-        tally.tick();
-        let next = column.get(i);
-        if next < last {
+    let mut at = 0;
+    while count - at >= STRETCH {
+        let Some(next) = risen(column, at, STRETCH, last, tally) else {
             return false;
-        }
+        };
         last = next;
+        at += STRETCH;
     }
-    last == end
+    risen(column, at, count - at, last, tally) == Some(end)
 }
 
 impl Offsets for Vec<u64> {

@@ -186,6 +186,7 @@ impl Bools<Vec<u64>, [u64; 2]> {
     /// Appends the lowest `count` bits of the number, the lowest first; all or none. Asks for at most 64, and that no
     /// bit of the number is set from there on. Where they fill no word, they need no memory. It answers Length
     /// exactly where there would be more than 2^64 - 1 bits.
+    #[inline(always)]
     pub fn push_bits(&mut self, bits: u64, count: usize) -> Result<(), GrowError>
         requires sound { IsSound bools_format (owned_content self.old) }
         requires short { count ≤ 64 }
@@ -215,6 +216,7 @@ impl Bools<Vec<u64>, [u64; 2]> {
     }
 
     /// Appends one bit, and is refused as `push_bits` of one.
+    #[inline(always)]
     pub fn push_bit(&mut self, bit: bool) -> Result<(), GrowError>
         requires { IsSound bools_format (owned_content self.old) }
         ensures ok { OnOk result (owned_bits self.new ≡ owned_bits self.old ++ bit ∷ []) }

@@ -1,9 +1,8 @@
 -- Counting trues.
 use Rattle.std.proofs.Common.{◌≡◌, ℕ, zero, suc, ◌+◌, ◌-◌, ◌*◌, ◌/◌, ◌%◌, ◌^◌, ◌<◌, ◌≤◌, min, Bool, true, false, eqb, List, [], ◌∷◌, ◌++◌, length, take, cond, Some, None, refl, sym, ap, ◌∙◌, subst, ⊎_elim, lit<, arith, add-one, add-zero, add-suc, add_assoc, add_comm}
 use Rattle.std.proofs.Math.Path.{ap₂}
-use Rattle.std.specs.Prelude.{slice_index, slice_index_or, slice_set, bit_and, count_ones, count_by, option_map}
-use Rattle.std.proofs.lemmas.List.{length-take, take-append-le, length_push, get_or_past, get_or-set_other}
-use Rattle.std.proofs.lemmas.Grind.{get_or-set_at}
+use Rattle.std.specs.Prelude.{slice_index, slice_index_or, bit_and, count_ones, count_by, option_map}
+use Rattle.std.proofs.lemmas.List.{length-take, take-append-le, length_push, get_or_past}
 use Rattle.std.proofs.lemmas.List.Sums.{count_by_more_yes, count_by_more_no, count_by-le-length, sum_by-append}
 use Rattle.std.proofs.lemmas.Bool.{cases_lt, cases_Bool, true≢false}
 use Rattle.std.proofs.lemmas.Nat.{leading_length, shr-shr, pow-add, one_shl, and_mask, ones_cat, mod_below, pow_pos, pow_below, mod-pow-add, ones_le_self}
@@ -152,32 +151,6 @@ unfolding count_before
 count_before_some cs zero h = absurd (omega arith)
 count_before_some cs (suc i) h = ap (slice_index cs) (omega arith)
 
--- the nearest count, and of the eight words of a half of its chunk how many are set in all and before word `block`
-pub half_counted : (f : ℕ → Bool) (block all below counted i : ℕ) → i ≡ 8 → counted ≡ ones_below f (1024 * ((block / 8 + 1) / 2)) → ones_below f (64 * (block - block % 8 + i)) ≡ ones_below f (64 * (block - block % 8)) + all → ones_below f (64 * (block - block % 8 + block % 8)) ≡ ones_below f (64 * (block - block % 8)) + below → (all * (block / 8 % 2) ≤ counted) × (counted - all * (block / 8 % 2) + below ≡ ones_below f (64 * block))
-half_counted f block all below counted i n c a b =
-    let p : block - block % 8 + block % 8 ≡ block = omega arith in
-    let d = ap (λ (x : ℕ). ones_below f (64 * x)) p in
-    go d (block / 8 % 2) refl
-  where
-    go : ones_below f (64 * (block - block % 8 + block % 8)) ≡ ones_below f (64 * block) → (side : ℕ) → block / 8 % 2 ≡ side → (all * side ≤ counted) × (counted - all * side + below ≡ ones_below f (64 * block))
-    go d zero e =
-        let q : 1024 * ((block / 8 + 1) / 2) ≡ 64 * (block - block % 8) = omega arith in
-        let r = c ∙ ap (ones_below f) q in
-        (omega arith, omega arith)
-    go d (suc zero) e =
-        let q : 1024 * ((block / 8 + 1) / 2) ≡ 64 * (block - block % 8 + i) = omega arith in
-        let r = c ∙ ap (ones_below f) q in
-        (omega arith, omega arith)
-    go d (suc (suc n)) e = absurd (omega arith)
-
--- one word more, of which it is known how many stand set before it
-pub before_more : (f : ℕ → Bool) (first i all : ℕ) (before : List ℕ) → ((j : ℕ) → j < i → ones_below f (64 * (first + j)) ≡ ones_below f (64 * first) + slice_index before j) → i < length before → ones_below f (64 * (first + i)) ≡ ones_below f (64 * first) + all → (j : ℕ) → j < i + 1 → ones_below f (64 * (first + j)) ≡ ones_below f (64 * first) + slice_index (slice_set before i all) j
-before_more f first i all before h l a j k =
-    ⊎_elim
-    (λ (m : j < i). h j m ∙ ap (λ (x : ℕ). ones_below f (64 * first) + x) (sym (get_or-set_other before i j all 0 (λ (e : j ≡ i). omega (arith, e, m)))))
-    (λ (m : i ≤ j). let e : j ≡ i = omega arith in ap (λ (x : ℕ). ones_below f (64 * (first + x))) e ∙ a ∙ ap (λ (x : ℕ). ones_below f (64 * first) + x) (sym (get_or-set_at before i j all 0 e l)))
-    (cases_lt j i)
-
 -- the counts of bits are those of their words
 pub count_words : (ws cs : List ℕ) (t n : ℕ) → n < 64 → AreCounts (bits_of ws t n) cs → CountWords (ws ++ t ∷ []) cs
 unfolding CountWords bits_of AreCounts
@@ -197,10 +170,6 @@ ones_shr w p n = ones_below_add (bit w) (bit (w / 2 ^ p)) p n (λ j l. sym (bit_
 
 pub halves_start : (w : ℕ) → w < 2 ^ 64 → count_ones w ≡ ones_below (bit w) (2 ^ 6)
 halves_start w h = let q : w % 2 ^ 64 ≡ w = omega arith in sym (ap count_ones q) ∙ ones_of_mod w 64
-
--- at most 64 bits of a word are set
-pub ones_of_word : (w : ℕ) → w < 2 ^ 64 → count_ones w ≤ 64
-ones_of_word w h = let e = halves_start w h in let l = ones_below_le (bit w) (2 ^ 6) in omega arith
 
 -- the place is in the upper half
 pub halves_high : (w k l : ℕ) → k < ones_below (bit w) (2 ^ (l + 1)) → ones_below (bit w) (2 ^ l) ≤ k → k - ones_below (bit w) (2 ^ l) < ones_below (bit (w / 2 ^ (2 ^ l))) (2 ^ l)

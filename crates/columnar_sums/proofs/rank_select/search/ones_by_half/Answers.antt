@@ -2,7 +2,8 @@ use Rattle.std.proofs.Common.{◌≡◌, ℕ, ◌+◌, ◌-◌, ◌*◌, ◌/◌
 use Rattle.std.proofs.lemmas.List.{length-set}
 use Rattle.columnar_bits.specs.Bits.{bit_in}
 use Rattle.columnar_sums.specs.Counting.{ones_below}
-use Rattle.columnar_sums.specs.CountLaws.{before_more, count_before_is, half_counted, kept_more, length_words, ones_below_le, ones_of_word, ones_word_whole}
+use Rattle.columnar_sums.specs.CountLaws.{count_before_is, kept_more, length_words, ones_below_le, ones_word_whole}
+use Rattle.columnar_sums.specs.HalfLaws.{before_more, half_counted, ones_of_word}
 use Rattle.columnar_sums.proofs.rank_select.search.ones_by_half.Goals as goal
 
 pub loop-i-preserved : goal.loop-i-preserved

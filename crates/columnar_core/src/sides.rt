@@ -171,7 +171,7 @@ pub fn check_tuple<'x, A: Check + Len, R: LentSides, L>(
     }
 }
 
-/// The same of a tuple of six parts or more: the first five, and the nest of the others.
+/// The same of a long tuple: its first five parts, and the nest of the others.
 pub fn check_long<
     'x,
     A: Check + Len,

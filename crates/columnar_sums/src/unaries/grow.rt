@@ -5,6 +5,7 @@ ghost use Rattle.columnar_core.specs.Change.{Stayed, Took, Copied, Refused};
 ghost use Rattle.columnar_core.specs.Row.{number};
 ghost use Rattle.columnar_core.specs.Elements.{word_row};
 ghost use Rattle.columnar_core.specs.WordViews.{words_in, le_bytes, view_bytes};
+ghost use Rattle.columnar_bits.specs.Bits.{bit as bit_of, truths};
 ghost use Rattle.columnar_bits.specs.BoolColumns.{bools_format, owned_content, owned_bits, IsOfGrowth};
 ghost use Rattle.columnar_sums.specs.Counting.{ones};
 ghost use Rattle.columnar_sums.specs.RankColumns.{ranks_format, ranks_content, bits_ranked, owned_ranks, ranked_bits};
@@ -33,6 +34,26 @@ type Owned = Unaries<Vec<u64>, Vec<u64>, [u64; 2]>;
 
 type Viewed<'a> = Unaries<View<'a, u64>, View<'a, u64>, View<'a, u64>>;
 
+// Appends the `count` lowest bits of a word, where no bit is set from there on; all or none.
+pub(crate) fn push_word(
+    values: &mut Bools<Vec<u64>, [u64; 2]>,
+    word: u64,
+    count: usize,
+) -> Result<(), GrowError>
+    requires sound { IsSound bools_format (owned_content values.old) }
+    requires short { count ≤ 64 }
+    requires below { word < 2 ^ count }
+    ensures ok { OnOk result (owned_bits values.new ≡ owned_bits values.old ++ truths (bit_of word) count) }
+    ensures err { OnErr result (owned_content values.new ≡ owned_content values.old) }
+    ensures sound { IsSound bools_format (owned_content values.new) }
+    ensures memory { IfErr result (λ e. e ≡ GrowError.Memory) }
+{
+    match values.push_bits(word, count) {
+        Ok(()) => Ok(()),
+        Err(_) => Err(GrowError::Memory),
+    }
+}
+
 // Appends `count` falses and a true, which stand in two words at most; all or none.
 fn push_short(values: &mut Bools<Vec<u64>, [u64; 2]>, count: usize) -> Result<(), GrowError>
     requires sound { IsSound bools_format (owned_content values.old) }
@@ -42,10 +63,7 @@ fn push_short(values: &mut Bools<Vec<u64>, [u64; 2]>, count: usize) -> Result<()
     ensures sound { IsSound bools_format (owned_content values.new) }
     ensures memory { IfErr result (λ e. e ≡ GrowError.Memory) }
 {
-    match values.push_bits(1 << count, count + 1) {
-        Ok(()) => Ok(()),
-        Err(_) => Err(GrowError::Memory),
-    }
+    push_word(values, 1 << count, count + 1)
 }
 
 // Appends `count` falses, up to 64 at a time; all or none.

@@ -10,7 +10,7 @@ ghost use Rattle.columnar_bits.specs.BoolColumns.{bools_format, owned_content, o
 ghost use Rattle.columnar_sums.specs.Unary.{all_false, runs, falls};
 ghost use Rattle.columnar_sums.specs.UnaryColumns.{unaries_format, offsets_of};
 
-use super::grow::push_falses;
+use super::grow::{push_falses, push_word};
 use columnar_bits::bools::Bools;
 use columnar_core::container::Storage;
 use columnar_core::fault::GrowError;
@@ -31,21 +31,6 @@ fn with_run(word: u64, count: usize, run: usize) -> u64
     word | 1 << (count + run)
 }
 
-// Appends the `count` bits of a word.
-fn push_word(bits: &mut Bits, word: u64, count: usize) -> Result<(), GrowError>
-    requires sound { IsSound bools_format (owned_content bits.old) }
-    requires short { count ≤ 64 }
-    requires below { word < 2 ^ count }
-    ensures ok { OnOk result (owned_bits bits.new ≡ owned_bits bits.old ++ truths (bit_of word) count) }
-    ensures sound { IsSound bools_format (owned_content bits.new) }
-    ensures memory { IfErr result (λ e. e ≡ GrowError.Memory) }
-{
-    match bits.push_bits(word, count) {
-        Ok(()) => Ok(()),
-        Err(_) => Err(GrowError::Memory),
-    }
-}
-
 // Appends what the offsets are in unary, as many bits at once as a word holds.
 fn push_runs(bits: &mut Bits, offsets: &Vec<u64>) -> Result<(), GrowError>
     requires bits { IsSound bools_format (owned_content bits.old) }
@@ -64,10 +49,11 @@ fn push_runs(bits: &mut Bits, offsets: &Vec<u64>) -> Result<(), GrowError>
             word = with_run(word, count, run);
             count += run + 1;
         } else {
+            let rest = run % 64;
             push_word(bits, word, count)?;
-            push_falses(bits, run - run % 64)?;
-            word = with_run(0, 0, run % 64);
-            count = run % 64 + 1;
+            push_falses(bits, run - rest)?;
+            word = with_run(0, 0, rest);
+            count = rest + 1;
         }
         last = end;
     }

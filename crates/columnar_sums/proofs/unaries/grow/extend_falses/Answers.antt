@@ -1,4 +1,4 @@
-use Rattle.std.proofs.Common.{◌≡◌, ◌+◌, ◌-◌, ◌*◌, ◌/◌, ◌%◌, ◌<◌, ◌≤◌, ◌∙◌, ◌++◌, ap, sym, ℕ, List, length, arith}
+use Rattle.std.proofs.Common.{◌≡◌, ◌+◌, ◌-◌, ◌/◌, ◌∙◌, ◌++◌, ap, sym, ℕ, List, length, arith}
 use Rattle.columnar_core.specs.ChangeLaws.{passed_on, undone}
 use Rattle.columnar_core.specs.WordViews.{le_bytes, words_in}
 use Rattle.columnar_core.specs.WordViewLaws.{length-le_bytes}

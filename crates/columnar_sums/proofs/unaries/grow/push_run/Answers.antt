@@ -1,4 +1,4 @@
-use Rattle.std.proofs.Common.{◌≡◌, ◌+◌, ◌/◌, ◌%◌, ◌<◌, ◌∙◌, ◌∷◌, ◌++◌, [], true, ℕ, List, length, arith, length-append}
+use Rattle.std.proofs.Common.{◌≡◌, ◌+◌, ◌/◌, ◌∙◌, ◌∷◌, ◌++◌, [], true, ℕ, List, length, arith, length-append}
 use Rattle.columnar_core.specs.WordViews.{le_bytes}
 use Rattle.columnar_bits.specs.BoolColumns.{bits_in}
 use Rattle.columnar_bits.specs.BoolLaws.{bools_parts}

@@ -42,7 +42,7 @@ loop-i-preserved c =
           let begun : truths (bit after) (run % 64 + 1) ≡ all_false (run % 64) ++ true ∷ [] = rw (many, no_truths 0) at w.with_run-word-else-run-count.ensures.bits in
           record {
             sound = rw w.bits-is w.push_falses.ensures.sound;
-            bits = rw (w.bits-is, w.word-is, w.count-is, more) (run_apart old now (owned_bits w.push_word.new.bits) (owned_bits w.push_falses.new.values) done word (truths (bit after) (run % 64 + 1)) run i.bits w.in_ok-push_word.ensures.ok w.in_ok-push_falses.ensures.ok begun);
+            bits = rw (w.bits-is, w.word-is, w.count-is, more) (run_apart old now (owned_bits w.push_word.new.values) (owned_bits w.push_falses.new.values) done word (truths (bit after) (run % 64 + 1)) run i.bits w.in_ok-push_word.ensures.ok w.in_ok-push_falses.ensures.ok begun);
             last = last;
             few = omega (arith, w.count-is);
             below = rw (w.word-is, w.count-is, sym many) w.with_run-word-else-run-count.ensures.below;

@@ -21,6 +21,7 @@ pub use Rattle.columnar_core.specs.TupleLaws
 pub use Rattle.columnar_core.specs.LongTuples
 pub use Rattle.columnar_core.specs.Sent
 pub use Rattle.columnar_sums.specs.Counting
+pub use Rattle.columnar_sums.specs.Spans
 pub use Rattle.columnar_sums.specs.RankColumns
 pub use Rattle.columnar_sums.specs.Unary
 pub use Rattle.columnar_sums.specs.UnaryColumns

@@ -49,7 +49,8 @@ fn risen<C: Index<Ref = u64> + Len, L>(
     if rising { Some(last) } else { None }
 }
 
-// As `rises_to` of a column of numbers: reads them one by one, a turn for each, and ends with the stretch in which one falls.
+// As `rises_to` of a column of numbers: reads them one by one, a turn for each and for each stretch, and ends with the stretch
+// in which one falls.
 fn rises_by_reading<C: Index<Ref = u64> + Len, L>(
     column: &C,
     end: u64,
@@ -57,12 +58,13 @@ fn rises_by_reading<C: Index<Ref = u64> + Len, L>(
 ) -> bool
     requires { IsSound C.format (C.content column.now) }
     ensures value { result ≡ rises 0 (numbers (C.format.rows (C.content column.now))) end }
-    ensures turns { tally.new.turns ≤ tally.old.turns + length (C.format.rows (C.content column.now)) }
+    ensures turns { tally.new.turns ≤ tally.old.turns + 2 * length (C.format.rows (C.content column.now)) }
 {
     let count = column.len();
     let mut last = 0u64;
     let mut at = 0;
     while count - at >= STRETCH {
+        tally.tick();
         let Some(next) = risen(column, at, STRETCH, last, tally) else {
             return false;
         };

@@ -2,6 +2,7 @@
 ghost use Rattle.std.specs.Prelude.{◌≡◌, ℕ, ◌+◌, ◌-◌, ◌*◌, ◌/◌, ◌%◌, ◌^◌, ◌<◌, ◌≤◌, length, slice_index, true, MatchOption, count_ones, cond};
 ghost use Rattle.columnar_bits.specs.Bits.{bit as bit_of, bit_in};
 ghost use Rattle.columnar_sums.specs.Counting.{ones_below, CountWords, count_before, Adds, digits};
+ghost use Rattle.columnar_sums.specs.Spans.{IsSpan};
 
 use columnar_core::metered::{MeteredCounts, MeteredWords};
 use columnar_core::tally::Tally;
@@ -159,24 +160,127 @@ pub fn select_in_word(word: u64, rank: u64) -> u64
     }
 }
 
-// The first chunk with more than `rank` trues up to its end, and how many stand before it, by binary search. How many turns there
-// are depends on the number of counts alone, and what a turn reads decides two moves: no jump depends on it, which no processor
-// could tell beforehand.
+// What a search for a chunk has left: it is one of the `rest` from `low` on, or the one after them, and `sum` trues stand before
+// chunk `low`.
+#[derive(Clone, Copy)]
+struct Span {
+    low: usize,
+    sum: u64,
+    rest: usize,
+}
+
+// What is left after a look at count `at` of a span, and that count.
+#[tactic(auto, using(crate::specs::CountLaws::count_before_next))]
+#[inline(always)]
+fn looked<L>(
+    counts: &MeteredCounts<'_, L>,
+    rank: u64,
+    span: Span,
+    at: usize,
+    tally: &mut Tally<L>,
+) -> (Span, u64)
+    requires span { IsSpan counts.now rank span.low span.sum span.rest }
+    requires inside { at < span.rest }
+    ensures span { IsSpan counts.now rank result.0.low result.0.sum result.0.rest }
+    ensures less { result.0.rest < span.rest }
+    ensures half { at ≡ span.rest / 2 → result.0.rest ≤ span.rest / 2 }
+    ensures counts { tally.new.counts ≡ tally.old.counts + 1 }
+    ensures words { tally.new.words ≡ tally.old.words }
+    ensures turns { tally.new.turns ≡ tally.old.turns }
+{
+    let count = counts.read(span.low + at, tally);
+    let left = if count <= rank {
+        Span {
+            low: span.low + at + 1,
+            sum: count,
+            rest: span.rest - at - 1,
+        }
+    } else {
+        Span { rest: at, ..span }
+    };
+    (left, count)
+}
+
+// The same of the count of a chunk, where that is in the span.
+#[inline(always)]
+fn looked_near<L>(
+    counts: &MeteredCounts<'_, L>,
+    rank: u64,
+    span: Span,
+    chunk: usize,
+    tally: &mut Tally<L>,
+) -> Span
+    requires span { IsSpan counts.now rank span.low span.sum span.rest }
+    ensures span { IsSpan counts.now rank result.low result.sum result.rest }
+    ensures less { result.rest ≤ span.rest }
+    ensures spent { result.rest ≡ span.rest → tally.new.counts ≡ tally.old.counts }
+    ensures counts { tally.new.counts ≤ tally.old.counts + 1 }
+    ensures more { tally.old.counts ≤ tally.new.counts }
+    ensures words { tally.new.words ≡ tally.old.words }
+    ensures turns { tally.new.turns ≡ tally.old.turns }
+{
+    if span.low <= chunk && chunk - span.low < span.rest {
+        looked(counts, rank, span, chunk - span.low, tally).0
+    } else {
+        span
+    }
+}
+
+// What is left after a look at the count in the middle, and two a little below and above where the rank is if the counts rise
+// evenly up to there: of these first the one that leaves more out, and the other where it can leave half out.
+#[tactic(auto, using(crate::specs::Spans::digits_le, crate::specs::Spans::digits_half))]
+fn narrowed<L>(counts: &MeteredCounts<'_, L>, rank: u64, span: Span, tally: &mut Tally<L>) -> Span
+    requires span { IsSpan counts.now rank span.low span.sum span.rest }
+    requires some { 0 < span.rest }
+    ensures span { IsSpan counts.now rank result.low result.sum result.rest }
+    ensures less { result.rest ≤ span.rest }
+    ensures cost { tally.new.counts + digits result.rest ≤ tally.old.counts + digits span.rest + 1 }
+    ensures counts { tally.old.counts ≤ tally.new.counts }
+    ensures words { tally.new.words ≡ tally.old.words }
+    ensures turns { tally.new.turns ≡ tally.old.turns }
+{
+    let middle = span.rest / 2;
+    let (half, count) = looked(counts, rank, span, middle, tally);
+    let chunk = (rank.wrapping_mul(middle as u64 + 1) / count.max(1)) as usize;
+    let near = half.rest / 2;
+    let (below, above) = (chunk.saturating_sub(8), chunk.saturating_add(8));
+    let (first, second) = if chunk < half.low + near {
+        (above, below)
+    } else {
+        (below, above)
+    };
+    let once = looked_near(counts, rank, half, first, tally);
+    if once.rest <= near {
+        looked_near(counts, rank, once, second, tally)
+    } else {
+        once
+    }
+}
+
+// The first chunk with more than `rank` trues up to its end, and how many stand before it, by binary search of a span. How many
+// turns there are depends on how many counts it has alone, and what a turn reads decides two moves: no jump depends on it, which no
+// processor could tell beforehand.
 #[tactic(auto, using(crate::specs::CountLaws::digits_from))]
-fn find_chunk<L>(counts: &MeteredCounts<'_, L>, rank: u64, tally: &mut Tally<L>) -> (usize, u64)
+fn find_in_span<L>(
+    counts: &MeteredCounts<'_, L>,
+    rank: u64,
+    span: Span,
+    tally: &mut Tally<L>,
+) -> (usize, u64)
     requires rising { (i : ℕ) → i + 1 < length counts.now → slice_index counts.now i ≤ slice_index counts.now (i + 1) }
+    requires span { IsSpan counts.now rank span.low span.sum span.rest }
     ensures within { result.0 ≤ length counts.now }
     ensures before { result.1 ≡ count_before counts.now result.0 }
     ensures below { result.1 ≤ rank }
     ensures above { result.0 < length counts.now → rank < slice_index counts.now result.0 }
-    ensures cost { tally.new.counts ≤ tally.old.counts + digits (length counts.now) }
+    ensures cost { tally.new.counts ≤ tally.old.counts + digits span.rest }
     ensures counts { tally.old.counts ≤ tally.new.counts }
     ensures words { tally.new.words ≡ tally.old.words }
-    ensures turns { tally.new.turns ≤ tally.old.turns + digits (length counts.now) }
+    ensures turns { tally.new.turns ≤ tally.old.turns + digits span.rest }
 {
-    let mut low = 0;
-    let mut sum = 0;
-    let mut rest = counts.len();
+    let mut low = span.low;
+    let mut sum = span.sum;
+    let mut rest = span.rest;
     while rest > 0 {
         tally.tick();
         let half = rest / 2;
@@ -189,6 +293,32 @@ fn find_chunk<L>(counts: &MeteredCounts<'_, L>, rank: u64, tally: &mut Tally<L>)
         rest = half;
     }
     (low, sum)
+}
+
+// The first chunk with more than `rank` trues up to its end, and how many stand before it.
+#[tactic(auto, using(crate::specs::Spans::digits_le, crate::specs::CountLaws::count_before_none))]
+fn find_chunk<L>(counts: &MeteredCounts<'_, L>, rank: u64, tally: &mut Tally<L>) -> (usize, u64)
+    requires rising { (i : ℕ) → i + 1 < length counts.now → slice_index counts.now i ≤ slice_index counts.now (i + 1) }
+    ensures within { result.0 ≤ length counts.now }
+    ensures before { result.1 ≡ count_before counts.now result.0 }
+    ensures below { result.1 ≤ rank }
+    ensures above { result.0 < length counts.now → rank < slice_index counts.now result.0 }
+    ensures cost { tally.new.counts ≤ tally.old.counts + (digits (length counts.now) + 1) }
+    ensures counts { tally.old.counts ≤ tally.new.counts }
+    ensures words { tally.new.words ≡ tally.old.words }
+    ensures turns { tally.new.turns ≤ tally.old.turns + digits (length counts.now) }
+{
+    let whole = Span {
+        low: 0,
+        sum: 0,
+        rest: counts.len(),
+    };
+    let span = if whole.rest < 64 {
+        whole
+    } else {
+        narrowed(counts, rank, whole, tally)
+    };
+    find_in_span(counts, rank, span, tally)
 }
 
 // The place of the set bit before which there are `rank` others.

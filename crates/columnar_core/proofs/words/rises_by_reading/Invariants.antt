@@ -1,4 +1,4 @@
-use Rattle.std.proofs.Common.{◌≡◌, ◌+◌, ◌-◌, ◌≤◌, drop}
+use Rattle.std.proofs.Common.{◌≡◌, ◌+◌, ◌-◌, ◌*◌, ◌≤◌, drop}
 use Rattle.columnar_core.specs.Bounds.{rises, numbers}
 use Rattle.columnar_core.proofs.words.rises_by_reading.Given as goal
 
@@ -7,7 +7,7 @@ invariant-loop-at g l =
     record {
       within : l.at ≤ l.count;
       value : rises 0 (numbers (g.C.Column.format.rows (g.C.Column.content l.fn.column))) l.fn.end ≡ rises l.last (drop l.at (numbers (g.C.Column.format.rows (g.C.Column.content l.fn.column)))) l.fn.end;
-      turns : l.tally.turns ≤ l.fn.tally.turns + l.at;
+      turns : l.tally.turns ≤ l.fn.tally.turns + 2 * l.at;
     }
 
 abbrev pub decreases-loop-at : goal.decreases-loop-at

@@ -1,7 +1,7 @@
 use Rattle.std.proofs.Common.{◌≡◌, ◌+◌, ◌-◌, ◌*◌, ◌^◌, ◌<◌, ◌≤◌, length}
 use Rattle.std.specs.Prelude.{slice_index}
 use Rattle.columnar_sums.specs.Counting.{count_before}
-use Rattle.columnar_sums.proofs.rank_select.search.find_chunk.Given as goal
+use Rattle.columnar_sums.proofs.rank_select.search.find_in_span.Given as goal
 
 abbrev pub invariant-loop-rest : goal.invariant-loop-rest
 invariant-loop-rest g l =
@@ -10,9 +10,10 @@ invariant-loop-rest g l =
       before : l.sum ≡ count_before l.counts l.low;
       below : l.sum ≤ l.rank;
       above : l.low + l.rest < length l.counts → l.rank < slice_index l.counts (l.low + l.rest);
+      fits : l.low + l.rest < 2 ^ 64;
       more : l.fn.tally.counts ≤ l.tally.counts;
-      shrinks : 2 ^ (l.tally.counts - l.fn.tally.counts) * l.rest ≤ length l.counts;
-      cost : 2 ^ (l.tally.counts - l.fn.tally.counts) ≤ 2 * length l.counts + 1;
+      shrinks : 2 ^ (l.tally.counts - l.fn.tally.counts) * l.rest ≤ l.fn.span.rest;
+      cost : 2 ^ (l.tally.counts - l.fn.tally.counts) ≤ 2 * l.fn.span.rest + 1;
       words : l.tally.words ≡ l.fn.tally.words;
       turns : l.tally.turns + l.fn.tally.counts ≡ l.fn.tally.turns + l.tally.counts;
     }

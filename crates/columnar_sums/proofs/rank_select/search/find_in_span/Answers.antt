@@ -1,17 +1,18 @@
 use Rattle.std.proofs.Common.{◌≡◌, ℕ, ◌+◌, ◌-◌, ◌/◌, ◌<◌, ◌≤◌, ◌∙◌, refl, sym, subst, ⊎_elim, arith, length}
 use Rattle.std.proofs.lemmas.Bool.{cases_lt}
 use Rattle.std.specs.Prelude.{slice_index}
-use Rattle.columnar_sums.specs.CountLaws.{count_before_none, count_before_next, halving}
-use Rattle.columnar_sums.proofs.rank_select.search.find_chunk.Goals as goal
+use Rattle.columnar_sums.specs.CountLaws.{count_before_next, halving}
+use Rattle.columnar_sums.proofs.rank_select.search.find_in_span.Goals as goal
 
 pub loop-rest-init : goal.loop-rest-init
 loop-rest-init g c =
     let same : c.args.tally.now.counts - c.args.tally.now.counts ≡ 0 = omega arith in
     record {
-      within = omega arith;
-      before = sym (count_before_none c.args.counts.now);
-      below = omega arith;
-      above = λ h. absurd (omega arith);
+      within = c.requires.span.within;
+      before = c.requires.span.before;
+      below = c.requires.span.below;
+      above = c.requires.span.above;
+      fits = c.requires.span.fits;
       more = omega arith;
       shrinks = rw same (omega arith);
       cost = rw same (omega arith);
@@ -24,7 +25,7 @@ loop-rest-preserved-then-count-rank g c =
     let i = c.loop-rest.invariant in
     let n : ℕ = c.loop-rest.rest in
     let at : ℕ = c.loop-rest.low + (n - n / 2) - 1 in
-    let s = halving c.args.tally.now.counts c.loop-rest.tally.counts c.read-count.new.tally.counts n (n / 2) (length c.args.counts.now) (omega arith) i.more i.shrinks (omega arith) (omega arith) in
+    let s = halving c.args.tally.now.counts c.loop-rest.tally.counts c.read-count.new.tally.counts n (n / 2) c.args.span.rest (omega arith) i.more i.shrinks (omega arith) (omega arith) in
     let next : c.loop-rest.low + (n - n / 2) ≡ at + 1 = omega arith in
     let same : c.loop-rest.low + (n - n / 2) + n / 2 ≡ c.loop-rest.low + n = omega arith in
     record {
@@ -32,6 +33,7 @@ loop-rest-preserved-then-count-rank g c =
       before = rw next (c.read-count.ensures.value ∙ sym (count_before_next c.args.counts.now at));
       below = omega arith;
       above = subst (λ (x : ℕ). x < length c.args.counts.now → c.args.rank < slice_index c.args.counts.now x) (sym same) i.above;
+      fits = omega (arith, i.fits);
       more = omega arith;
       shrinks = s.0;
       cost = s.1;
@@ -44,7 +46,7 @@ loop-rest-preserved g c =
     let i = c.loop-rest.invariant in
     let n : ℕ = c.loop-rest.rest in
     let at : ℕ = c.loop-rest.low + (n - n / 2) - 1 in
-    let s = halving c.args.tally.now.counts c.loop-rest.tally.counts c.read-count.new.tally.counts n (n / 2) (length c.args.counts.now) (omega arith) i.more i.shrinks (omega arith) (omega arith) in
+    let s = halving c.args.tally.now.counts c.loop-rest.tally.counts c.read-count.new.tally.counts n (n / 2) c.args.span.rest (omega arith) i.more i.shrinks (omega arith) (omega arith) in
     record {
       within = omega arith;
       before = i.before;
@@ -56,6 +58,7 @@ loop-rest-preserved g c =
           let r = c.requires.rising at (omega arith) in
           subst (λ (x : ℕ). c.args.rank < slice_index c.args.counts.now x) (sym e) (omega (arith, r, c.read-count.ensures.value)))
           (cases_lt (n / 2) (n - n / 2));
+      fits = omega (arith, i.fits);
       more = omega arith;
       shrinks = s.0;
       cost = s.1;

@@ -114,7 +114,7 @@ impl<TC: Column, VC: Distances, CC: Words, RC: Words, WC: Words, const N: u8> Lo
         ensures within { result < length (TC.format.rows (TC.content self.now.inner.oks)) }
         ensures row { slice_get ((lookbacks_format TC.format VC.format).rows (results_content TC.content VC.content CC.bytes RC.bytes WC.bytes self.now.inner)) index ≡ slice_get (TC.format.rows (TC.content self.now.inner.oks)) result }
     {
-        let before = self.inner.indexes.rank(index);
+        let before = self.inner.indexes.rank_in_turn(index);
         if self.inner.indexes.get(index) {
             before
         } else {

@@ -62,7 +62,7 @@ impl<TC: Column, CC: Words, VC: Words, WC: Words> Repeats<TC, CC, VC, WC> {
         ensures within { result < length (TC.format.rows (TC.content self.now.inner.somes)) }
         ensures row { slice_get ((repeats_format TC.format).rows (both (ranks_content CC.bytes VC.bytes WC.bytes self.now.inner.indexes) (TC.content self.now.inner.somes))) index ≡ slice_get (TC.format.rows (TC.content self.now.inner.somes)) result }
     {
-        let before = self.inner.indexes.rank(index);
+        let before = self.inner.indexes.rank_in_turn(index);
         if self.inner.indexes.get(index) {
             before
         } else {

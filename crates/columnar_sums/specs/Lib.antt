@@ -1,6 +1,7 @@
 pub mod Agree
 pub mod Counting
 pub mod CountLaws
+pub mod HalfLaws
 pub mod Spans
 pub mod CountsKeptLaws
 pub mod RankColumns

@@ -38,7 +38,7 @@ impl<TC: Index, CC: Words, VC: Words, WC: Words> Index for Options<TC, CC, VC, W
 
     fn get(&self, index: usize) -> Option<TC::Ref> {
         if self.indexes.get(index) {
-            let at = self.indexes.rank(index);
+            let at = self.indexes.rank_in_turn(index);
             Some(self.somes.get(at))
         } else {
             None
@@ -56,7 +56,7 @@ where
     fn get(&self, index: usize) -> Option<<&'a TC as Index>::Ref> {
         let column: &'a Options<TC, CC, VC, WC> = *self;
         if column.indexes.get(index) {
-            let at = column.indexes.rank(index);
+            let at = column.indexes.rank_in_turn(index);
             let values: &'a TC = &column.somes;
             Some(values.get(at))
         } else {

@@ -22,7 +22,7 @@ use columnar_core::words::Words;
 pub use cursor::{Cursor, Cursor as RankSelectCursor};
 pub(crate) use grow::counted;
 pub use search::select_in_word;
-use search::{rank_in, select_in};
+use search::{rank_in, rank_in_words, select_in};
 
 /// Truth values, and how many are set up to the end of each 1024 of them.
 #[derive(Clone, Copy, PartialEq, Drop)]
@@ -91,6 +91,21 @@ impl<CC: Words, VC: Words, WC: Words> RankSelect<CC, VC, WC> {
         ensures turns { tally.new.turns ≤ tally.old.turns + 16 }
     {
         rank_in(&self.metered_counts(), &self.metered_words(), index, tally)
+    }
+
+    /// As `rank`, by the words since the count before the place: less to do where one place is asked for after the other, as
+    /// rows are read, and more where they are asked for at random.
+    pub fn rank_in_turn(&self, index: usize) -> usize
+        requires ranked { IsRanked CC.bytes VC.bytes WC.bytes self.now }
+        requires in_range { index ≤ length (bits_ranked VC.bytes WC.bytes self.now) }
+        ensures value { result ≡ ones (bits_ranked VC.bytes WC.bytes self.now) index }
+    {
+        rank_in_words(
+            &self.metered_counts(),
+            &self.metered_words(),
+            index,
+            &mut Tally::new(),
+        )
     }
 
     // How many bits are set; what it reads is added to the tally, as of a rank.

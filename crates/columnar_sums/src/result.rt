@@ -39,7 +39,7 @@ impl<SC: Index, TC: Index, CC: Words, VC: Words, WC: Words> Index for Results<SC
     type Ref = Result<SC::Ref, TC::Ref>;
 
     fn get(&self, index: usize) -> Result<SC::Ref, TC::Ref> {
-        let at = self.indexes.rank(index);
+        let at = self.indexes.rank_in_turn(index);
         if self.indexes.get(index) {
             Ok(self.oks.get(at))
         } else {
@@ -59,7 +59,7 @@ where
 
     fn get(&self, index: usize) -> Result<<&'a SC as Index>::Ref, <&'a TC as Index>::Ref> {
         let column: &'a Results<SC, TC, CC, VC, WC> = *self;
-        let at = column.indexes.rank(index);
+        let at = column.indexes.rank_in_turn(index);
         if column.indexes.get(index) {
             let oks: &'a SC = &column.oks;
             Ok(oks.get(at))

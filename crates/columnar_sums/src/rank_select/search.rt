@@ -34,7 +34,7 @@ fn ones_before<L>(counts: &MeteredCounts<'_, L>, chunk: usize, tally: &mut Tally
 
 // How many of the first `index` bits of the words are set, from the count of the chunk before and the words since.
 #[tactic(auto, using(crate::specs::CountLaws::ones_word_whole, crate::specs::CountLaws::ones_word, crate::specs::CountLaws::ones_below_le, crate::specs::CountLaws::kept_more, crate::specs::CountLaws::count_before_is, crate::specs::CountLaws::length_words))]
-pub(crate) fn rank_in<L>(
+pub(crate) fn rank_in_words<L>(
     counts: &MeteredCounts<'_, L>,
     words: &MeteredWords<'_, L>,
     index: usize,
@@ -58,6 +58,63 @@ pub(crate) fn rank_in<L>(
         sum += words.read(at, tally).count_ones() as usize;
     }
     sum + ones_in(words.read(block, tally), (index % 64) as u64) as usize
+}
+
+// How many bits stand set before word `block`, where the eight words of its half of the chunk are whole: from the count that is
+// nearest to that half. All eight are read wherever the block stands in it, so that no jump depends on that.
+#[tactic(auto, using(crate::specs::CountLaws::ones_word_whole, crate::specs::CountLaws::ones_below_le, crate::specs::CountLaws::kept_more, crate::specs::CountLaws::count_before_is, crate::specs::CountLaws::length_words))]
+fn ones_by_half<L>(
+    counts: &MeteredCounts<'_, L>,
+    words: &MeteredWords<'_, L>,
+    block: usize,
+    tally: &mut Tally<L>,
+) -> usize
+    requires whole { block - block % 8 + 8 < length words.now }
+    requires short { block < 2 ^ 58 }
+    requires counted { (block / 8 + 1) / 2 ≤ length counts.now }
+    requires exact { CountWords words.now counts.now }
+    ensures value { result ≡ ones_below (bit_in words.now) (64 * block) }
+    ensures reads { Adds 1 8 tally.old tally.new }
+    ensures turns { tally.new.turns ≤ tally.old.turns + 8 }
+{
+    let first = block - block % 8;
+    let mut all = 0;
+    let mut before = [0usize; 8];
+    for i in 0..8 {
+        tally.tick();
+        before[i] = all;
+        all += words.read(first + i, tally).count_ones() as usize;
+    }
+    let half = block / 8;
+    let counted = ones_before(counts, (half + 1) / 2, tally) as usize;
+    counted - all * (half % 2) + before[block % 8]
+}
+
+// As `rank_in_words`, by the half of a chunk where that is whole.
+#[tactic(auto, using(crate::specs::CountLaws::ones_word, crate::specs::CountLaws::ones_below_le, crate::specs::CountLaws::kept_more, crate::specs::CountLaws::length_words))]
+pub(crate) fn rank_in<L>(
+    counts: &MeteredCounts<'_, L>,
+    words: &MeteredWords<'_, L>,
+    index: usize,
+    tally: &mut Tally<L>,
+) -> usize
+    requires within { index / 64 < length words.now }
+    requires counted { index / 1024 ≤ length counts.now }
+    requires complete { length words.now ≤ 16 * length counts.now + 16 }
+    requires exact { CountWords words.now counts.now }
+    ensures value { result ≡ ones_below (bit_in words.now) index }
+    ensures reads { Adds 1 16 tally.old tally.new }
+    ensures some_read { length tally.old.words < length tally.new.words }
+    ensures turns { tally.new.turns ≤ tally.old.turns + 16 }
+{
+    let block = index / 64;
+    let whole = words.len() - 1;
+    if block - block % 8 + 8 <= whole {
+        let before = ones_by_half(counts, words, block, tally);
+        before + ones_in(words.read(block, tally), (index % 64) as u64) as usize
+    } else {
+        rank_in_words(counts, words, index, tally)
+    }
 }
 
 // The place of the set bit of the word before which there are `rank` others, by halving, in six turns.

@@ -1,5 +1,5 @@
 use Rattle.std.proofs.Common.{◌∙◌, sym}
-use Rattle.columnar_sums.specs.RankLaws.{ranks_parts, counts_reach, counts_exact, ones_bits}
+use Rattle.columnar_sums.specs.RankLaws.{ranks_parts, counts_cover, counts_reach, counts_exact, ones_bits}
 use Rattle.columnar_sums.proofs.rank_select.RankSelect.rank_tallied.Goals as goal
 
 pub rank_in-requires-clause-within : goal.rank_in-requires-clause-within
@@ -7,6 +7,9 @@ rank_in-requires-clause-within g c = rw c.metered_words.ensures (counts_reach c.
 
 pub rank_in-requires-clause-counted : goal.rank_in-requires-clause-counted
 rank_in-requires-clause-counted g c = rw c.metered_counts.ensures (counts_reach c.args.index (ranks_parts c.requires.ranked) c.requires.in_range).1
+
+pub rank_in-requires-clause-complete : goal.rank_in-requires-clause-complete
+rank_in-requires-clause-complete g c = rw (c.metered_counts.ensures, c.metered_words.ensures) (counts_cover (ranks_parts c.requires.ranked)).1
 
 pub rank_in-requires-clause-exact : goal.rank_in-requires-clause-exact
 rank_in-requires-clause-exact g c = rw (c.metered_words.ensures, c.metered_counts.ensures) (counts_exact (ranks_parts c.requires.ranked))

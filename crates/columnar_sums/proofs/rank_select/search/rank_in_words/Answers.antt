@@ -3,7 +3,7 @@ use Rattle.std.proofs.lemmas.List.{take_all}
 use Rattle.columnar_bits.specs.Bits.{bit_in}
 use Rattle.columnar_sums.specs.Counting.{ones_below}
 use Rattle.columnar_sums.specs.CountLaws.{count_before_is, ones_word_whole, ones_below_le}
-use Rattle.columnar_sums.proofs.rank_select.search.rank_in.Goals as goal
+use Rattle.columnar_sums.proofs.rank_select.search.rank_in_words.Goals as goal
 
 pub loop-at-init : goal.loop-at-init
 loop-at-init g c =

@@ -32,23 +32,22 @@ fn ones_before<L>(counts: &MeteredCounts<'_, L>, chunk: usize, tally: &mut Tally
     }
 }
 
-// How many of the first `index` bits of the words are set, from the count of the chunk before and the words since.
-#[tactic(auto, using(crate::specs::CountLaws::ones_word_whole, crate::specs::CountLaws::ones_word, crate::specs::CountLaws::ones_below_le, crate::specs::CountLaws::kept_more, crate::specs::CountLaws::count_before_is, crate::specs::CountLaws::length_words))]
-pub(crate) fn rank_in_words<L>(
+// How many bits stand set before word `block`, from the count before its chunk and the words since.
+#[tactic(auto, using(crate::specs::CountLaws::ones_word_whole, crate::specs::CountLaws::ones_below_le, crate::specs::CountLaws::kept_more, crate::specs::CountLaws::count_before_is, crate::specs::CountLaws::length_words))]
+fn ones_by_words<L>(
     counts: &MeteredCounts<'_, L>,
     words: &MeteredWords<'_, L>,
-    index: usize,
+    block: usize,
     tally: &mut Tally<L>,
 ) -> usize
-    requires within { index / 64 < length words.now }
-    requires counted { index / 1024 ≤ length counts.now }
+    requires within { block < length words.now }
+    requires short { block < 2 ^ 58 }
+    requires counted { block / 16 ≤ length counts.now }
     requires exact { CountWords words.now counts.now }
-    ensures value { result ≡ ones_below (bit_in words.now) index }
-    ensures reads { Adds 1 16 tally.old tally.new }
-    ensures some_read { length tally.old.words < length tally.new.words }
-    ensures turns { tally.new.turns ≤ tally.old.turns + 16 }
+    ensures value { result ≡ ones_below (bit_in words.now) (64 * block) }
+    ensures reads { Adds 1 15 tally.old tally.new }
+    ensures turns { tally.new.turns ≤ tally.old.turns + 15 }
 {
-    let block = index / 64;
     let chunk = block / 16;
     let mut sum = ones_before(counts, chunk, tally) as usize;
     // All that stand before word `block`. They are whole words, so no turn asks whether it reads the tail.
@@ -57,11 +56,11 @@ pub(crate) fn rank_in_words<L>(
         tally.tick();
         sum += words.read(at, tally).count_ones() as usize;
     }
-    sum + ones_in(words.read(block, tally), (index % 64) as u64) as usize
+    sum
 }
 
-// How many bits stand set before word `block`, where the eight words of its half of the chunk are whole: from the count that is
-// nearest to that half. All eight are read wherever the block stands in it, so that no jump depends on that.
+// As `ones_by_words`, where the eight words of the block's half of the chunk are whole: from the count that is nearest to that
+// half. All eight are read wherever the block stands in it, so that no jump depends on that.
 #[tactic(auto, using(crate::specs::CountLaws::ones_word_whole, crate::specs::CountLaws::ones_below_le, crate::specs::CountLaws::kept_more, crate::specs::CountLaws::count_before_is, crate::specs::CountLaws::length_words))]
 fn ones_by_half<L>(
     counts: &MeteredCounts<'_, L>,
@@ -90,6 +89,27 @@ fn ones_by_half<L>(
     counted - all * (half % 2) + before[block % 8]
 }
 
+// How many of the first `index` bits of the words are set, from the count of the chunk before and the words since.
+#[tactic(auto, using(crate::specs::CountLaws::ones_word, crate::specs::CountLaws::ones_below_le, crate::specs::CountLaws::kept_more, crate::specs::CountLaws::length_words))]
+pub(crate) fn rank_in_words<L>(
+    counts: &MeteredCounts<'_, L>,
+    words: &MeteredWords<'_, L>,
+    index: usize,
+    tally: &mut Tally<L>,
+) -> usize
+    requires within { index / 64 < length words.now }
+    requires counted { index / 1024 ≤ length counts.now }
+    requires exact { CountWords words.now counts.now }
+    ensures value { result ≡ ones_below (bit_in words.now) index }
+    ensures reads { Adds 1 16 tally.old tally.new }
+    ensures some_read { length tally.old.words < length tally.new.words }
+    ensures turns { tally.new.turns ≤ tally.old.turns + 16 }
+{
+    let block = index / 64;
+    let before = ones_by_words(counts, words, block, tally);
+    before + ones_in(words.read(block, tally), (index % 64) as u64) as usize
+}
+
 // As `rank_in_words`, by the half of a chunk where that is whole.
 #[tactic(auto, using(crate::specs::CountLaws::ones_word, crate::specs::CountLaws::ones_below_le, crate::specs::CountLaws::kept_more, crate::specs::CountLaws::length_words))]
 pub(crate) fn rank_in<L>(
@@ -109,12 +129,12 @@ pub(crate) fn rank_in<L>(
 {
     let block = index / 64;
     let whole = words.len() - 1;
-    if block - block % 8 + 8 <= whole {
-        let before = ones_by_half(counts, words, block, tally);
-        before + ones_in(words.read(block, tally), (index % 64) as u64) as usize
+    let before = if block - block % 8 + 8 <= whole {
+        ones_by_half(counts, words, block, tally)
     } else {
-        rank_in_words(counts, words, index, tally)
-    }
+        ones_by_words(counts, words, block, tally)
+    };
+    before + ones_in(words.read(block, tally), (index % 64) as u64) as usize
 }
 
 // The place of the set bit of the word before which there are `rank` others, by halving, in six turns.

@@ -3,11 +3,11 @@ use Rattle.std.proofs.lemmas.List.{take_all}
 use Rattle.columnar_bits.specs.Bits.{bit_in}
 use Rattle.columnar_sums.specs.Counting.{ones_below}
 use Rattle.columnar_sums.specs.CountLaws.{count_before_is, ones_word_whole, ones_below_le}
-use Rattle.columnar_sums.proofs.rank_select.search.rank_in_words.Goals as goal
+use Rattle.columnar_sums.proofs.rank_select.search.ones_by_words.Goals as goal
 
 pub loop-at-init : goal.loop-at-init
 loop-at-init g c =
-    let chunk : ℕ = c.args.index / 64 / 16 in
+    let chunk : ℕ = c.args.block / 16 in
     record {
       sum = c.ones_before-sum.ensures.value ∙ count_before_is _ _ chunk c.requires.exact (omega arith) ∙ ap (ones_below (bit_in c.args.words.now)) (let e : 1024 * chunk ≡ 64 * (16 * chunk) = omega arith in e);
       counts = omega arith;
@@ -21,6 +21,3 @@ overflow_add-sum g c =
     let e = ones_word_whole c.args.words.now c.loop-at.at c.read.result c.read.ensures.value c.read.type_inv in
     let l = ones_below_le (bit_in c.args.words.now) (64 * (c.loop-at.at + 1)) in
     omega arith
-
-pub returns-clause-turns : goal.returns-clause-turns
-returns-clause-turns g c = omega (arith, c.read-2.ensures.turns, c.loop-at.invariant.turns)

@@ -48,14 +48,18 @@ fn plain_select(bits: &[bool], rank: u64) -> Option<usize> {
     None
 }
 
-// the rank, where it may be asked
+// the rank, where it may be asked, which in turn is the same
 fn rank_of(column: &Held, index: usize) -> Result<usize, Fail>
     requires { IsSound ranks_format (owned_ranks column.now) }
 {
     if index > column.len() {
         return Err(Fail::from("past the end"));
     }
-    Ok(column.rank(index))
+    let rank = column.rank(index);
+    if column.rank_in_turn(index) != rank {
+        return Err(Fail::from("in turn it is another"));
+    }
+    Ok(rank)
 }
 
 // Are ranks, places and a cursor as a scan has them?

@@ -8,11 +8,7 @@ pub loop-rest-init : goal.loop-rest-init
 loop-rest-init g c =
     let same : c.args.tally.now.counts - c.args.tally.now.counts ≡ 0 = omega arith in
     record {
-      within = c.requires.span.within;
-      before = c.requires.span.before;
-      below = c.requires.span.below;
-      above = c.requires.span.above;
-      fits = c.requires.span.fits;
+      span = c.requires.span;
       more = omega arith;
       shrinks = rw same (omega arith);
       cost = rw same (omega arith);
@@ -29,11 +25,14 @@ loop-rest-preserved-then-count-rank g c =
     let next : c.loop-rest.low + (n - n / 2) ≡ at + 1 = omega arith in
     let same : c.loop-rest.low + (n - n / 2) + n / 2 ≡ c.loop-rest.low + n = omega arith in
     record {
-      within = omega arith;
-      before = rw next (c.read-count.ensures.value ∙ sym (count_before_next c.args.counts.now at));
-      below = omega arith;
-      above = subst (λ (x : ℕ). x < length c.args.counts.now → c.args.rank < slice_index c.args.counts.now x) (sym same) i.above;
-      fits = omega (arith, i.fits);
+      span =
+          record {
+            within = omega (arith, i.span.within);
+            fits = omega (arith, i.span.fits);
+            before = rw next (c.read-count.ensures.value ∙ sym (count_before_next c.args.counts.now at));
+            below = omega arith;
+            above = subst (λ (x : ℕ). x < length c.args.counts.now → c.args.rank < slice_index c.args.counts.now x) (sym same) i.span.above;
+          };
       more = omega arith;
       shrinks = s.0;
       cost = s.1;
@@ -48,17 +47,20 @@ loop-rest-preserved g c =
     let at : ℕ = c.loop-rest.low + (n - n / 2) - 1 in
     let s = halving c.args.tally.now.counts c.loop-rest.tally.counts c.read-count.new.tally.counts n (n / 2) c.args.span.rest (omega arith) i.more i.shrinks (omega arith) (omega arith) in
     record {
-      within = omega arith;
-      before = i.before;
-      below = i.below;
-      above = λ h.
-          ⊎_elim (λ (p : n / 2 < n - n / 2). let e : c.loop-rest.low + n / 2 ≡ at = omega arith in subst (λ (x : ℕ). c.args.rank < slice_index c.args.counts.now x) (sym e) (omega (arith, c.read-count.ensures.value)))
-          (λ (p : n - n / 2 ≤ n / 2).
-          let e : c.loop-rest.low + n / 2 ≡ at + 1 = omega arith in
-          let r = c.requires.rising at (omega arith) in
-          subst (λ (x : ℕ). c.args.rank < slice_index c.args.counts.now x) (sym e) (omega (arith, r, c.read-count.ensures.value)))
-          (cases_lt (n / 2) (n - n / 2));
-      fits = omega (arith, i.fits);
+      span =
+          record {
+            within = omega (arith, i.span.within);
+            before = i.span.before;
+            below = i.span.below;
+            above = λ h.
+                ⊎_elim (λ (p : n / 2 < n - n / 2). let e : c.loop-rest.low + n / 2 ≡ at = omega arith in subst (λ (x : ℕ). c.args.rank < slice_index c.args.counts.now x) (sym e) (omega (arith, c.read-count.ensures.value)))
+                (λ (p : n - n / 2 ≤ n / 2).
+                let e : c.loop-rest.low + n / 2 ≡ at + 1 = omega arith in
+                let r = c.requires.rising at (omega arith) in
+                subst (λ (x : ℕ). c.args.rank < slice_index c.args.counts.now x) (sym e) (omega (arith, r, c.read-count.ensures.value)))
+                (cases_lt (n / 2) (n - n / 2));
+            fits = omega (arith, i.span.fits);
+          };
       more = omega arith;
       shrinks = s.0;
       cost = s.1;

@@ -1,16 +1,11 @@
-use Rattle.std.proofs.Common.{◌≡◌, ◌+◌, ◌-◌, ◌*◌, ◌^◌, ◌<◌, ◌≤◌, length}
-use Rattle.std.specs.Prelude.{slice_index}
-use Rattle.columnar_sums.specs.Counting.{count_before}
+use Rattle.std.proofs.Common.{◌≡◌, ◌+◌, ◌-◌, ◌*◌, ◌^◌, ◌≤◌}
+use Rattle.columnar_sums.specs.Spans.{IsSpan}
 use Rattle.columnar_sums.proofs.rank_select.search.find_in_span.Given as goal
 
 abbrev pub invariant-loop-rest : goal.invariant-loop-rest
 invariant-loop-rest g l =
     record {
-      within : l.low + l.rest ≤ length l.counts;
-      before : l.sum ≡ count_before l.counts l.low;
-      below : l.sum ≤ l.rank;
-      above : l.low + l.rest < length l.counts → l.rank < slice_index l.counts (l.low + l.rest);
-      fits : l.low + l.rest < 2 ^ 64;
+      span : IsSpan l.counts l.rank l.low l.sum l.rest;
       more : l.fn.tally.counts ≤ l.tally.counts;
       shrinks : 2 ^ (l.tally.counts - l.fn.tally.counts) * l.rest ≤ l.fn.span.rest;
       cost : 2 ^ (l.tally.counts - l.fn.tally.counts) ≤ 2 * l.fn.span.rest + 1;

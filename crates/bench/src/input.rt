@@ -7,6 +7,7 @@ use std::alloc::Global;
 
 pub fn rows(alloc: Global, count: usize, random: &mut Random) -> Option<Vec<(u64, Option<u64>)>> {
     let mut rows = Vec::new(alloc);
+    rows.reserve(count).ok()?;
     for _row in 0..count {
         let word = random.next();
         let second = if word & 4 == 0 { Some(word >> 3) } else { None };
@@ -17,6 +18,7 @@ pub fn rows(alloc: Global, count: usize, random: &mut Random) -> Option<Vec<(u64
 
 pub fn bits(alloc: Global, count: usize, random: &mut Random) -> Option<Vec<bool>> {
     let mut bits = Vec::new(alloc);
+    bits.reserve(count).ok()?;
     for _bit in 0..count {
         bits.push(random.next() % 3 == 0).ok()?;
     }
@@ -27,6 +29,7 @@ pub fn places(alloc: Global, count: usize, end: u64, random: &mut Random) -> Opt
     requires { 0 < end }
 {
     let mut places = Vec::new(alloc);
+    places.reserve(count).ok()?;
     for _place in 0..count {
         places.push((random.next() % end) as usize).ok()?;
     }
@@ -37,6 +40,7 @@ pub fn words_below(alloc: Global, count: usize, end: u64, random: &mut Random) -
     requires { 0 < end }
 {
     let mut words = Vec::new(alloc);
+    words.reserve(count).ok()?;
     for _word in 0..count {
         words.push(random.next() % end).ok()?;
     }
@@ -45,6 +49,7 @@ pub fn words_below(alloc: Global, count: usize, end: u64, random: &mut Random) -
 
 pub fn words(alloc: Global, count: usize, random: &mut Random) -> Option<Vec<u64>> {
     let mut words = Vec::new(alloc);
+    words.reserve(count).ok()?;
     for _word in 0..count {
         words.push(random.next()).ok()?;
     }
@@ -60,6 +65,7 @@ pub fn lists(
     requires { (0 < end) × (end < 1000000000) }
 {
     let mut lists = Vec::new(alloc);
+    lists.reserve(count).ok()?;
     for _list in 0..count {
         let word = random.next();
         let lower = (word >> 8) % end;
@@ -85,6 +91,7 @@ pub fn records(
     random: &mut Random,
 ) -> Option<Vec<(u64, String, Option<u64>)>> {
     let mut records = Vec::new(alloc);
+    records.reserve(count).ok()?;
     for _record in 0..count {
         let word = random.next();
         let third = if word & 4 == 0 { Some(word >> 3) } else { None };
@@ -97,6 +104,7 @@ pub fn records(
 
 pub fn texts<'a>(alloc: Global, records: &'a [(u64, String, Option<u64>)]) -> Option<Vec<&'a str>> {
     let mut texts = Vec::new(alloc);
+    texts.reserve(records.len()).ok()?;
     for record in records {
         texts.push(record.1.as_str()).ok()?;
     }
@@ -106,6 +114,7 @@ pub fn texts<'a>(alloc: Global, records: &'a [(u64, String, Option<u64>)]) -> Op
 /// Three in four are Ok.
 pub fn results(alloc: Global, count: usize, random: &mut Random) -> Option<Vec<Result<u64, u32>>> {
     let mut results = Vec::new(alloc);
+    results.reserve(count).ok()?;
     for _result in 0..count {
         let word = random.next();
         let result = if word & 3 == 0 {
@@ -124,6 +133,7 @@ pub type Kind = Nth<u64, Nth<u32, Last<u32>>>;
 /// Values of each variant, of one as many as of another.
 pub fn kinds(alloc: Global, count: usize, random: &mut Random) -> Option<Vec<Kind>> {
     let mut kinds = Vec::new(alloc);
+    kinds.reserve(count).ok()?;
     for _kind in 0..count {
         let word = random.next();
         let kind = match word % 3 {
@@ -139,6 +149,7 @@ pub fn kinds(alloc: Global, count: usize, random: &mut Random) -> Option<Vec<Kin
 /// The variants 0, 1 and 2.
 pub fn variants(alloc: Global, count: usize, random: &mut Random) -> Option<Vec<u8>> {
     let mut variants = Vec::new(alloc);
+    variants.reserve(count).ok()?;
     for _variant in 0..count {
         variants.push((random.next() % 3) as u8).ok()?;
     }
@@ -148,6 +159,7 @@ pub fn variants(alloc: Global, count: usize, random: &mut Random) -> Option<Vec<
 /// Runs of eight words on the average.
 pub fn runs(alloc: Global, count: usize, random: &mut Random) -> Option<Vec<u64>> {
     let mut runs = Vec::new(alloc);
+    runs.reserve(count).ok()?;
     let mut word = 0;
     for _word in 0..count {
         if random.next() % 8 == 0 {

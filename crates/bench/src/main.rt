@@ -7,6 +7,7 @@ mod bits;
 mod cells;
 mod clock;
 mod commands;
+mod heap;
 mod input;
 mod kinds;
 mod lists;
@@ -31,6 +32,7 @@ use std::process::ExitCode;
 use std::rt::Clock;
 
 fn all<R: Clock, O: Write>(times: &mut Times<'_, R, O>) -> Option<()> {
+    heap::small_blocks(times.alloc)?;
     for _round in 0..5 {
         rows::measure(times)?;
         bits::measure(times)?;

@@ -1,5 +1,5 @@
 """What a file rests on: the definitions and lemmas that it imports, directly or not, and the other source files without
-the bodies of their functions. Comments don't count."""
+the bodies of their functions and without the functions that can't be called from here. Comments don't count."""
 import functools
 import os
 import re
@@ -15,10 +15,13 @@ def read(path):
         return "".join(line for line in it if not line.lstrip().startswith(mark))
 
 
+HEAD = re.compile(r"(?m)^( *)(?:pub(?:\([a-z]+\))? )?(?:final )?(?:const )?(?:unsafe )?fn \w")
+
+
 def without_bodies(text):
     """Source text without the bodies of functions, as `rt fmt` lays them out."""
     kept, at = [], 0
-    for head in re.finditer(r"(?m)^( *)(?:pub(?:\([a-z]+\))? )?(?:final )?(?:const )?(?:unsafe )?fn \w", text):
+    for head in HEAD.finditer(text):
         if head.start() < at:
             continue
         begins = re.compile(r"(?m)\{$").search(text, head.end())
@@ -30,10 +33,39 @@ def without_bodies(text):
     return "".join([*kept, text[at:]])
 
 
+def is_of_type(text, at):
+    """Does the function whose head is there stand in an impl of a type itself, and not of a trait for it?"""
+    begins = [it.start() for it in re.finditer(r"(?m)(?:\A|(?<=\n\n))\S", text[:at])]
+    header = text[begins[-1] : at].partition("{\n")[0] if begins else ""
+    return bool(re.match(r"(?:#\[.*\]\n)*impl\b", header)) and not re.search(r"\bfor\b", header)
+
+
 @functools.cache
-def signature(path):
-    """What other files learn of a file."""
-    return without_bodies(read(path)) if path.endswith(".rt") else read(path)
+def seen(path, mark):
+    """A source file without bodies, and without the functions of which nothing is seen where those are that begin so, and
+    those of traits."""
+    text, kept, at = without_bodies(read(path)), [], 0
+    for head in HEAD.finditer(text):
+        if head[0].lstrip().startswith(mark) or (head[1] and not is_of_type(text, head.start())):
+            continue
+        end = re.compile(r"(?m)(?:;|\{ *\})\n").search(text, head.end())
+        if end:
+            kept.append(re.sub(r"(?: *#\[.*\]\n)+\Z", "", text[at : head.start()]))
+            at = end.end()
+    return re.sub(r"\n\n+", "\n", "".join([*kept, text[at:]]))
+
+
+def signature(path, files):
+    """What these files, of one crate, learn of a file: another crate sees what is `pub`, the crate itself what is also
+    `pub(crate)`, and the modules in a file's folder all."""
+    if not path.endswith(".rt"):
+        return read(path)
+    crate, names = module(path)
+    if not files[0].startswith(f"crates/{crate}/"):
+        return seen(path, "pub ")
+    if names and not any(it.startswith(path.removesuffix(".rt") + "/") for it in files):
+        return seen(path, "pub")
+    return seen(path, "")
 
 
 def split_names(text):

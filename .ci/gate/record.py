@@ -38,7 +38,7 @@ def function_files(crate, of):
 
 @functools.cache
 def signatures(files):
-    return checksum(*(text for it in reached_from(files) for text in (it, signature(it))))
+    return checksum(*(text for it in reached_from(files) for text in (it, signature(it, files))))
 
 
 @functools.cache

@@ -132,9 +132,23 @@ impl<'a> ByteSlice<'a> {
         requires { 8 * index < length (bytes_in self.now) }
         ensures { result ≡ word (bytes_in self.now) index }
     {
+        if let Elements::Bytes(bytes) = self.elements {
+            if bytes.len() - 8 * index >= 8 {
+                return word_in_bytes(bytes, index);
+            }
+        }
+        self.word_of_elements(index)
+    }
+
+    // The same, byte by byte. It stays out of `word`, so that this is small enough to be made part of a loop over bytes.
+    #[inline(never)]
+    fn word_of_elements(&self, index: usize) -> u64
+        requires { 8 * index < length (bytes_in self.now) }
+        ensures { result ≡ word (bytes_in self.now) index }
+    {
         let _count = self.count;
         match self.elements {
-            Elements::Bytes(bytes) => word_or_zeros(bytes, index),
+            Elements::Bytes(bytes) => word_of_bytes(bytes, index),
             Elements::U16(items) => word_of(items, index),
             Elements::U32(items) => word_of(items, index),
             Elements::U64(items) => word_of(items, index),
@@ -204,15 +218,11 @@ fn write_blocks<W: WriteBytes>(writer: &mut W, words: &[u64]) -> Result<(), W::E
     Ok(())
 }
 
-fn word_or_zeros(bytes: &[u8], index: usize) -> u64
+fn word_of_bytes(bytes: &[u8], index: usize) -> u64
     requires { 8 * index < length bytes.now }
     ensures { result ≡ word bytes.now index }
 {
-    if bytes.len() - 8 * index >= 8 {
-        word_in_bytes(bytes, index)
-    } else {
-        word_of(bytes, index)
-    }
+    word_of(bytes, index)
 }
 
 // Byte `at` of the bytes of elements, 0 past their end

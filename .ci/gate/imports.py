@@ -43,8 +43,8 @@ def is_of_type(text, at):
 @functools.cache
 def seen(path, mark):
     """A source file without bodies, and without the functions of which nothing is seen where those are that begin so, and
-    those of traits."""
-    text, kept, at = without_bodies(read(path)), [], 0
+    those of traits. Where a function is inlined no proof sees."""
+    text, kept, at = re.sub(r"(?m)^ *#\[(?:inline|cold)\b.*\]\n", "", without_bodies(read(path))), [], 0
     for head in HEAD.finditer(text):
         if head[0].lstrip().startswith(mark) or (head[1] and not is_of_type(text, head.start())):
             continue

@@ -81,6 +81,11 @@ class Learnt(unittest.TestCase):
                 self.assertNotIn(body, text)
             self.assertIn("ensures { result ≡ 1 }", text)
 
+    def test_not_where_it_is_inlined(self):
+        for file in ("crates/near/src/pair/deep.rt", "crates/far/src/lib.rt"):
+            for gone in ("#[cold]", "#[inline"):
+                self.assertNotIn(gone, self.learnt(file))
+
     def test_modules_in_its_folder_see_all(self):
         self.assertEqual(self.names("crates/near/src/pair/deep.rt"), ["open", "half_open", "hidden", "len", "size", "alone"])
 
@@ -90,7 +95,7 @@ class Learnt(unittest.TestCase):
     def test_another_crate_sees_what_is_pub(self):
         text = self.learnt("crates/far/src/lib.rt")
         self.assertEqual(self.names("crates/far/src/lib.rt"), ["open", "len", "size"])
-        for gone in ("1 < 2", "#[cold]", "#[inline", "T: Copy"):
+        for gone in ("1 < 2", "T: Copy"):
             self.assertNotIn(gone, text)
         for kept in ("first: u8", "pub const LAST", "Self.size", "use std::mem"):
             self.assertIn(kept, text)

@@ -62,6 +62,7 @@ fn ones_by_words<L>(
 // As `ones_by_words`, where the eight words of the block's half of the chunk are whole: from the count that is nearest to that
 // half. All eight are read wherever the block stands in it, so that no jump depends on that.
 #[tactic(auto, using(crate::specs::CountLaws::ones_word_whole, crate::specs::CountLaws::ones_below_le, crate::specs::CountLaws::kept_more, crate::specs::CountLaws::count_before_is, crate::specs::CountLaws::length_words))]
+#[inline(always)]
 fn ones_by_half<L>(
     counts: &MeteredCounts<'_, L>,
     words: &MeteredWords<'_, L>,
@@ -112,6 +113,7 @@ pub(crate) fn rank_in_words<L>(
 
 // As `rank_in_words`, by the half of a chunk where that is whole.
 #[tactic(auto, using(crate::specs::CountLaws::ones_word, crate::specs::CountLaws::ones_below_le, crate::specs::CountLaws::kept_more, crate::specs::CountLaws::length_words))]
+#[inline(always)]
 pub(crate) fn rank_in<L>(
     counts: &MeteredCounts<'_, L>,
     words: &MeteredWords<'_, L>,

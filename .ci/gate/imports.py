@@ -1,5 +1,5 @@
 """What a file rests on: the definitions and lemmas that it imports, directly or not, and the other source files without
-the bodies of their functions and without the functions that can't be called from here. Comments don't count."""
+the bodies of their functions and without the functions that it does not name. Comments don't count."""
 import functools
 import os
 import re
@@ -15,7 +15,7 @@ def read(path):
         return "".join(line for line in it if not line.lstrip().startswith(mark))
 
 
-HEAD = re.compile(r"(?m)^( *)(?:pub(?:\([a-z]+\))? )?(?:final )?(?:const )?(?:unsafe )?fn \w")
+HEAD = re.compile(r"(?m)^( *)(?:pub(?:\([a-z]+\))? )?(?:final )?(?:const )?(?:unsafe )?fn (\w+)")
 
 
 def without_bodies(text):
@@ -41,31 +41,27 @@ def is_of_type(text, at):
 
 
 @functools.cache
-def seen(path, mark):
-    """A source file without bodies, and without the functions of which nothing is seen where those are that begin so, and
-    those of traits. Where a function is inlined no proof sees."""
-    text, kept, at = re.sub(r"(?m)^ *#\[(?:inline|cold)\b.*\]\n", "", without_bodies(read(path))), [], 0
+def parts(path):
+    """The text of a source file without its functions, but for those of traits, whose bodies alone it is without; and the
+    other functions without bodies, each with its name. Where one is inlined no proof sees."""
+    text = re.sub(r"(?m)^ *#\[(?:inline|cold)\b.*\]\n", "", without_bodies(read(path)))
+    kept, functions, at = [], [], 0
     for head in HEAD.finditer(text):
-        if head[0].lstrip().startswith(mark) or (head[1] and not is_of_type(text, head.start())):
-            continue
         end = re.compile(r"(?m)(?:;|\{ *\})\n").search(text, head.end())
-        if end:
-            kept.append(re.sub(r"(?: *#\[.*\]\n)+\Z", "", text[at : head.start()]))
+        if end and (not head[1] or is_of_type(text, head.start())):
+            kept.append(text[at : head.start()])
+            functions.append((head[2], text[head.start() : end.end()]))
             at = end.end()
-    return re.sub(r"\n\n+", "\n", "".join([*kept, text[at:]]))
+    return re.sub(r"\n\n+", "\n", "".join([*kept, text[at:]])), functions
 
 
-def signature(path, files):
-    """What these files, of one crate, learn of a file: another crate sees what is `pub`, the crate itself what is also
-    `pub(crate)`, and the modules in a file's folder all."""
+def signature(path, words):
+    """What is seen of a file where these words stand: what a proof does not name it doesn't see, but for what stands for an
+    operator, a loop or a conversion, and that is of traits."""
     if not path.endswith(".rt"):
         return read(path)
-    crate, names = module(path)
-    if not files[0].startswith(f"crates/{crate}/"):
-        return seen(path, "pub ")
-    if names and not any(it.startswith(path.removesuffix(".rt") + "/") for it in files):
-        return seen(path, "pub")
-    return seen(path, "")
+    text, functions = parts(path)
+    return "".join([text, *(it for name, it in functions if name in words)])
 
 
 def split_names(text):

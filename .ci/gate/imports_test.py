@@ -1,6 +1,5 @@
 #!/usr/bin/env python3
-"""What other files learn of a source file: all of it but bodies in the modules of its folder, what is `pub` or `pub(crate)` in its
-crate, and what is `pub` in other crates."""
+"""What is seen of a source file from where some words stand: no body, no function that is not named, and all of traits."""
 import os
 import sys
 import unittest
@@ -59,62 +58,58 @@ pub const LAST: usize = 5;
 """
 
 
-class Learnt(unittest.TestCase):
+class Seen(unittest.TestCase):
     def setUp(self):
         self.read, imports.read = imports.read, lambda path: TEXT
-        imports.seen.cache_clear()
+        imports.parts.cache_clear()
 
     def tearDown(self):
         imports.read = self.read
-        imports.seen.cache_clear()
+        imports.parts.cache_clear()
 
-    def learnt(self, *files):
-        return imports.signature("crates/near/src/pair.rt", files)
+    def seen(self, *words, text=TEXT):
+        imports.read = lambda path: text
+        imports.parts.cache_clear()
+        return imports.signature("crates/near/src/pair.rt", frozenset(words))
 
-    def names(self, *files):
-        return [it for it in ("open", "half_open", "hidden", "len", "size", "alone") if f"fn {it}" in self.learnt(*files)]
+    def names(self, *words):
+        return [it for it in ("open", "half_open", "hidden", "len", "size", "alone") if f"fn {it}" in self.seen(*words)]
 
     def test_no_body(self):
-        for file in ("crates/near/src/pair/deep.rt", "crates/near/src/other.rt", "crates/far/src/lib.rt"):
-            text = self.learnt(file)
-            for body in ("self.hidden()", "        2\n", "        3\n", "    4\n"):
-                self.assertNotIn(body, text)
-            self.assertIn("ensures { result ≡ 1 }", text)
+        text = self.seen("open", "half_open", "hidden", "alone")
+        for body in ("self.hidden()", "        2\n", "        3\n", "    4\n"):
+            self.assertNotIn(body, text)
+        self.assertIn("ensures { result ≡ 1 }", text)
 
-    def test_not_where_it_is_inlined(self):
-        for file in ("crates/near/src/pair/deep.rt", "crates/far/src/lib.rt"):
-            for gone in ("#[cold]", "#[inline"):
-                self.assertNotIn(gone, self.learnt(file))
+    def test_functions_that_are_named_and_those_of_traits(self):
+        self.assertEqual(self.names(), ["len", "size"])
+        self.assertEqual(self.names("open", "alone"), ["open", "len", "size", "alone"])
+        self.assertEqual(self.names("hidden", "half_open"), ["half_open", "hidden", "len", "size"])
 
-    def test_modules_in_its_folder_see_all(self):
-        self.assertEqual(self.names("crates/near/src/pair/deep.rt"), ["open", "half_open", "hidden", "len", "size", "alone"])
-
-    def test_its_crate_sees_what_is_open_to_it(self):
-        self.assertEqual(self.names("crates/near/src/other.rt"), ["open", "half_open", "len", "size"])
-
-    def test_another_crate_sees_what_is_pub(self):
-        text = self.learnt("crates/far/src/lib.rt")
-        self.assertEqual(self.names("crates/far/src/lib.rt"), ["open", "len", "size"])
+    def test_all_that_is_no_function(self):
+        text = self.seen()
         for gone in ("1 < 2", "T: Copy"):
             self.assertNotIn(gone, text)
-        for kept in ("first: u8", "pub const LAST", "Self.size", "use std::mem"):
+        for kept in ("first: u8", "pub const LAST", "Self.size", "use std::mem", "impl Pair {"):
             self.assertIn(kept, text)
 
-    def test_a_hidden_function_more_changes_nothing_elsewhere(self):
-        before = self.learnt("crates/far/src/lib.rt"), self.learnt("crates/near/src/other.rt")
-        more = TEXT.replace("fn alone<", "fn new(it: u8) -> u8\n    ensures { result ≡ it }\n{\n    it\n}\n\nfn alone<")
-        more = more.replace("    #[cold]\n", "    fn newer(&self) -> u8 {\n        6\n    }\n\n    #[cold]\n")
-        imports.read = lambda path: more
-        imports.seen.cache_clear()
-        self.assertEqual((self.learnt("crates/far/src/lib.rt"), self.learnt("crates/near/src/other.rt")), before)
-        self.assertIn("fn newer", self.learnt("crates/near/src/pair/deep.rt"))
+    def test_a_clause_counts_where_its_function_is_named(self):
+        more = TEXT.replace("requires { 1 < 2 }", "requires { 1 < 3 }")
+        self.assertEqual(self.seen("open", text=more), self.seen("open"))
+        self.assertNotEqual(self.seen("hidden", text=more), self.seen("hidden"))
 
-    def test_a_function_that_is_opened_changes_what_is_learnt(self):
-        before = self.learnt("crates/far/src/lib.rt")
-        opened = TEXT.replace("    fn hidden", "    pub fn hidden")
-        imports.read = lambda path: opened
-        imports.seen.cache_clear()
-        self.assertNotEqual(self.learnt("crates/far/src/lib.rt"), before)
+    def test_a_clause_of_a_trait_counts(self):
+        self.assertNotEqual(self.seen(text=TEXT.replace("Self.size }", "Self.size + 1 }")), self.seen())
+
+    def test_not_where_it_is_inlined(self):
+        bare = TEXT.replace("    #[cold]\n    #[inline(never)]\n", "")
+        self.assertEqual(self.seen("hidden", text=bare), self.seen("hidden"))
+
+    def test_a_function_more_that_is_not_named(self):
+        more = TEXT.replace("fn alone<", "pub fn new(it: u8) -> u8\n    ensures { result ≡ it }\n{\n    it\n}\n\nfn alone<")
+        more = more.replace("    #[cold]\n", "    pub fn newer(&self) -> u8 {\n        6\n    }\n\n    #[cold]\n")
+        self.assertEqual(self.seen("open", text=more), self.seen("open"))
+        self.assertNotEqual(self.seen("newer", text=more), self.seen("newer"))
 
 
 if __name__ == "__main__":

@@ -6,6 +6,7 @@ edit, and is made by `.ci/edits.py`. An edit whose checksum is not the recorded 
 import functools
 import hashlib
 import os
+import re
 
 from edit import edits_of
 from imports import read, reached_from, signature
@@ -37,8 +38,12 @@ def function_files(crate, of):
 
 
 @functools.cache
-def signatures(files):
-    return checksum(*(text for it in reached_from(files) for text in (it, signature(it, files))))
+def words_of(path):
+    return frozenset(re.findall(r"\w+", read(path)))
+
+
+def signatures(files, words):
+    return checksum(*(text for it in reached_from(files) for text in (it, signature(it, words))))
 
 
 @functools.cache
@@ -50,7 +55,8 @@ def rests_on(crate, edit):
     """The checksum of what the verdict of an edit rests on."""
     own = {f"crates/{crate}/{file}" for file, _, _ in edit.pairs} | set(function_files(crate, edit.of))
     own = tuple(sorted(it for it in own if os.path.isfile(f"{ROOT}/{it}")))
-    return checksum(kit_line(), edit.text, *(text for it in own for text in (it, read(it))), signatures(own))
+    words = frozenset(re.findall(r"\w+", edit.text)).union(*(words_of(it) for it in own))
+    return checksum(kit_line(), edit.text, *(text for it in own for text in (it, read(it))), signatures(own, words))
 
 
 def path(crate):

@@ -55,13 +55,26 @@ def parts(path):
     return re.sub(r"\n\n+", "\n", "".join([*kept, text[at:]])), functions
 
 
+def used(text):
+    """The text without what its `use`s bring and it does not name. An operator counts as named."""
+    lists = re.compile(r"(?m)^( *(?:ghost )?use [^;{]*\{)([^;{}]*)(\};\n)")
+    words = frozenset(re.findall(r"[\w']+", lists.sub("", text)))
+    kept = lambda at: [it for it in split_names(at[2]) if not re.fullmatch(r"\w+", it) or it in words]
+    return lists.sub(lambda at: at[1] + ", ".join(kept(at)) + at[3], text)
+
+
+@functools.cache
+def with_functions(path, which):
+    text, functions = parts(path)
+    return used("".join([text, *(it for is_named, (_, it) in zip(which, functions) if is_named)]))
+
+
 def signature(path, words):
     """What is seen of a file where these words stand: what a proof does not name it doesn't see, but for what stands for an
     operator, a loop or a conversion, and that is of traits."""
     if not path.endswith(".rt"):
         return read(path)
-    text, functions = parts(path)
-    return "".join([text, *(it for name, it in functions if name in words)])
+    return with_functions(path, tuple(name in words for name, _ in parts(path)[1]))
 
 
 def split_names(text):

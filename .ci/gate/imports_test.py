@@ -9,7 +9,10 @@ sys.path.insert(0, HERE)
 
 import imports
 
-TEXT = """use std::mem;
+TEXT = """ghost use Rattle.std.specs.Prelude.{◌≡◌, length, map};
+
+use std::mem;
+use std::ops::{Deref, Range};
 
 pub struct Pair {
     first: u8,
@@ -62,14 +65,17 @@ class Seen(unittest.TestCase):
     def setUp(self):
         self.read, imports.read = imports.read, lambda path: TEXT
         imports.parts.cache_clear()
+        imports.with_functions.cache_clear()
 
     def tearDown(self):
         imports.read = self.read
         imports.parts.cache_clear()
+        imports.with_functions.cache_clear()
 
     def seen(self, *words, text=TEXT):
         imports.read = lambda path: text
         imports.parts.cache_clear()
+        imports.with_functions.cache_clear()
         return imports.signature("crates/near/src/pair.rt", frozenset(words))
 
     def names(self, *words):
@@ -100,6 +106,15 @@ class Seen(unittest.TestCase):
 
     def test_a_clause_of_a_trait_counts(self):
         self.assertNotEqual(self.seen(text=TEXT.replace("Self.size }", "Self.size + 1 }")), self.seen())
+
+    def test_a_name_that_is_brought_for_others(self):
+        text = self.seen()
+        self.assertIn("Prelude.{◌≡◌};", text)
+        self.assertIn("use std::ops::{};", text)
+        more = TEXT.replace("map}", "map, take}").replace("impl Pair {", "impl Pair {\n    pub fn cut(&self) -> Range<u8>\n        ensures { length (take 1) }\n    {}\n")
+        self.assertEqual(self.seen("open", text=more), self.seen("open"))
+        self.assertIn("{◌≡◌, length, take}", self.seen("cut", text=more))
+        self.assertIn("{Range}", self.seen("cut", text=more))
 
     def test_not_where_it_is_inlined(self):
         bare = TEXT.replace("    #[cold]\n    #[inline(never)]\n", "")

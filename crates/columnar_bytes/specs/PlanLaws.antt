@@ -1,8 +1,8 @@
 -- The steps of what is written, slice by slice.
-use Rattle.std.proofs.Common.{ℕ, List, [], ◌∷◌, ◌++◌, ◌≡◌, ◌<◌, ◌≤◌, ◌+◌, ◌*◌, ◌/◌, ◌^◌, length, get_or, drop, sym, ◌∙◌, ap, arith, length-append, append-nil, Some, None, cond, ltb, true, false}
-use Rattle.std.specs.List.{flat_map}
-use Rattle.std.proofs.lemmas.List.{drop_more, drop_all, ext_get_or}
-use Rattle.std.proofs.lemmas.List.FromFn.{get_or-map-range_with_len}
+use Rattle.std.proofs.Common.{ℕ, List, [], ◌∷◌, ◌++◌, ◌≡◌, ◌<◌, ◌≤◌, ◌+◌, ◌*◌, ◌/◌, ◌^◌, length, map, get_or, take, drop, refl, sym, ◌∙◌, ap, arith, length-append, append-nil, Some, None, cond, ltb, true, false}
+use Rattle.std.specs.List.{flat_map, range_with_len}
+use Rattle.std.proofs.lemmas.List.{drop_more, drop_all, ext_get_or, get_or-take, get_or-drop, length-take-le, length-drop, take-append-drop, drop-drop}
+use Rattle.std.proofs.lemmas.List.FromFn.{get_or-map-range_with_len, length-map-range_with_len}
 use Rattle.columnar_core.specs.Bytes.{word, rounded, word_bytes, le_bytes}
 use Rattle.columnar_core.specs.Words.{slice_ends, table_words, slice_words, words, word_count}
 use Rattle.columnar_core.specs.WordLaws.{length-slice_words, word-le_bytes}
@@ -40,10 +40,20 @@ word_count_some slices n p l =
     let e : ltb (8 * length (words slices)) (2 ^ 64) ≡ true = grind arith in
     ap Some p ∙ sym (ap (λ b. cond b (Some (length (words slices))) None) e)
 
-pub word_rest : (s : List ℕ) (i w : ℕ) → i < (length s + 7) / 8 → w ≡ word s i → drop i (slice_words s) ≡ (w ∷ []) ++ drop (i + 1) (slice_words s)
-word_rest s i w l e =
-    let k : get_or (slice_words s) i 0 ≡ w = get_or-map-range_with_len (word s) 0 ((length s + 7) / 8) i i 0 l (omega arith) ∙ sym e in
-    drop_more (slice_words s) i 0 (omega (arith, length-slice_words s)) ∙ ap (λ v. v ∷ drop (i + 1) (slice_words s)) k
+-- the next words of those that are left
+pub block_rest : (s : List ℕ) (at n : ℕ) (ws : List ℕ) → at + n ≤ (length s + 7) / 8 → ws ≡ map (word s) (range_with_len at n) → drop at (slice_words s) ≡ ws ++ drop (at + n) (slice_words s)
+block_rest s at n ws l e =
+    let xs = slice_words s in
+    let m : length ws ≡ n = ap length e ∙ length-map-range_with_len (word s) at n in
+    let k : length (take n (drop at xs)) ≡ n = length-take-le n (drop at xs) (omega (arith, l, length-slice_words s, length-drop at xs)) in
+    let same : take n (drop at xs) ≡ ws =
+    ext_get_or 0 (take n (drop at xs)) ws (k ∙ sym m) (λ i b.
+    let h : i < n = omega (arith, b, k, m) in
+    get_or-take n (drop at xs) i 0 h ∙ get_or-drop at xs i 0
+    ∙ get_or-map-range_with_len (word s) 0 ((length s + 7) / 8) (at + i) (at + i) 0 (omega (arith, l, h)) (omega arith)
+    ∙ sym (get_or-map-range_with_len (word s) at n i (at + i) 0 h refl) ∙ ap (λ t. get_or t i 0) (sym e)) in
+    sym (take-append-drop n (drop at xs)) ∙ ap (λ t. t ++ drop n (drop at xs)) same
+    ∙ ap (λ t. ws ++ t) (drop-drop n at xs)
 
 pub words_out : (s : List ℕ) (i : ℕ) → (length s + 7) / 8 ≤ i → drop i (slice_words s) ≡ []
 words_out s i l = drop_all i (slice_words s) (omega (arith, length-slice_words s))

@@ -4,6 +4,7 @@ pub mod FrameLaws
 pub mod Words
 pub mod WordLaws
 pub mod ByteLaws
+pub mod BlockLaws
 pub mod Sent
 pub mod SentLaws
 pub mod SliceBytes

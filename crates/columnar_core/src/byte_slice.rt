@@ -1,6 +1,6 @@
 //! The slices of a column, before they are written.
-ghost use Rattle.std.specs.Prelude.{◌≡◌, ◌↔◌, ◌<◌, ◌*◌, ◌+◌, ◌^◌, length, slice_index, IfSome, IsSome, IsTrue, IsFalse, OnOk, OnErr};
-ghost use Rattle.std.specs.List.{flat_map};
+ghost use Rattle.std.specs.Prelude.{◌≡◌, ◌↔◌, ◌<◌, ◌*◌, ◌+◌, ◌^◌, length, map, slice_index, IfSome, IsSome, IsTrue, IsFalse, OnOk, OnErr};
+ghost use Rattle.std.specs.List.{flat_map, range_with_len};
 ghost use Rattle.std.specs.Io.KnownBytes.{Appends};
 ghost use Rattle.columnar_base.specs.WordViews.{view_bytes};
 ghost use Rattle.columnar_core.specs.Bytes.{word, le_bytes, AreBytes};
@@ -126,45 +126,42 @@ impl<'a> ByteSlice<'a> {
         }
     }
 
+    /// Puts its words from word `from` on into the block, as many as that has, each of its bytes lowest first; the last word
+    /// is filled with zeros. Asks that its bytes reach into the last of them, or with an empty block into the word before.
+    pub fn read_words(&self, from: usize, block: &mut [u64])
+        requires { 8 * (from + length block.old) < length (bytes_in self.now) + 8 }
+        ensures { block.new ≡ map (word (bytes_in self.now)) (range_with_len from (length block.old)) }
+    {
+        let _count = self.count;
+        match self.elements {
+            Elements::Bytes(bytes) => read_bytes(bytes, from, block),
+            Elements::U16(items) => read_each(items, from, block),
+            Elements::U32(items) => read_each(items, from, block),
+            Elements::U64(items) => read_each(items, from, block),
+            Elements::I8(items) => read_each(items, from, block),
+            Elements::I16(items) => read_each(items, from, block),
+            Elements::I32(items) => read_each(items, from, block),
+            Elements::I64(items) => read_each(items, from, block),
+            Elements::WrappingU8(items) => read_each(items, from, block),
+            Elements::WrappingU16(items) => read_each(items, from, block),
+            Elements::WrappingU32(items) => read_each(items, from, block),
+            Elements::WrappingU64(items) => read_each(items, from, block),
+            Elements::WrappingI8(items) => read_each(items, from, block),
+            Elements::WrappingI16(items) => read_each(items, from, block),
+            Elements::WrappingI32(items) => read_each(items, from, block),
+            Elements::WrappingI64(items) => read_each(items, from, block),
+        }
+    }
+
     /// Word `index` of its bytes, lowest first; the last word is filled with zeros. Asks that a byte stands in that
     /// word.
     pub fn word(&self, index: usize) -> u64
         requires { 8 * index < length (bytes_in self.now) }
         ensures { result ≡ word (bytes_in self.now) index }
     {
-        if let Elements::Bytes(bytes) = self.elements {
-            if bytes.len() - 8 * index >= 8 {
-                return word_in_bytes(bytes, index);
-            }
-        }
-        self.word_of_elements(index)
-    }
-
-    // The same, byte by byte. It stays out of `word`, so that this is small enough to be made part of a loop over bytes.
-    #[inline(never)]
-    fn word_of_elements(&self, index: usize) -> u64
-        requires { 8 * index < length (bytes_in self.now) }
-        ensures { result ≡ word (bytes_in self.now) index }
-    {
-        let _count = self.count;
-        match self.elements {
-            Elements::Bytes(bytes) => word_of_bytes(bytes, index),
-            Elements::U16(items) => word_of(items, index),
-            Elements::U32(items) => word_of(items, index),
-            Elements::U64(items) => word_of(items, index),
-            Elements::I8(items) => word_of(items, index),
-            Elements::I16(items) => word_of(items, index),
-            Elements::I32(items) => word_of(items, index),
-            Elements::I64(items) => word_of(items, index),
-            Elements::WrappingU8(items) => word_of(items, index),
-            Elements::WrappingU16(items) => word_of(items, index),
-            Elements::WrappingU32(items) => word_of(items, index),
-            Elements::WrappingU64(items) => word_of(items, index),
-            Elements::WrappingI8(items) => word_of(items, index),
-            Elements::WrappingI16(items) => word_of(items, index),
-            Elements::WrappingI32(items) => word_of(items, index),
-            Elements::WrappingI64(items) => word_of(items, index),
-        }
+        let mut block = [0u64; 1];
+        self.read_words(index, &mut block);
+        block[0]
     }
 
     /// Writes its bytes, and nothing else. After a fault a beginning of them went out, and not all.
@@ -179,20 +176,26 @@ impl<'a> ByteSlice<'a> {
         }
     }
 
-    // Writes its bytes, eight at a time.
+    // Writes its bytes, a block of words at a time.
     fn write_words<W: WriteBytes>(&self, writer: &mut W) -> Result<(), W::Error>
         ensures ok { OnOk result (Appends (W.contents writer.old) (W.contents writer.new) (bytes_in self.now)) }
         ensures err { OnErr result (AppendsBeginning (W.contents writer.old) (W.contents writer.new) (bytes_in self.now)) }
     {
         let count = self.len();
-        for i in 0..count / 8 {
-            writer.write_all(&self.word(i).to_le_bytes())?;
+        let mut block = [0u64; BLOCK];
+        let end = count / 8 + (count % 8).min(1);
+        let mut at = 0;
+        while at < end {
+            let left = count - 8 * at;
+            let next = BLOCK.min((left - 1) / 8 + 1);
+            let words = &mut block[..next];
+            self.read_words(at, words);
+            let mut bytes = [0u8; 8 * BLOCK];
+            LittleEndian::write_u64_into(words, &mut bytes[..8 * next]);
+            writer.write_all(&bytes[..left.min(8 * next)])?;
+            at += next;
         }
-        let rest = count % 8;
-        if rest == 0 {
-            return Ok(());
-        }
-        writer.write_all(&self.word(count / 8).to_le_bytes()[..rest])
+        Ok(())
     }
 
     /// Does nothing when it runs; its contract says that each number it holds is a byte.
@@ -218,11 +221,36 @@ fn write_blocks<W: WriteBytes>(writer: &mut W, words: &[u64]) -> Result<(), W::E
     Ok(())
 }
 
-fn word_of_bytes(bytes: &[u8], index: usize) -> u64
+// Words of bytes, as `read_words` puts them. They are read whole, but for the last.
+fn read_bytes(bytes: &[u8], from: usize, block: &mut [u64])
+    requires { 8 * (from + length block.old) < length bytes.now + 8 }
+    ensures { block.new ≡ map (word bytes.now) (range_with_len from (length block.old)) }
+{
+    for i in 0..block.len() {
+        block[i] = word_or_zeros(bytes, from + i);
+    }
+}
+
+// The same of elements of any type.
+fn read_each<T: Primitive>(items: &[T], from: usize, block: &mut [u64])
+    requires short { length (flat_map T.le_bytes items.now) < 2 ^ 64 }
+    requires in_range { 8 * (from + length block.old) < length (flat_map T.le_bytes items.now) + 8 }
+    ensures { block.new ≡ map (word (flat_map T.le_bytes items.now)) (range_with_len from (length block.old)) }
+{
+    for i in 0..block.len() {
+        block[i] = word_of(items, from + i);
+    }
+}
+
+fn word_or_zeros(bytes: &[u8], index: usize) -> u64
     requires { 8 * index < length bytes.now }
     ensures { result ≡ word bytes.now index }
 {
-    word_of(bytes, index)
+    if bytes.len() - 8 * index >= 8 {
+        word_in_bytes(bytes, index)
+    } else {
+        word_of(bytes, index)
+    }
 }
 
 // Byte `at` of the bytes of elements, 0 past their end

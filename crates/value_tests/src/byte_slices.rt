@@ -92,6 +92,9 @@ fn words_are_filled_with_zeros(rt: HostRuntime) -> Result<(), Fail> {
     equal!(rt; slice.len(), 10);
     equal!(rt; slice.word(0), 1125912791875585);
     equal!(rt; slice.word(1), 5);
+    let mut block = [7u64; 2];
+    slice.read_words(0, &mut block);
+    equal!(rt; block, [1125912791875585, 5]);
     let bytes = [1u8, 2, 3];
     let slice = <u8 as Sliced>::byte_slice(&bytes);
     equal!(rt; slice.align(), 1);

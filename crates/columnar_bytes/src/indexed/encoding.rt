@@ -12,7 +12,9 @@ use columnar_core::byte_slice::ByteSlice;
 use columnar_core::bytes::AsBytes;
 use columnar_core::fault::EncodeError;
 use columnar_core::store::round_up;
-use std::mem;
+
+// How many words are made at once
+const BLOCK: usize = 128;
 
 /// Appends the column's encoding to the store, with offsets counted from its own start. Refused with `Length` exactly
 /// where its bytes would pass 2^64 - 1, and with `Memory` only where the store has no room for it and can't grow; a
@@ -71,15 +73,23 @@ fn append_slice(store: &mut Vec<u64>, slice: ByteSlice<'_>)
     ensures capacity { vec_capacity store.old ≤ vec_capacity store.new }
 {
     match slice.as_words() {
-        Some(words) => append_all(store, words),
+        Some(words) => append_words(store, words),
         None => append_each(store, slice),
     }
 }
 
-// Appends words that stand in memory, all at once.
-fn append_all(store: &mut Vec<u64>, words: &[u64])
+// Appends the words of a slice that is made of them, all at once.
+fn append_words(store: &mut Vec<u64>, words: &[u64])
     requires { vec_len store.old + length (slice_words (le_bytes words.now)) ≤ vec_capacity store.old }
     ensures items { store.new.items ≡ store.old.items ++ slice_words (le_bytes words.now) }
+    ensures capacity { vec_capacity store.old ≤ vec_capacity store.new }
+{
+    append_all(store, words);
+}
+
+fn append_all(store: &mut Vec<u64>, words: &[u64])
+    requires { vec_len store.old + length words.now ≤ vec_capacity store.old }
+    ensures items { store.new.items ≡ store.old.items ++ words.now }
     ensures capacity { vec_capacity store.old ≤ vec_capacity store.new }
 {
     match store.extend_from_slice(words) {
@@ -88,29 +98,22 @@ fn append_all(store: &mut Vec<u64>, words: &[u64])
     }
 }
 
-// Appends the words of a slice of other elements, one by one.
+// Appends the words of a slice of other elements, a block at a time.
 fn append_each(store: &mut Vec<u64>, slice: ByteSlice<'_>)
     requires { vec_len store.old + length (slice_words (bytes_in slice)) ≤ vec_capacity store.old }
     ensures items { store.new.items ≡ store.old.items ++ slice_words (bytes_in slice.entry) }
     ensures capacity { vec_capacity store.old ≤ vec_capacity store.new }
 {
-    let empty = Vec::new(*store.allocator());
-    let own = mem::replace(store, empty);
-    *store = with_each(own, slice);
-}
-
-// The store with the words of the slice after its own, for which there is room. It is taken by value, since the compiler
-// then knows that what is written changes neither its length nor its place.
-fn with_each(store: Vec<u64>, slice: ByteSlice<'_>) -> Vec<u64>
-    requires { vec_len store + length (slice_words (bytes_in slice)) ≤ vec_capacity store }
-    ensures items { result.items ≡ store.items ++ slice_words (bytes_in slice.entry) }
-    ensures capacity { vec_capacity result ≡ vec_capacity store }
-{
-    let mut store = store;
-    for index in 0..words_for(slice.len()) {
-        store.push_reserved(slice.word(index));
+    let count = words_for(slice.len());
+    let mut block = [0u64; BLOCK];
+    let mut at = 0;
+    while at < count {
+        let next = at + BLOCK.min(count - at);
+        let words = &mut block[..next - at];
+        slice.read_words(at, words);
+        append_all(store, words);
+        at = next;
     }
-    store
 }
 
 fn push_word(store: &mut Vec<u64>, word: u64)

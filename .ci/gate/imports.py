@@ -59,12 +59,16 @@ def used(text):
     """The text without what its `use`s bring and it does not name. An operator counts as named."""
     lists = re.compile(r"(?m)^( *(?:ghost )?use [^;{]*\{)([^;{}]*)(\};\n)")
     words = frozenset(re.findall(r"[\w']+", lists.sub("", text)))
-    kept = lambda at: [it for it in split_names(at[2]) if not re.fullmatch(r"\w+", it) or it in words]
-    return lists.sub(lambda at: at[1] + ", ".join(kept(at)) + at[3], text)
+
+    def shortened(at):
+        return at[1] + ", ".join(it for it in split_names(at[2]) if it in words or not re.fullmatch(r"\w+", it)) + at[3]
+
+    return lists.sub(shortened, text)
 
 
 @functools.cache
 def with_functions(path, which):
+    """The text of a source file, and of its own functions those that are marked."""
     text, functions = parts(path)
     return used("".join([text, *(it for is_named, (_, it) in zip(which, functions) if is_named)]))
 

@@ -111,6 +111,19 @@ impl<'a, L> MeteredWords<'a, L> {
         tally.word(index as u64);
         word_or_tail(self.values, self.tail, index)
     }
+
+    /// Word `at`, which is one of the whole words and not the tail's, noted in the tally: as `read`, and does not ask
+    /// which of the two it is.
+    pub fn read_whole(&self, at: usize, tally: &mut Tally<L>) -> u64
+        requires { at + 1 < length self.now }
+        ensures value { result ≡ slice_index self.now at }
+        ensures words { tally.new.words ≡ tally.old.words ++ at ∷ [] }
+        ensures counts { tally.new.counts ≡ tally.old.counts }
+        ensures turns { tally.new.turns ≡ tally.old.turns }
+    {
+        tally.word(at as u64);
+        word_at(self.values, at)
+    }
 }
 
 /// Word `index` of whole words with the tail's first word after them.

@@ -99,18 +99,20 @@ impl<CC: Words, VC: Words, WC: Words> RankSelect<CC, VC, WC> {
         requires ranked { IsRanked CC.bytes VC.bytes WC.bytes self.now }
         requires in_range { index ≤ length (bits_ranked VC.bytes WC.bytes self.now) }
         ensures value { result ≡ ones (bits_ranked VC.bytes WC.bytes self.now) index }
+        ensures found_again { slice_index_or (bits_ranked VC.bytes WC.bytes self.now) index false ≡ true → place (bits_ranked VC.bytes WC.bytes self.now) result ≡ Some index }
     {
         self.rank_in_turn_tallied(index, &mut Tally::new())
     }
 
-    /// As `rank_in_turn`; what it reads is added to the tally: at most one count and 16 words.
+    /// As `rank_in_turn`; what it reads is added to the tally: at most one count, the words from the last place on that is
+    /// a multiple of 1,024, and the word of the place itself.
     pub fn rank_in_turn_tallied<L>(&self, index: usize, tally: &mut Tally<L>) -> usize
         requires ranked { IsRanked CC.bytes VC.bytes WC.bytes self.now }
         requires in_range { index ≤ length (bits_ranked VC.bytes WC.bytes self.now) }
         ensures value { result ≡ ones (bits_ranked VC.bytes WC.bytes self.now) index }
-        ensures reads { Adds 1 16 tally.old tally.new }
+        ensures reads { Adds 1 (index / 64 % 16 + 1) tally.old tally.new }
         ensures some_read { length tally.old.words < length tally.new.words }
-        ensures turns { tally.new.turns ≤ tally.old.turns + 16 }
+        ensures turns { tally.new.turns ≤ tally.old.turns + index / 64 % 16 }
     {
         rank_in_words(&self.metered_counts(), &self.metered_words(), index, tally)
     }

@@ -45,8 +45,8 @@ fn ones_by_words<L>(
     requires counted { block / 16 ≤ length counts.now }
     requires exact { CountWords words.now counts.now }
     ensures value { result ≡ ones_below (bit_in words.now) (64 * block) }
-    ensures reads { Adds 1 15 tally.old tally.new }
-    ensures turns { tally.new.turns ≤ tally.old.turns + 15 }
+    ensures reads { Adds 1 (block % 16) tally.old tally.new }
+    ensures turns { tally.new.turns ≤ tally.old.turns + block % 16 }
 {
     let chunk = block / 16;
     let mut sum = ones_before(counts, chunk, tally) as usize;
@@ -54,7 +54,7 @@ fn ones_by_words<L>(
     let whole = block.min(words.len() - 1);
     for at in 16 * chunk..whole {
         tally.tick();
-        sum += words.read(at, tally).count_ones() as usize;
+        sum += words.read_whole(at, tally).count_ones() as usize;
     }
     sum
 }
@@ -83,7 +83,7 @@ fn ones_by_half<L>(
     for i in 0..8 {
         tally.tick();
         before[i] = all;
-        all += words.read(first + i, tally).count_ones() as usize;
+        all += words.read_whole(first + i, tally).count_ones() as usize;
     }
     let half = block / 8;
     let counted = ones_before(counts, (half + 1) / 2, tally) as usize;
@@ -102,9 +102,9 @@ pub(crate) fn rank_in_words<L>(
     requires counted { index / 1024 ≤ length counts.now }
     requires exact { CountWords words.now counts.now }
     ensures value { result ≡ ones_below (bit_in words.now) index }
-    ensures reads { Adds 1 16 tally.old tally.new }
+    ensures reads { Adds 1 (index / 64 % 16 + 1) tally.old tally.new }
     ensures some_read { length tally.old.words < length tally.new.words }
-    ensures turns { tally.new.turns ≤ tally.old.turns + 16 }
+    ensures turns { tally.new.turns ≤ tally.old.turns + index / 64 % 16 }
 {
     let block = index / 64;
     let before = ones_by_words(counts, words, block, tally);
@@ -266,7 +266,7 @@ fn narrowed<L>(counts: &MeteredCounts<'_, L>, rank: u64, span: Span, tally: &mut
     let (half, count) = looked(counts, rank, span, middle, tally);
     let chunk = (rank.wrapping_mul(middle as u64 + 1) / count.max(1)) as usize;
     let near = half.rest / 2;
-    let (below, above) = (chunk.saturating_sub(8), chunk.saturating_add(8));
+    let (below, above) = (chunk.saturating_sub(4), chunk.saturating_add(4));
     let (first, second) = if chunk < half.low + near {
         (above, below)
     } else {

@@ -10,18 +10,18 @@ pub loop-i-preserved : goal.loop-i-preserved
 loop-i-preserved g c =
     let first : ℕ = c.args.block - c.args.block % 8 in
     let at : ℕ = first + c.loop-i.i in
-    let n = ones_of_word c.read.result c.read.type_inv in
+    let n = ones_of_word c.read_whole.result c.read_whole.type_inv in
     let more : first + (c.loop-i.i + 1) ≡ at + 1 = omega arith in
-    let all = ap (λ (k : ℕ). ones_below (bit_in c.args.words.now) (64 * k)) more ∙ ones_word_whole c.args.words.now at c.read.result c.read.ensures.value c.read.type_inv in
+    let all = ap (λ (k : ℕ). ones_below (bit_in c.args.words.now) (64 * k)) more ∙ ones_word_whole c.args.words.now at c.read_whole.result c.read_whole.ensures.value c.read_whole.type_inv in
     record {
       all = omega (arith, all, c.loop-i.invariant.all);
       before = before_more (bit_in c.args.words.now) first c.loop-i.i c.loop-i.all c.loop-i.before c.loop-i.invariant.before (omega (arith, c.loop-i.invariant.eight)) c.loop-i.invariant.all;
       eight = length-set c.loop-i.before c.loop-i.i c.loop-i.all ∙ c.loop-i.invariant.eight;
       few = omega (arith, c.loop-i.invariant.few);
-      counts = omega (arith, c.tick.ensures.counts, c.read.ensures.counts, c.loop-i.invariant.counts);
-      words = omega (arith, length_words c.tick.new.self.words at, ap length c.tick.ensures.words, ap length c.read.ensures.words, c.loop-i.invariant.words);
-      turns = omega (arith, c.tick.ensures.turns, c.read.ensures.turns, c.loop-i.invariant.turns);
-      kept = ap (take (length c.args.tally.now.words)) (c.read.ensures.words ∙ ap (λ (t : List ℕ). t ++ at ∷ []) c.tick.ensures.words) ∙ kept_more c.args.tally.now.words c.loop-i.tally.words at c.loop-i.invariant.kept (omega (arith, c.loop-i.invariant.words));
+      counts = omega (arith, c.tick.ensures.counts, c.read_whole.ensures.counts, c.loop-i.invariant.counts);
+      words = omega (arith, length_words c.tick.new.self.words at, ap length c.tick.ensures.words, ap length c.read_whole.ensures.words, c.loop-i.invariant.words);
+      turns = omega (arith, c.tick.ensures.turns, c.read_whole.ensures.turns, c.loop-i.invariant.turns);
+      kept = ap (take (length c.args.tally.now.words)) (c.read_whole.ensures.words ∙ ap (λ (t : List ℕ). t ++ at ∷ []) c.tick.ensures.words) ∙ kept_more c.args.tally.now.words c.loop-i.tally.words at c.loop-i.invariant.kept (omega (arith, c.loop-i.invariant.words));
     }
 
 pub overflow_sub-result : goal.overflow_sub-result

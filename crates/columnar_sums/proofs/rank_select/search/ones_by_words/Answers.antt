@@ -18,6 +18,6 @@ loop-at-init g c =
 
 pub overflow_add-sum : goal.overflow_add-sum
 overflow_add-sum g c =
-    let e = ones_word_whole c.args.words.now c.loop-at.at c.read.result c.read.ensures.value c.read.type_inv in
+    let e = ones_word_whole c.args.words.now c.loop-at.at c.read_whole.result c.read_whole.ensures.value c.read_whole.type_inv in
     let l = ones_below_le (bit_in c.args.words.now) (64 * (c.loop-at.at + 1)) in
     omega arith

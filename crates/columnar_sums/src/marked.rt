@@ -14,6 +14,7 @@ use columnar_core::traits::{Item, Len, Push, PushRef};
 type Held = RankSelect<Vec<u64>, Vec<u64>, [u64; 2]>;
 
 /// Pushes a value, and then its bit; both or neither. Where the bit is refused, the value is taken back.
+#[inline(always)]
 pub fn push_marked<T: Item, TC: Truncate + Push<T>>(
     values: &mut TC,
     item: T,
@@ -39,6 +40,7 @@ pub fn push_marked<T: Item, TC: Truncate + Push<T>>(
 }
 
 /// The same of a value by reference.
+#[inline(always)]
 pub fn push_ref_marked<T: Item, TC: Truncate + PushRef<T>>(
     values: &mut TC,
     item: &T,

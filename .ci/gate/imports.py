@@ -43,8 +43,8 @@ def is_of_type(text, at):
 @functools.cache
 def parts(path):
     """The text of a source file without its functions, but for those of traits, whose bodies alone it is without; and the
-    other functions without bodies, each with its name. Where one is inlined no proof sees."""
-    text = re.sub(r"(?m)^ *#\[(?:inline|cold)\b.*\]\n", "", without_bodies(read(path)))
+    other functions without bodies, each with its name. Where one is inlined no proof sees, nor what it was proved with."""
+    text = re.sub(r"(?m)^ *#\[(?:inline|cold|tactic)\b.*\]\n", "", without_bodies(read(path)))
     kept, functions, at = [], [], 0
     for head in HEAD.finditer(text):
         end = re.compile(r"(?m)(?:;|\{ *\})\n").search(text, head.end())

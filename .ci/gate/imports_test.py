@@ -30,6 +30,7 @@ impl Pair {
 
     #[cold]
     #[inline(never)]
+    #[tactic(auto, using(crate::specs::Laws::hidden))]
     fn hidden(&self) -> u8
         requires { 1 < 2 }
     {
@@ -116,8 +117,8 @@ class Seen(unittest.TestCase):
         self.assertIn("{◌≡◌, length, take}", self.seen("cut", text=more))
         self.assertIn("{Range}", self.seen("cut", text=more))
 
-    def test_not_where_it_is_inlined(self):
-        bare = TEXT.replace("    #[cold]\n    #[inline(never)]\n", "")
+    def test_not_where_it_is_inlined_nor_what_it_is_proved_with(self):
+        bare = TEXT.replace("    #[cold]\n    #[inline(never)]\n    #[tactic(auto, using(crate::specs::Laws::hidden))]\n", "")
         self.assertEqual(self.seen("hidden", text=bare), self.seen("hidden"))
 
     def test_a_function_more_that_is_not_named(self):

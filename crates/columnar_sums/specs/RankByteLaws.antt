@@ -1,8 +1,8 @@
 -- Columns of bits and counts in slices of bytes.
-use Rattle.std.proofs.Common.{◌≡◌, ℕ, suc, ◌+◌, ◌*◌, ◌/◌, ◌%◌, ◌<◌, ◌≤◌, true, false, List, [], length, drop, refl, sym, ◌∙◌, ap, arith, ⊎_elim}
-use Rattle.std.specs.Prelude.{slice_index, slice_index_or, Some, None, nat_eq}
+use Rattle.std.proofs.Common.{◌≡◌, ℕ, suc, ◌+◌, ◌*◌, ◌/◌, ◌%◌, ◌^◌, ◌<◌, ◌≤◌, true, false, List, [], ◌∷◌, length, drop, refl, sym, ◌∙◌, ap, arith, ⊎_elim}
+use Rattle.std.specs.Prelude.{slice_index, slice_index_or, Some, None, nat_eq, count_ones}
 use Rattle.std.proofs.lemmas.Bool.{cases_lt, eq-eqb, ne_eqb}
-use Rattle.std.proofs.lemmas.List.{drop-drop}
+use Rattle.std.proofs.lemmas.List.{drop-drop, get_or_append_left}
 use Rattle.columnar_sums.specs.Agree.{numbers_eq}
 use Rattle.columnar_core.specs.Format.{Content, slice, both, first, moved, Fault, fault, Fits}
 use Rattle.columnar_core.specs.TwoPartsLaws.{two_right, two_own, two_fine}
@@ -15,21 +15,19 @@ use Rattle.columnar_bits.specs.BoolLaws.{bits_length}
 use Rattle.columnar_sums.specs.Counting.{ones_below, counts_of, AreCounts, CountWords}
 use Rattle.columnar_sums.specs.RankColumns.{ranks_broken, ranks_format}
 use Rattle.columnar_sums.specs.RankLaws.{ranks_two, ranks_parts, counts_test, counts_in_words}
-use Rattle.columnar_sums.specs.RankChangeLaws.{counts_differ, counts_complete, length-truths_rows}
+use Rattle.columnar_sums.specs.RankChangeLaws.{counts_differ, counts_complete, length-truths_rows, sum_more}
 
 -- the counts of the chunks below one, as a loop over words goes on
 abbrev pub AreRight : List ℕ → List ℕ → ℕ → Type 0
 AreRight ws cs n = (i : ℕ) → i < n → slice_index cs i ≡ ones_below (bit_in ws) (1024 * (i + 1))
 
-pub right_more : (ws cs : List ℕ) (at sum : ℕ) → AreRight ws cs (at / 16) → (at % 16 ≡ 15 → slice_index cs (at / 16) ≡ sum) → sum ≡ ones_below (bit_in ws) (64 * (at + 1)) → AreRight ws cs ((at + 1) / 16)
-right_more ws cs at sum h f e = λ i l.
-    ⊎_elim (λ (p : i < at / 16). h i p)
-    (λ (p : at / 16 ≤ i).
-    let d : at / 16 ≡ i = omega arith in
-    let m : at % 16 ≡ 15 = omega arith in
-    let q : 64 * (at + 1) ≡ 1024 * (i + 1) = omega arith in
-    ap (slice_index cs) (sym d) ∙ f m ∙ e ∙ ap (ones_below (bit_in ws)) q)
-    (cases_lt i (at / 16))
+pub right_more : (ws cs : List ℕ) (chunk sum : ℕ) → AreRight ws cs chunk → slice_index cs chunk ≡ sum → sum ≡ ones_below (bit_in ws) (1024 * (chunk + 1)) → AreRight ws cs (chunk + 1)
+right_more ws cs chunk sum h f e = λ i l.
+    ⊎_elim (λ (p : i < chunk). h i p)
+    (λ (p : chunk ≤ i).
+    let d : chunk ≡ i = omega arith in
+    ap (slice_index cs) (sym d) ∙ f ∙ e ∙ ap (λ (n : ℕ). ones_below (bit_in ws) (1024 * (n + 1))) d)
+    (cases_lt i chunk)
 
 pub right_all : {a b : List ℕ} (cs : List ℕ) → SoundBools a b → AreRight (bit_words a b) cs (length (words_in a) / 16) → length cs ≡ length (words_in a) / 16 → numbers_eq cs (counts_of (bits_in a b)) ≡ true
 unfolding CountWords
@@ -43,12 +41,13 @@ wrong_number {a} {b} cs s h =
     let few = s.few in
     counts_differ a b cs (λ k. let n = k.0 in h (omega (arith, bits_length a b)))
 
-pub wrong_count : {a b : List ℕ} (cs : List ℕ) (at sum : ℕ) → SoundBools a b → length cs ≡ length (words_in a) / 16 → at < length (words_in a) → at % 16 ≡ 15 → (slice_index cs (at / 16) ≡ sum → ⊥) → sum ≡ ones_below (bit_in (bit_words a b)) (64 * (at + 1)) → numbers_eq cs (counts_of (bits_in a b)) ≡ false
+pub wrong_count : {a b : List ℕ} (cs : List ℕ) (chunk sum : ℕ) → SoundBools a b → length cs ≡ length (words_in a) / 16 → chunk < length cs → (slice_index cs chunk ≡ sum → ⊥) → sum ≡ ones_below (bit_in (bit_words a b)) (1024 * (chunk + 1)) → numbers_eq cs (counts_of (bits_in a b)) ≡ false
 unfolding CountWords
-wrong_count {a} {b} cs at sum s l m e h o =
-    counts_differ a b cs (λ k.
-    let q : 1024 * (at / 16 + 1) ≡ 64 * (at + 1) = omega arith in
-    h (counts_in_words a b cs s.few k (at / 16) (omega arith) ∙ ap (ones_below (bit_in (bit_words a b))) q ∙ sym o))
+wrong_count {a} {b} cs chunk sum s l m h o = counts_differ a b cs (λ k. h (counts_in_words a b cs s.few k chunk m ∙ sym o))
+
+-- one whole word more
+pub sum_word : (a b : List ℕ) (at w sum : ℕ) → at < length (words_in a) → sum ≡ ones_below (bit_in (bit_words a b)) (64 * at) → w ≡ slice_index (words_in a) at → w < 2 ^ 64 → sum + count_ones w ≡ ones_below (bit_in (bit_words a b)) (64 * (at + 1))
+sum_word a b at w sum l e d h = sum_more (bit_words a b) at w sum e (d ∙ sym (get_or_append_left (words_in a) (slice_index (words_in b) 0 ∷ []) 0 at l)) h
 
 -- the first broken rule
 pub ranks_bad_size : (c a b : List ℕ) (o : ℕ) → (length c % 8 ≡ 0 → ⊥) → Some (fault 8 o) ≡ first (moved o (ranks_broken (both (slice c) (both (slice a) (slice b)))))

@@ -16,7 +16,6 @@ use columnar_core::byte_slice::ByteSlice;
 use columnar_core::bytes::{AsBytes, Check, FromBytes, Stored};
 use columnar_core::container::ContainerBytes;
 use columnar_core::fault::{GrowError, StoreFault};
-use columnar_core::metered::word_or_tail;
 use columnar_core::store::DecodedStore;
 use columnar_core::tally::Tally;
 use columnar_core::two::{byte_slice_of_two, load_two, sizes_of_two, slice_of_two};
@@ -24,16 +23,7 @@ use columnar_core::view::View;
 use columnar_core::words::{Words, byte_count, word_at, word_count};
 use std::alloc::Global;
 
-// Where word `at` ends a chunk: is the sum the chunk's count?
-fn is_count(counts: View<'_, u64>, at: usize, sum: u64) -> bool
-    requires { at % 16 ≡ 15 → at / 16 < length (view_words counts) }
-    ensures right { result ≡ true → at % 16 ≡ 15 → slice_index (view_words counts.entry) (at / 16) ≡ sum }
-    ensures wrong { result ≡ false → (at % 16 ≡ 15) × (slice_index (view_words counts.entry) (at / 16) ≡ sum → ⊥) }
-{
-    at % 16 != 15 || word_at(counts, at / 16) == sum
-}
-
-// Are there just the counts of the bits? A turn for each word.
+// Are there just the counts of the bits? A turn for each word of a whole chunk.
 fn counts_right<L>(
     counts: View<'_, u64>,
     values: View<'_, u64>,
@@ -44,15 +34,17 @@ fn counts_right<L>(
     ensures value { result ≡ numbers_eq (view_words counts.entry) (counts_of (bits_in (view_bytes values.entry) (view_bytes tail.entry))) }
     ensures turns { tally.new.turns ≤ tally.old.turns + length (view_words values.entry) }
 {
-    let total = word_count(values);
-    if word_count(counts) != total / 16 {
+    let chunks = word_count(values) / 16;
+    if word_count(counts) != chunks {
         return false;
     }
     let mut sum = 0u64;
-    for at in 0..total {
-        tally.tick();
-        sum += word_or_tail(values, tail, at).count_ones() as u64;
-        if !is_count(counts, at, sum) {
+    for chunk in 0..chunks {
+        for at in 16 * chunk..16 * chunk + 16 {
+            tally.tick();
+            sum += word_at(values, at).count_ones() as u64;
+        }
+        if word_at(counts, chunk) != sum {
             return false;
         }
     }

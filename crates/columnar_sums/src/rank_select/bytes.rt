@@ -23,7 +23,7 @@ use columnar_core::view::View;
 use columnar_core::words::{Words, byte_count, word_at, word_count};
 use std::alloc::Global;
 
-// Are there just the counts of the bits? A turn for each word of a whole chunk.
+// Are there just the counts of the bits? A turn for each chunk and each of its words.
 fn counts_right<L>(
     counts: View<'_, u64>,
     values: View<'_, u64>,
@@ -32,7 +32,7 @@ fn counts_right<L>(
 ) -> bool
     requires { SoundBools (view_bytes values) (view_bytes tail) }
     ensures value { result ≡ numbers_eq (view_words counts.entry) (counts_of (bits_in (view_bytes values.entry) (view_bytes tail.entry))) }
-    ensures turns { tally.new.turns ≤ tally.old.turns + length (view_words values.entry) }
+    ensures turns { tally.new.turns ≤ tally.old.turns + (length (view_words counts.entry) + length (view_words values.entry)) }
 {
     let chunks = word_count(values) / 16;
     if word_count(counts) != chunks {
@@ -40,6 +40,7 @@ fn counts_right<L>(
     }
     let mut sum = 0u64;
     for chunk in 0..chunks {
+        tally.tick();
         for at in 16 * chunk..16 * chunk + 16 {
             tally.tick();
             sum += word_at(values, at).count_ones() as u64;

@@ -25,7 +25,7 @@ loop-at-init g c =
     let q : 1024 * c.loop-chunk.chunk ≡ 64 * (16 * c.loop-chunk.chunk) = omega arith in
     record {
       sum = c.loop-chunk.invariant.sum ∙ ap (ones_below (bit_in (bit_words (view_bytes c.args.values) (view_bytes c.args.tail)))) q;
-      turns = c.loop-chunk.invariant.turns;
+      turns = omega (arith, c.loop-chunk.invariant.turns, c.tick.ensures.turns);
     }
 
 pub loop-at-preserved : goal.loop-at-preserved

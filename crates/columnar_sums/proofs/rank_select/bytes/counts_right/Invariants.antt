@@ -10,12 +10,12 @@ invariant-loop-chunk g l =
     record {
       sum : l.sum ≡ ones_below (bit_in (bit_words (view_bytes l.values) (view_bytes l.tail))) (1024 * l.chunk);
       right : AreRight (bit_words (view_bytes l.values) (view_bytes l.tail)) (view_words l.counts) l.chunk;
-      turns : l.tally.turns ≡ l.fn.tally.turns + 16 * l.chunk;
+      turns : l.tally.turns ≡ l.fn.tally.turns + 17 * l.chunk;
     }
 
 abbrev pub invariant-loop-at : goal.invariant-loop-at
 invariant-loop-at g l =
     record {
       sum : l.sum ≡ ones_below (bit_in (bit_words (view_bytes l.values) (view_bytes l.tail))) (64 * l.at);
-      turns : l.tally.turns ≡ l.fn.tally.turns + l.at;
+      turns : l.tally.turns ≡ l.fn.tally.turns + l.chunk + l.at + 1;
     }

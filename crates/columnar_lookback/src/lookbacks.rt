@@ -134,7 +134,6 @@ impl<TC: Len, VC: Distances, CC: Words, RC: Words, WC: Words, const N: u8> Lookb
 > {
     /// The least distance below `N` at which a value is the same as the item, 0 for the last value; None where the item is
     /// the same as none of these. Takes no memory.
-    #[inline(never)]
     pub fn distance_to<T: Item>(&self, item: &T) -> Option<u8>
     where
         TC: SameAs<T>,

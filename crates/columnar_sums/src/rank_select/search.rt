@@ -207,6 +207,7 @@ fn looked<L>(
     ensures span { IsSpan counts.now rank result.0.low result.0.sum result.0.rest }
     ensures less { result.0.rest < span.rest }
     ensures half { at ≡ span.rest / 2 → result.0.rest ≤ span.rest / 2 }
+    ensures other_half { at ≡ span.rest / 2 → span.rest ≤ 2 * result.0.rest + 2 }
     ensures counts { tally.new.counts ≡ tally.old.counts + 1 }
     ensures words { tally.new.words ≡ tally.old.words }
     ensures turns { tally.new.turns ≡ tally.old.turns }
@@ -249,12 +250,13 @@ fn looked_near<L>(
     }
 }
 
-// What is left after a look at the count in the middle, and two a little below and above where the rank is if the counts rise
-// evenly up to there: of these first the one that leaves more out, and the other where it can leave half out.
+// What is left after looks at the count in the middle, at the one in the middle of the half that is left, and at two a little
+// below and above where the rank is if the counts rise evenly in that half: of these first the one that leaves more out, and
+// the other where it can leave half out.
 #[tactic(auto, using(crate::specs::Spans::digits_le, crate::specs::Spans::digits_half))]
 fn narrowed<L>(counts: &MeteredCounts<'_, L>, rank: u64, span: Span, tally: &mut Tally<L>) -> Span
     requires span { IsSpan counts.now rank span.low span.sum span.rest }
-    requires some { 0 < span.rest }
+    requires some { 2 < span.rest }
     ensures span { IsSpan counts.now rank result.low result.sum result.rest }
     ensures less { result.rest ≤ span.rest }
     ensures cost { tally.new.counts + digits result.rest ≤ tally.old.counts + digits span.rest + 1 }
@@ -262,17 +264,23 @@ fn narrowed<L>(counts: &MeteredCounts<'_, L>, rank: u64, span: Span, tally: &mut
     ensures words { tally.new.words ≡ tally.old.words }
     ensures turns { tally.new.turns ≡ tally.old.turns }
 {
-    let middle = span.rest / 2;
-    let (half, count) = looked(counts, rank, span, middle, tally);
-    let chunk = (rank.wrapping_mul(middle as u64 + 1) / count.max(1)) as usize;
-    let near = half.rest / 2;
+    let (half, _) = looked(counts, rank, span, span.rest / 2, tally);
+    let middle = half.rest / 2;
+    let (quarter, count) = looked(counts, rank, half, middle, tally);
+    let trues = count.saturating_sub(half.sum).max(1);
+    let beyond = rank
+        .saturating_sub(half.sum)
+        .wrapping_mul(middle as u64 + 1)
+        / trues;
+    let chunk = half.low.saturating_add(beyond as usize);
+    let near = quarter.rest / 2;
     let (below, above) = (chunk.saturating_sub(4), chunk.saturating_add(4));
-    let (first, second) = if chunk < half.low + near {
+    let (first, second) = if chunk < quarter.low + near {
         (above, below)
     } else {
         (below, above)
     };
-    let once = looked_near(counts, rank, half, first, tally);
+    let once = looked_near(counts, rank, quarter, first, tally);
     if once.rest <= near {
         looked_near(counts, rank, once, second, tally)
     } else {

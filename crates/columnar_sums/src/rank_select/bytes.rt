@@ -23,7 +23,8 @@ use columnar_core::view::View;
 use columnar_core::words::{Words, byte_count, word_at, word_count};
 use std::alloc::Global;
 
-// Are there just the counts of the bits? A turn for each chunk and each of its words.
+// Are there just the counts of the bits? A turn for each chunk and each of its words. Of the tail no word is read: it stands in
+// what is asked and told alone, since its bits have no count.
 fn counts_right<L>(
     counts: View<'_, u64>,
     values: View<'_, u64>,

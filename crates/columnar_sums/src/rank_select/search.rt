@@ -225,38 +225,63 @@ fn looked<L>(
     (left, count)
 }
 
-// The same of the count of a chunk, where that is in the span.
+// What is left after looks at two counts of a span, at place `from` and eight further on, between which the rank is expected.
+// The first look leaves the longer part out if the rank is there; only then is the other count looked at, and whatever that says
+// leaves at least half of the span out. Else the span stays as it is. Which count comes first is reckoned without a jump, which
+// no processor could tell beforehand; the other jumps mostly go one way.
+#[tactic(auto, using(crate::specs::Spans::digits_le, crate::specs::Spans::digits_half, crate::specs::CountLaws::count_before_next))]
 #[inline(always)]
-fn looked_near<L>(
+fn looked_around<L>(
     counts: &MeteredCounts<'_, L>,
     rank: u64,
     span: Span,
-    chunk: usize,
+    from: usize,
     tally: &mut Tally<L>,
 ) -> Span
     requires span { IsSpan counts.now rank span.low span.sum span.rest }
+    requires enough { 14 ≤ span.rest }
     ensures span { IsSpan counts.now rank result.low result.sum result.rest }
     ensures less { result.rest ≤ span.rest }
-    ensures spent { result.rest ≡ span.rest → tally.new.counts ≡ tally.old.counts }
-    ensures counts { tally.new.counts ≤ tally.old.counts + 1 }
-    ensures more { tally.old.counts ≤ tally.new.counts }
+    ensures cost { tally.new.counts + digits result.rest ≤ tally.old.counts + digits span.rest + 1 }
+    ensures counts { tally.old.counts ≤ tally.new.counts }
     ensures words { tally.new.words ≡ tally.old.words }
     ensures turns { tally.new.turns ≡ tally.old.turns }
 {
-    if span.low <= chunk && chunk - span.low < span.rest {
-        looked(counts, rank, span, chunk - span.low, tally).0
+    if span.rest - 8 <= from {
+        return span;
+    }
+    let lower = from <= span.rest / 2;
+    let below = span.low + from;
+    let eight = 8 * lower as usize;
+    let (first, second) = (below + eight, below + 8 - eight);
+    let one = counts.read(first, tally);
+    if (one <= rank) == lower {
+        return span;
+    }
+    let two = counts.read(second, tally);
+    if (two <= rank) == lower {
+        Span {
+            low: below + 1,
+            sum: one.min(two),
+            rest: 7,
+        }
+    } else if two <= rank {
+        Span {
+            low: second + 1,
+            sum: two,
+            rest: span.rest - from - 9,
+        }
     } else {
-        span
+        Span { rest: from, ..span }
     }
 }
 
 // What is left after looks at the count in the middle, at the one in the middle of the half that is left, and at two a little
-// below and above where the rank is if the counts rise evenly in that half: of these first the one that leaves more out, and
-// the other where it can leave half out.
+// below and above where the rank is if the counts rise evenly in that half.
 #[tactic(auto, using(crate::specs::Spans::digits_le, crate::specs::Spans::digits_half))]
 fn narrowed<L>(counts: &MeteredCounts<'_, L>, rank: u64, span: Span, tally: &mut Tally<L>) -> Span
     requires span { IsSpan counts.now rank span.low span.sum span.rest }
-    requires some { 2 < span.rest }
+    requires enough { 64 ≤ span.rest }
     ensures span { IsSpan counts.now rank result.low result.sum result.rest }
     ensures less { result.rest ≤ span.rest }
     ensures cost { tally.new.counts + digits result.rest ≤ tally.old.counts + digits span.rest + 1 }
@@ -267,25 +292,12 @@ fn narrowed<L>(counts: &MeteredCounts<'_, L>, rank: u64, span: Span, tally: &mut
     let (half, _) = looked(counts, rank, span, span.rest / 2, tally);
     let middle = half.rest / 2;
     let (quarter, count) = looked(counts, rank, half, middle, tally);
-    let trues = count.saturating_sub(half.sum).max(1);
-    let beyond = rank
-        .saturating_sub(half.sum)
-        .wrapping_mul(middle as u64 + 1)
-        / trues;
-    let chunk = half.low.saturating_add(beyond as usize);
-    let near = quarter.rest / 2;
-    let (below, above) = (chunk.saturating_sub(4), chunk.saturating_add(4));
-    let (first, second) = if chunk < quarter.low + near {
-        (above, below)
-    } else {
-        (below, above)
-    };
-    let once = looked_near(counts, rank, quarter, first, tally);
-    if once.rest <= near {
-        looked_near(counts, rank, once, second, tally)
-    } else {
-        once
-    }
+    // (by sixteen trues each: a division of small numbers takes less time)
+    let trues = (count.saturating_sub(half.sum) / 16).max(1);
+    let beyond = (rank.saturating_sub(half.sum) / 16).wrapping_mul(middle as u64 + 1) / trues;
+    let chunk = half.low.wrapping_add(beyond as usize);
+    let from = chunk.wrapping_sub(quarter.low + 4);
+    looked_around(counts, rank, quarter, from, tally)
 }
 
 // The first chunk with more than `rank` trues up to its end, and how many stand before it, by binary search of a span. How many

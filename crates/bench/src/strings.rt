@@ -32,8 +32,7 @@ pub fn measure<R: Clock, O: Write>(times: &mut Times<'_, R, O>) -> Option<()> {
     let records = input::records(times.alloc, N, &mut random)?;
     let texts = input::texts(times.alloc, records.as_slice())?;
     strings(times, texts.as_slice())?;
-    let bytes = typed(times, records.as_slice())?;
-    opened(times, bytes)
+    stored(times, records.as_slice())
 }
 
 fn strings<R: Clock, O: Write>(times: &mut Times<'_, R, O>, texts: &[&str]) -> Option<()> {
@@ -47,22 +46,15 @@ fn strings<R: Clock, O: Write>(times: &mut Times<'_, R, O>, texts: &[&str]) -> O
     Some(())
 }
 
-fn typed<R: Clock, O: Write>(times: &mut Times<'_, R, O>, records: &[Record]) -> Option<Vec<u8>> {
-    let held = Held::Typed(times.refs::<Record, Records>("push_records_ref", records)?);
-    let view = held.borrow();
-    let names = [
-        "push_records_view",
-        "get_records_typed",
-        "copy_records_half",
-        "encode_records",
-        "write_records",
-    ];
-    times.viewed::<Viewed<'_>, Records>(names, view, 32 * N)
-}
-
-fn opened<R: Clock, O: Write>(times: &mut Times<'_, R, O>, bytes: Vec<u8>) -> Option<()> {
+fn stored<R: Clock, O: Write>(times: &mut Times<'_, R, O>, records: &[Record]) -> Option<()> {
+    let typed = Held::Typed(times.refs::<Record, Records>("push_records_ref", records)?);
+    let typed_view = typed.borrow();
+    let names = ["push_records_view", "encode_records", "write_records"];
+    let bytes = times.stored::<Viewed<'_>, Records>(names, typed_view, 32 * N)?;
     let held = Held::try_from_bytes(times.alloc, bytes).ok()?;
     let view = held.borrow();
     times.sum("get_records_bytes", &view)?;
+    times.sum("get_records_typed", &typed_view)?;
+    times.copy::<Viewed<'_>, Records>("copy_records_half", typed_view, 250_000, 750_000)?;
     times.load("to_typed_records", N, &held)
 }

@@ -147,24 +147,39 @@ impl<'a, R: Clock, O: Write> Times<'a, R, O> {
         Some(bytes)
     }
 
-    /// All that is measured of a view of rows in memory: they are pushed, read, the half in the middle is copied, and they are
-    /// encoded and written, where there is room for `room` bytes. `names` has a name for each.
-    pub fn viewed<
-        'b,
-        V: Len + Copy + Index<Ref: Amount> + AsBytes<'b>,
-        C: Push<V::Ref> + ExtendFrom<V> + Drop,
-    >(&mut self, names: [&str; 5], view: V, room: usize) -> Option<Vec<u8>>
+    /// Pushes the rows of a view, encodes them, and gives the bytes that it writes where there is room for `room` bytes. `names`
+    /// has a name for each.
+    pub fn stored<'b, V: Len + Copy + Index + AsBytes<'b>, C: Storage + Push<V::Ref> + Drop>(
+        &mut self,
+        names: [&str; 3],
+        view: V,
+        room: usize,
+    ) -> Option<Vec<u8>>
         requires sound { IsSound V.format (V.content view) }
         requires representable { IsTrue (representable V.format) }
     {
         let items = view.len();
-        let fourth = items / 4;
-        let [pushed, read, copied, encoded, written] = names;
+        let [pushed, encoded, written] = names;
         self.view::<V, C>(pushed, &view)?;
-        self.sum(read, &view)?;
-        self.copy::<V, C>(copied, view, fourth, items - fourth)?;
         self.encode(encoded, items, &view)?;
         self.write(written, items, &view, room)
+    }
+
+    /// Reads all rows of a view, copies the half in the middle, and copies the half from one row further on after the first
+    /// row. `names` has a name for each.
+    pub fn halves<V: Len + Copy + Index<Ref: Amount>, C: ExtendFrom<V> + Drop>(
+        &mut self,
+        names: [&str; 3],
+        view: V,
+    ) -> Option<()>
+        requires { IsSound V.format (V.content view) }
+    {
+        let fourth = view.len() / 4;
+        let end = view.len() - fourth;
+        let [read, copied, shifted] = names;
+        self.sum(read, &view)?;
+        self.copy::<V, C>(copied, view, fourth, end)?;
+        self.copy_after::<V, C>(shifted, view, 1, fourth + 1, end + 1)
     }
 
     /// Validates bytes.

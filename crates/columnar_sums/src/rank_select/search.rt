@@ -226,9 +226,9 @@ fn looked<L>(
 }
 
 // What is left after looks at two counts of a span, at place `from` and eight further on, between which the rank is expected.
-// The first look leaves the longer part out if the rank is there; only then is the other count looked at, and whatever that says
-// leaves at least half of the span out. Else the span stays as it is. Which count comes first is reckoned without a jump, which
-// no processor could tell beforehand; the other jumps mostly go one way.
+// The first look is at the upper one where `from` is in the lower half, and else at the lower one. Only where the rank is on the
+// other's side is that looked at, and whatever it says leaves at least half of the span out; else the span stays as it is. Which
+// count comes first is reckoned without a jump, which no processor could tell beforehand; the other jumps mostly go one way.
 #[tactic(auto, using(crate::specs::Spans::digits_le, crate::specs::Spans::digits_half, crate::specs::CountLaws::count_before_next))]
 #[inline(always)]
 fn looked_around<L>(

@@ -243,6 +243,7 @@ fn looked_around<L>(
     ensures span { IsSpan counts.now rank result.low result.sum result.rest }
     ensures less { result.rest ≤ span.rest }
     ensures cost { tally.new.counts + digits result.rest ≤ tally.old.counts + digits span.rest + 1 }
+    ensures few { tally.new.counts ≤ tally.old.counts + 2 }
     ensures counts { tally.old.counts ≤ tally.new.counts }
     ensures words { tally.new.words ≡ tally.old.words }
     ensures turns { tally.new.turns ≡ tally.old.turns }
@@ -285,6 +286,7 @@ fn narrowed<L>(counts: &MeteredCounts<'_, L>, rank: u64, span: Span, tally: &mut
     ensures span { IsSpan counts.now rank result.low result.sum result.rest }
     ensures less { result.rest ≤ span.rest }
     ensures cost { tally.new.counts + digits result.rest ≤ tally.old.counts + digits span.rest + 1 }
+    ensures few { tally.new.counts ≤ tally.old.counts + 4 }
     ensures counts { tally.old.counts ≤ tally.new.counts }
     ensures words { tally.new.words ≡ tally.old.words }
     ensures turns { tally.new.turns ≡ tally.old.turns }
@@ -338,6 +340,38 @@ fn find_in_span<L>(
     (low, sum)
 }
 
+// As `find_in_span` of seven counts. All seven are looked at, so that no look waits for what another one says.
+#[tactic(auto, using(crate::specs::CountLaws::count_before_next))]
+#[inline(always)]
+fn find_in_seven<L>(
+    counts: &MeteredCounts<'_, L>,
+    rank: u64,
+    span: Span,
+    tally: &mut Tally<L>,
+) -> (usize, u64)
+    requires span { IsSpan counts.now rank span.low span.sum span.rest }
+    requires seven { span.rest ≡ 7 }
+    ensures within { result.0 ≤ length counts.now }
+    ensures before { result.1 ≡ count_before counts.now result.0 }
+    ensures below { result.1 ≤ rank }
+    ensures above { result.0 < length counts.now → rank < slice_index counts.now result.0 }
+    ensures counts { tally.new.counts ≡ tally.old.counts + 7 }
+    ensures words { tally.new.words ≡ tally.old.words }
+    ensures turns { tally.new.turns ≡ tally.old.turns + 7 }
+{
+    let mut chunk = span.low;
+    let mut sum = span.sum;
+    for i in 0..7 {
+        tally.tick();
+        let count = counts.read(span.low + i, tally);
+        if count <= rank {
+            chunk = span.low + i + 1;
+            sum = count;
+        }
+    }
+    (chunk, sum)
+}
+
 // The first chunk with more than `rank` trues up to its end, and how many stand before it.
 #[tactic(auto, using(crate::specs::Spans::digits_le, crate::specs::CountLaws::count_before_none))]
 fn find_chunk<L>(counts: &MeteredCounts<'_, L>, rank: u64, tally: &mut Tally<L>) -> (usize, u64)
@@ -356,12 +390,15 @@ fn find_chunk<L>(counts: &MeteredCounts<'_, L>, rank: u64, tally: &mut Tally<L>)
         sum: 0,
         rest: counts.len(),
     };
-    let span = if whole.rest < 64 {
-        whole
+    if whole.rest < 512 {
+        return find_in_span(counts, rank, whole, tally);
+    }
+    let span = narrowed(counts, rank, whole, tally);
+    if span.rest == 7 {
+        find_in_seven(counts, rank, span, tally)
     } else {
-        narrowed(counts, rank, whole, tally)
-    };
-    find_in_span(counts, rank, span, tally)
+        find_in_span(counts, rank, span, tally)
+    }
 }
 
 // The place of the set bit before which there are `rank` others.

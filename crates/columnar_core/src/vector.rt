@@ -22,6 +22,7 @@ use std::mem;
 use std::ops::Range;
 
 // Appends the elements; want of memory refuses all of them.
+#[inline(always)]
 pub(crate) fn append_typed<T: Element>(column: &mut Vec<T>, items: &[T]) -> Result<(), GrowError>
     ensures ok { OnOk result (column.new.items ≡ column.old.items ++ items.now) }
     ensures err { OnErr result (column.new.items ≡ column.old.items) }

@@ -1,9 +1,9 @@
 -- The words of bytes, and the bytes of words.
-use Rattle.std.proofs.Common.{ℕ, zero, suc, List, [], ◌∷◌, ◌++◌, ◌≡◌, ◌<◌, ◌≤◌, ◌+◌, ◌-◌, ◌*◌, ◌/◌, ◌%◌, ◌^◌, length, map, get_or, take, drop, replicate, refl, sym, ◌∙◌, ap, arith}
+use Rattle.std.proofs.Common.{ℕ, zero, suc, List, [], ◌∷◌, ◌++◌, ◌≡◌, ◌<◌, ◌≤◌, ◌+◌, ◌-◌, ◌*◌, ◌/◌, ◌^◌, length, map, get_or, take, drop, refl, sym, ◌∙◌, ap, arith}
 use Rattle.std.specs.List.{range_with_len, flat_map}
 use Rattle.std.specs.Int.{from_le_bytes, to_le_bytes, w64}
 use Rattle.std.proofs.Math.Seq.{take-add}
-use Rattle.std.proofs.lemmas.List.{append-nil, take-append-drop, take-take, take_at, drop-append-le, drop-drop, get_or-drop, get_or-take, get_or_past, length-drop, length-take-le, take_all}
+use Rattle.std.proofs.lemmas.List.{take-append-drop, drop-drop, get_or-drop, get_or-take, get_or_past, length-drop, length-take-le, take_all}
 use Rattle.std.proofs.lemmas.List.Concat.{flat_map-append}
 use Rattle.std.proofs.lemmas.Nat.{le_bytes_8}
 use Rattle.std.proofs.lemmas.Bool.{cases_lt}
@@ -119,30 +119,6 @@ hold_bytes slices n l h i =
     (λ (p : n ≤ i). λ k. let e = get_or_past slices i [] (omega arith) in
     let q : get_or (get_or slices i []) k 0 ≡ 0 = ap (λ (t : List ℕ). get_or t k 0) e in omega (arith, q))
     (cases_lt i n)
-
--- a whole word of the bytes that are left
-pub word_out : (bs : List ℕ) (i : ℕ) (b : List ℕ) → AreBytes bs → 8 * i + 8 ≤ length bs → b ≡ to_le_bytes w64 (word bs i) → drop (8 * i) bs ≡ b ++ drop (8 * (i + 1)) bs
-unfolding word_bytes
-word_out bs i b h l e =
-    let d : drop 8 (drop (8 * i) bs) ≡ drop (8 * (i + 1)) bs = drop-drop 8 (8 * i) bs ∙ ap (λ k. drop k bs) (omega arith) in
-    sym (take-append-drop 8 (drop (8 * i) bs)) ∙ ap (λ t. t ++ drop 8 (drop (8 * i) bs)) (sym (bytes-word bs i h l) ∙ sym e) ∙ ap (λ t. b ++ t) d
-
--- the last n bytes, of a word that zeros fill
-pub tail_out : (bs : List ℕ) (i n : ℕ) (b p : List ℕ) → AreBytes bs → length bs ≡ 8 * i + n → 0 < n → n < 8 → b ≡ to_le_bytes w64 (word bs i) → p ≡ take n b → drop (8 * i) bs ≡ p ++ []
-unfolding word_bytes
-tail_out bs i n b p h l z m e q =
-    let zeros : List ℕ = replicate (rounded (length bs) - length bs) 0 in
-    let w : to_le_bytes w64 (word bs i) ≡ take 8 (drop (8 * i) (padded bs)) =
-    ap (to_le_bytes w64) (sym (word-padded bs i)) ∙ bytes-word (padded bs) i (bytes-padded bs h) (omega (arith, length-padded bs, l)) in
-    let d : drop (8 * i) (padded bs) ≡ drop (8 * i) bs ++ zeros = drop-append-le (8 * i) bs zeros (omega (arith, l)) in
-    let k : length (drop (8 * i) bs) ≡ n = length-drop (8 * i) bs ∙ omega (arith, l) in
-    let r : take n b ≡ drop (8 * i) bs =
-    ap (take n) (e ∙ w) ∙ take-take n 8 (drop (8 * i) (padded bs)) (omega arith) ∙ ap (take n) d ∙ take_at (drop (8 * i) bs) zeros n k in
-    sym r ∙ sym q ∙ sym (append-nil p)
-
--- the bytes after the last whole word
-pub end_out : (bs : List ℕ) (i count : ℕ) (b : List ℕ) → AreBytes bs → i ≡ count / 8 → count ≡ length bs → 0 < count % 8 → b ≡ to_le_bytes w64 (word bs (count / 8)) → drop (8 * i) bs ≡ take (count % 8) b ++ []
-end_out bs i count b h e l z m = tail_out bs i (count % 8) b (take (count % 8) b) h (omega (arith, e, l)) z (omega arith) (rw (← e) at m) refl
 
 -- the bytes of the next words of those that are left
 pub block_out : (xs : List ℕ) (at next : ℕ) (bs : List ℕ) → at ≤ next → bs ≡ le_bytes (take (next - at) (drop at xs)) → le_bytes (drop at xs) ≡ bs ++ le_bytes (drop next xs)

@@ -257,6 +257,8 @@ impl Bools<Vec<u64>, [u64; 2]> {
         if end - at > usize::MAX - start {
             return Err(GrowError::Length);
         }
+        // (the words that are filled at least, asked for at once)
+        self.values.reserve((end - at) / 64)?;
         while at < end {
             tally.tick();
             let count = (end - at).min(64);

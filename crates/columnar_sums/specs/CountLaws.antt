@@ -1,5 +1,5 @@
 -- Counting trues.
-use Rattle.std.proofs.Common.{◌≡◌, ℕ, zero, suc, ◌+◌, ◌-◌, ◌*◌, ◌/◌, ◌%◌, ◌^◌, ◌<◌, ◌≤◌, min, Bool, true, false, eqb, List, [], ◌∷◌, ◌++◌, length, take, cond, Some, None, refl, sym, ap, ◌∙◌, subst, ⊎_elim, lit<, arith, add-one, add-zero, add-suc, add_assoc, add_comm}
+use Rattle.std.proofs.Common.{◌≡◌, ℕ, zero, suc, ◌+◌, ◌-◌, ◌*◌, ◌/◌, ◌%◌, ◌^◌, ◌<◌, ◌≤◌, Bool, true, false, eqb, List, [], ◌∷◌, ◌++◌, length, take, cond, Some, None, refl, sym, ap, ◌∙◌, subst, ⊎_elim, lit<, arith, add-one, add-zero, add-suc, add_assoc, add_comm}
 use Rattle.std.proofs.Math.Path.{ap₂}
 use Rattle.std.specs.Prelude.{slice_index, slice_index_or, bit_and, count_ones, count_by, option_map}
 use Rattle.std.proofs.lemmas.List.{length-take, take-append-le, length_push, get_or_past}
@@ -179,13 +179,6 @@ halves_high w k l h m =
 pub halves_rank : (w p h : ℕ) → ones_below (bit w) (p + h) ≡ ones_below (bit w) p + ones_below (bit (w / 2 ^ p)) h
 halves_rank w p h = ones_shr w p h
 
-pub halves_end : (w p k : ℕ) → k < ones_below (bit (w / 2 ^ p)) (2 ^ 0) → (k ≡ 0) × (bit w p ≡ true)
-unfolding ones_below
-halves_end w p k h =
-    ⊎_elim (λ (e : bit (w / 2 ^ p) 0 ≡ true). (let l : k < 1 = subst (λ (x : Bool). k < 0 + cond x 1 0) e h in omega arith, sym (ap (bit w) (add-zero p)) ∙ sym (bit_shr w p 0) ∙ e))
-    (λ (e : bit (w / 2 ^ p) 0 ≡ false). let l : k < 0 = subst (λ (x : Bool). k < 0 + cond x 1 0) e h in absurd (omega arith))
-    (cases_Bool (bit (w / 2 ^ p) 0))
-
 pub count_before_next : (cs : List ℕ) (i : ℕ) → count_before cs (i + 1) ≡ slice_index cs i
 unfolding count_before
 count_before_next cs i = ap (count_before cs) (add-one i)
@@ -222,11 +215,6 @@ halve_up word p r k n h low rank z er hk eb eh el m w =
       within = omega arith;
     }
 
-pub halves_over : (w p r k n : ℕ) → n ≤ 0 → r ≡ w / 2 ^ p → k < ones_below (bit r) (2 ^ n) → (k ≡ 0) × (bit w p ≡ true)
-halves_over w p r k n z e h =
-    let s : n ≡ 0 = omega arith in
-    halves_end w p k (subst (λ (x : ℕ). k < ones_below (bit x) (2 ^ 0)) e (subst (λ (x : ℕ). k < ones_below (bit r) (2 ^ x)) s h))
-
 -- ---- binary digits
 
 pow_le : (i j : ℕ) → i ≤ j → 2 ^ i ≤ 2 ^ j
@@ -255,19 +243,6 @@ counts_rise ws cs exact i h =
     let b : slice_index cs (i + 1) ≡ ones_below (bit_in ws) (1024 * (i + 1 + 1)) = sym (count_before_next cs (i + 1)) ∙ count_before_is ws cs (i + 1 + 1) exact (omega arith) in
     let m = ones_below_mono (bit_in ws) (1024 * (i + 1)) (1024 * (i + 1 + 1)) (omega arith) in
     omega arith
-
--- a chunk of 16 words was looked at, or all the words that are left
-pub none_left : (ws cs : List ℕ) (rank chunk at sum end : ℕ) → CountWords ws cs → length ws ≤ 16 * length cs + 16 → 16 * length cs < length ws → chunk ≤ length cs → (chunk < length cs → rank < slice_index cs chunk) → end ≡ min (16 * chunk + 16) (length ws) → at ≡ end → sum ≡ ones_below (bit_in ws) (64 * at) → sum ≤ rank → ones_below (bit_in ws) (64 * length ws) ≤ rank
-none_left ws cs rank chunk at sum end exact short enough c above e a s le =
-    ⊎_elim (λ (p : chunk < length cs).
-    let q : at ≡ 16 * chunk + 16 = omega arith in
-    let b : slice_index cs chunk ≡ ones_below (bit_in ws) (1024 * (chunk + 1)) = sym (count_before_next cs chunk) ∙ count_before_is ws cs (chunk + 1) exact (omega arith) in
-    let d : ones_below (bit_in ws) (64 * at) ≡ ones_below (bit_in ws) (1024 * (chunk + 1)) = ap (ones_below (bit_in ws)) (omega arith) in
-    let r = above p in absurd (omega arith))
-    (λ (p : length cs ≤ chunk).
-    let q : at ≡ length ws = omega arith in
-    let d : ones_below (bit_in ws) (64 * at) ≡ ones_below (bit_in ws) (64 * length ws) = ap (λ (x : ℕ). ones_below (bit_in ws) (64 * x)) q in omega arith)
-    (cases_lt chunk (length cs))
 
 -- the bit was found in word i
 pub found_in : (ws : List ℕ) (i w p sum rank : ℕ) → w ≡ slice_index ws i → p < 64 → bit w p ≡ true → ones_below (bit w) p ≡ rank - sum → sum ≤ rank → sum ≡ ones_below (bit_in ws) (64 * i) → (bit_in ws (64 * i + p) ≡ true) × (ones_below (bit_in ws) (64 * i + p) ≡ rank)

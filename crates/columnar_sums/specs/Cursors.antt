@@ -1,5 +1,5 @@
 -- Where a cursor stands.
-use Rattle.std.proofs.Common.{◌≡◌, ℕ, ◌-◌, ◌*◌, ◌≤◌, List, length}
+use Rattle.std.proofs.Common.{◌≡◌, ℕ, ◌*◌, ◌≤◌, List, length}
 use Rattle.columnar_core.specs.Format.{slice, both, IsSound}
 use Rattle.columnar_core.specs.WordViews.{bit_words}
 use Rattle.columnar_bits.specs.BoolColumns.{bits_in}

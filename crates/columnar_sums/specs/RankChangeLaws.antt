@@ -129,19 +129,18 @@ sum_more ws at w sum e d h = (rw e refl) ∙ sym (ones_word_whole ws at w d h)
 pub sum_fits : (ws : List ℕ) (at sum : ℕ) → sum ≡ ones_below (bit_in ws) (64 * at) → sum ≤ 64 * at
 sum_fits ws at sum e = omega (arith, ones_below_le (bit_in ws) (64 * at))
 
-pub count_more : (ws cs : List ℕ) (at sum : ℕ) → CountWords ws cs → length cs ≡ at / 16 → at % 16 ≡ 15 → sum ≡ ones_below (bit_in ws) (64 * (at + 1)) → CountWords ws (cs ++ sum ∷ [])
+pub count_more : (ws cs : List ℕ) (sum : ℕ) → CountWords ws cs → sum ≡ ones_below (bit_in ws) (1024 * (length cs + 1)) → CountWords ws (cs ++ sum ∷ [])
 unfolding CountWords
-count_more ws cs at sum h l m e = λ i k.
+count_more ws cs sum h e = λ i k.
     let n = length_push cs sum in
     ⊎_elim (λ (p : i < length cs). get_or_append_left cs (sum ∷ []) 0 i p ∙ h i p)
     (λ (p : length cs ≤ i).
     let d : length cs ≡ i = omega arith in
-    let q : 64 * (at + 1) ≡ 1024 * (i + 1) = omega arith in
-    get_or_push cs sum 0 i d ∙ e ∙ ap (ones_below (bit_in ws)) q)
+    get_or_push cs sum 0 i d ∙ e ∙ ap (λ (x : ℕ). ones_below (bit_in ws) (1024 * (x + 1))) d)
     (cases_lt i (length cs))
 
-pub sum_start : (ws cs : List ℕ) (n : ℕ) → CountWords ws cs → n ≡ length cs → count_before cs n ≡ ones_below (bit_in ws) (64 * (16 * n))
-sum_start ws cs n h e = count_before_is ws cs n h (omega arith) ∙ ap (ones_below (bit_in ws)) (let d : 1024 * n ≡ 64 * (16 * n) = omega arith in d)
+pub sum_start : (ws cs : List ℕ) (n : ℕ) → CountWords ws cs → n ≡ length cs → count_before cs n ≡ ones_below (bit_in ws) (1024 * n)
+sum_start ws cs n h e = count_before_is ws cs n h (omega arith)
 
 -- a count that differs
 pub counts_differ : (a b cs : List ℕ) → (AreCounts (bits_in a b) cs → ⊥) → numbers_eq cs (counts_of (bits_in a b)) ≡ false
@@ -177,27 +176,22 @@ held_cut {a} {b} {a'} {b'} {n} xs ys s e w l =
     let m = length-le_bytes ys in
     ranks_cut (ranks_parts s) w (omega (arith, l, length-map (bits_in a b) truth)) (rw e (words_cut xs (n / 1024))) (omega arith)
 
--- what the loop that counts words on keeps
-pub record CountedTo (ws before ys : List ℕ) (n at : ℕ) : Type 0 where
+-- what the loop that counts chunks on keeps
+pub record CountedTo (ws before ys : List ℕ) (n chunk : ℕ) : Type 0 where
   pub exact : CountWords ws (words_in (le_bytes ys))
-  pub many : length ys ≡ at / 16
+  pub many : length ys ≡ chunk
   pub front : take n ys ≡ before
 
-pub counted_end : {ws before xs ys : List ℕ} {n at : ℕ} (sum : ℕ) → CountedTo ws before xs n at → n ≤ length xs → at % 16 ≡ 15 → sum ≡ ones_below (bit_in ws) (64 * (at + 1)) → sum < 2 ^ 64 → ys ≡ xs ++ sum ∷ [] → CountedTo ws before ys n (at + 1)
-counted_end {ws} {before} {xs} {ys} {n} {at} sum k l m e h d =
+pub counted_on : {ws before xs ys : List ℕ} {n chunk : ℕ} (sum : ℕ) → CountedTo ws before xs n chunk → n ≤ chunk → sum ≡ ones_below (bit_in ws) (1024 * (chunk + 1)) → sum < 2 ^ 64 → ys ≡ xs ++ sum ∷ [] → CountedTo ws before ys n (chunk + 1)
+counted_on {ws} {before} {xs} {ys} {n} {chunk} sum k l e h d =
     let w = words_grown xs ys sum d h in
     let o = k.many in
+    let many : length (words_in (le_bytes xs)) ≡ chunk = length_words_back xs ∙ o in
     record {
-      exact = rw w.0 (count_more ws (words_in (le_bytes xs)) at sum k.exact (length_words_back xs ∙ k.many) m e);
+      exact = rw w.0 (count_more ws (words_in (le_bytes xs)) sum k.exact (e ∙ ap (λ (x : ℕ). ones_below (bit_in ws) (1024 * (x + 1))) (sym many)));
       many = omega (arith, ap length d, length_push xs sum);
-      front = ap (take n) d ∙ take-append-le n xs (sum ∷ []) l ∙ k.front;
+      front = ap (take n) d ∙ take-append-le n xs (sum ∷ []) (omega arith) ∙ k.front;
     }
-
-pub counted_within : {ws before xs ys : List ℕ} {n at : ℕ} → CountedTo ws before xs n at → (at % 16 ≡ 15 → ⊥) → ys ≡ xs → CountedTo ws before ys n (at + 1)
-counted_within {ws} {before} {xs} {ys} {n} {at} k m d =
-    let o = k.many in
-    let e : at / 16 ≡ (at + 1) / 16 = omega arith in
-    record { exact = rw d k.exact; many = ap length d ∙ k.many ∙ e; front = ap (take n) d ∙ k.front }
 
 -- bits that stayed, under the same counts
 pub ranks_stayed : {c a b a' b' : List ℕ} → IsSound ranks_format (three c a b) → Stayed bools_format (both (slice a) (slice b)) (both (slice a') (slice b')) → Stayed ranks_format (three c a b) (three c a' b')

@@ -139,13 +139,13 @@ impl<CC: Words, VC: Words, WC: Words> RankSelect<CC, VC, WC> {
     }
 
     /// As `select`; what it reads is added to the tally: at most 16 words, and one count more than the number of
-    /// counts has binary digits. So are its turns: at most 22 more than that number has digits.
+    /// counts has binary digits. So are its turns: at most 19 more than that number has digits.
     pub fn select_tallied<L>(&self, rank: u64, tally: &mut Tally<L>) -> Option<usize>
         requires { IsRanked CC.bytes VC.bytes WC.bytes self.now }
         ensures value { result ≡ place (bits_ranked VC.bytes WC.bytes self.now) rank }
         ensures reads { Adds (digits (length (words_in (CC.bytes self.now.counts))) + 1) 16 tally.old tally.new }
         ensures some_read { length tally.old.words < length tally.new.words }
-        ensures turns { tally.new.turns ≤ tally.old.turns + (digits (length (words_in (CC.bytes self.now.counts))) + 22) }
+        ensures turns { tally.new.turns ≤ tally.old.turns + (digits (length (words_in (CC.bytes self.now.counts))) + 19) }
     {
         select_in(&self.metered_counts(), &self.metered_words(), rank, tally)
     }

@@ -1,5 +1,5 @@
 //! Columns of bits and counts in slices of bytes.
-ghost use Rattle.std.specs.Prelude.{◌≡◌, ◌+◌, ◌-◌, ◌*◌, ◌/◌, ◌%◌, ◌^◌, ◌<◌, ◌≤◌, length, refl, slice_index, true, false, drop};
+ghost use Rattle.std.specs.Prelude.{◌≡◌, ◌+◌, ◌-◌, ◌*◌, ◌^◌, ◌<◌, ◌≤◌, length, refl, true, false, drop};
 ghost use Rattle.columnar_sums.specs.Agree.{numbers_eq};
 ghost use Rattle.columnar_core.specs.Format.{slice, both, first, moved, Fits};
 ghost use Rattle.columnar_core.specs.Store.{slices_in};

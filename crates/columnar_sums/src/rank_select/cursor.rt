@@ -313,7 +313,7 @@ impl<'a, CC: Words, VC: Words, WC: Words> Cursor<'a, CC, VC, WC> {
     }
 
     /// As `seek_to_rank`; what it reads is added to the tally: at most 33 words, and two counts more than the number of
-    /// counts has binary digits. So are its turns: at most 38 more than that number has digits.
+    /// counts has binary digits. So are its turns: at most 35 more than that number has digits.
     pub fn seek_to_rank_tallied<L>(&mut self, rank: u64, tally: &mut Tally<L>) -> Option<usize>
         requires { ones self.old.bits self.old.pos ≤ rank }
         ensures bits { (self.new.bits ≡ self.old.bits) × (self.new.counts ≡ self.old.counts) }
@@ -323,7 +323,7 @@ impl<'a, CC: Words, VC: Words, WC: Words> Cursor<'a, CC, VC, WC> {
         ensures answer { result ≡ place self.old.bits rank }
         ensures pos { MatchOption result (self.new.pos ≡ length self.old.bits) (λ q. self.new.pos ≡ q + 1) }
         ensures reads { Adds (digits self.old.counts + 2) 33 tally.old tally.new }
-        ensures turns { tally.new.turns ≤ tally.old.turns + (digits self.old.counts + 38) }
+        ensures turns { tally.new.turns ≤ tally.old.turns + (digits self.old.counts + 35) }
     {
         let column = self.column;
         match column.select_tallied(rank, tally) {

@@ -14,7 +14,6 @@ use super::search::one_of;
 use columnar_bits::bools::Bools;
 use columnar_core::container::{Borrow, ExtendFrom, Reborrow, Reserve, Storage, Truncate};
 use columnar_core::fault::GrowError;
-use columnar_core::metered::word_or_tail;
 use columnar_core::tally::Tally;
 use columnar_core::traits::{Clear, Len, Push, PushRef};
 use columnar_core::view::View;
@@ -39,7 +38,8 @@ fn count_after(counts: View<'_, u64>, chunk: usize) -> u64
     }
 }
 
-// Appends a count for each chunk of words that is complete and has none; all or none.
+// Appends a count for each chunk of words that is complete and has none; all or none. Of the tail no word is read: it stands in what
+// is asked and told alone, since its bits have no count.
 fn count_on<L>(
     counts: &mut Vec<u64>,
     values: View<'_, u64>,
@@ -57,16 +57,16 @@ fn count_on<L>(
 {
     let before = Vec::len(counts);
     let mut sum = count_after(counts.words(), before);
-    for at in 16 * before..16 * (word_count(values) / 16) {
-        tally.tick();
-        sum += word_or_tail(values, tail, at).count_ones() as u64;
-        if at % 16 == 15 {
-            match counts.push(sum) {
-                Ok(()) => {}
-                Err(_) => {
-                    counts.truncate(before);
-                    return Err(GrowError::Memory);
-                }
+    for chunk in before..word_count(values) / 16 {
+        for at in 16 * chunk..16 * chunk + 16 {
+            tally.tick();
+            sum += word_at(values, at).count_ones() as u64;
+        }
+        match counts.push(sum) {
+            Ok(()) => {}
+            Err(_) => {
+                counts.truncate(before);
+                return Err(GrowError::Memory);
             }
         }
     }

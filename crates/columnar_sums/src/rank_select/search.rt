@@ -139,14 +139,52 @@ pub(crate) fn rank_in<L>(
     before + ones_in(words.read(block, tally), (index % 64) as u64) as usize
 }
 
-// The place of the set bit of the word before which there are `rank` others, by halving, in six turns.
-#[tactic(auto, using(crate::specs::CountLaws::halves_high, crate::specs::CountLaws::halves_rank, crate::specs::CountLaws::halves_end, crate::specs::CountLaws::halves_start))]
+// For each byte the places of its set bits, four bits of the number for each, the lowest first.
+static PLACES: [u32; 256] = [
+    0, 0, 1, 0x10, 2, 0x20, 0x21, 0x210, 3, 0x30, 0x31, 0x310, 0x32, 0x320, 0x321, 0x3210, 4, 0x40,
+    0x41, 0x410, 0x42, 0x420, 0x421, 0x4210, 0x43, 0x430, 0x431, 0x4310, 0x432, 0x4320, 0x4321,
+    0x43210, 5, 0x50, 0x51, 0x510, 0x52, 0x520, 0x521, 0x5210, 0x53, 0x530, 0x531, 0x5310, 0x532,
+    0x5320, 0x5321, 0x53210, 0x54, 0x540, 0x541, 0x5410, 0x542, 0x5420, 0x5421, 0x54210, 0x543,
+    0x5430, 0x5431, 0x54310, 0x5432, 0x54320, 0x54321, 0x543210, 6, 0x60, 0x61, 0x610, 0x62, 0x620,
+    0x621, 0x6210, 0x63, 0x630, 0x631, 0x6310, 0x632, 0x6320, 0x6321, 0x63210, 0x64, 0x640, 0x641,
+    0x6410, 0x642, 0x6420, 0x6421, 0x64210, 0x643, 0x6430, 0x6431, 0x64310, 0x6432, 0x64320,
+    0x64321, 0x643210, 0x65, 0x650, 0x651, 0x6510, 0x652, 0x6520, 0x6521, 0x65210, 0x653, 0x6530,
+    0x6531, 0x65310, 0x6532, 0x65320, 0x65321, 0x653210, 0x654, 0x6540, 0x6541, 0x65410, 0x6542,
+    0x65420, 0x65421, 0x654210, 0x6543, 0x65430, 0x65431, 0x654310, 0x65432, 0x654320, 0x654321,
+    0x6543210, 7, 0x70, 0x71, 0x710, 0x72, 0x720, 0x721, 0x7210, 0x73, 0x730, 0x731, 0x7310, 0x732,
+    0x7320, 0x7321, 0x73210, 0x74, 0x740, 0x741, 0x7410, 0x742, 0x7420, 0x7421, 0x74210, 0x743,
+    0x7430, 0x7431, 0x74310, 0x7432, 0x74320, 0x74321, 0x743210, 0x75, 0x750, 0x751, 0x7510, 0x752,
+    0x7520, 0x7521, 0x75210, 0x753, 0x7530, 0x7531, 0x75310, 0x7532, 0x75320, 0x75321, 0x753210,
+    0x754, 0x7540, 0x7541, 0x75410, 0x7542, 0x75420, 0x75421, 0x754210, 0x7543, 0x75430, 0x75431,
+    0x754310, 0x75432, 0x754320, 0x754321, 0x7543210, 0x76, 0x760, 0x761, 0x7610, 0x762, 0x7620,
+    0x7621, 0x76210, 0x763, 0x7630, 0x7631, 0x76310, 0x7632, 0x76320, 0x76321, 0x763210, 0x764,
+    0x7640, 0x7641, 0x76410, 0x7642, 0x76420, 0x76421, 0x764210, 0x7643, 0x76430, 0x76431,
+    0x764310, 0x76432, 0x764320, 0x764321, 0x7643210, 0x765, 0x7650, 0x7651, 0x76510, 0x7652,
+    0x76520, 0x76521, 0x765210, 0x7653, 0x76530, 0x76531, 0x765310, 0x76532, 0x765320, 0x765321,
+    0x7653210, 0x7654, 0x76540, 0x76541, 0x765410, 0x76542, 0x765420, 0x765421, 0x7654210, 0x76543,
+    0x765430, 0x765431, 0x7654310, 0x765432, 0x7654320, 0x7654321, 0x76543210,
+];
+
+// The place of the set bit of the lowest eight before which there are `rank` others.
+fn place_in_byte(word: u64, rank: u64) -> u64
+    requires { rank < ones_below (bit_of word) 8 }
+    ensures within { result < 8 }
+    ensures set { bit_of word result ≡ true }
+    ensures before { ones_below (bit_of word) result ≡ rank }
+{
+    let places = PLACES[(word % 256) as usize];
+    (places >> (4 * rank as u32)) as u64 % 8
+}
+
+// The place of the set bit of the word before which there are `rank` others, by halving, in three turns, and a look at the byte that
+// is left.
+#[tactic(auto, using(crate::specs::CountLaws::halves_high, crate::specs::CountLaws::halves_rank, crate::specs::CountLaws::halves_start))]
 fn place_in_word<L>(word: u64, rank: u64, tally: &mut Tally<L>) -> u64
     requires { rank < count_ones word }
     ensures within { result < 64 }
     ensures set { bit_of word result ≡ true }
     ensures before { ones_below (bit_of word) result ≡ rank }
-    ensures turns { tally.new.turns ≡ tally.old.turns + 6 }
+    ensures turns { tally.new.turns ≡ tally.old.turns + 3 }
     ensures counts { tally.new.counts ≡ tally.old.counts }
     ensures words { tally.new.words ≡ tally.old.words }
 {
@@ -154,7 +192,7 @@ fn place_in_word<L>(word: u64, rank: u64, tally: &mut Tally<L>) -> u64
     let mut left = rank;
     let mut place = 0;
     let mut level: u32 = 6;
-    while level > 0 {
+    while level > 3 {
         tally.tick();
         level -= 1;
         let half = 1 << level;
@@ -165,11 +203,10 @@ fn place_in_word<L>(word: u64, rank: u64, tally: &mut Tally<L>) -> u64
             rest >>= half;
         }
     }
-    place
+    place + place_in_byte(rest, left)
 }
 
-/// The place of the set bit of a word before which `rank` others are set, found by halving the word; 64 where at most
-/// `rank` bits are set.
+/// The place of the set bit of a word before which `rank` others are set; 64 where at most `rank` bits are set.
 pub fn select_in_word(word: u64, rank: u64) -> u64
     ensures set { rank < count_ones word → bit_of word result ≡ true }
     ensures before { rank < count_ones word → ones_below (bit_of word) result ≡ rank }
@@ -184,7 +221,7 @@ pub fn select_in_word(word: u64, rank: u64) -> u64
 }
 
 // What a search for a chunk has left: it is one of the `rest` from `low` on, or the one after them, and `sum` trues stand before
-// chunk `low`.
+// chunk `low`. So too of words, where it is one of the `rest`.
 #[derive(Clone, Copy)]
 struct Span {
     low: usize,
@@ -314,10 +351,7 @@ fn find_in_span<L>(
 ) -> (usize, u64)
     requires rising { (i : ℕ) → i + 1 < length counts.now → slice_index counts.now i ≤ slice_index counts.now (i + 1) }
     requires span { IsSpan counts.now rank span.low span.sum span.rest }
-    ensures within { result.0 ≤ length counts.now }
-    ensures before { result.1 ≡ count_before counts.now result.0 }
-    ensures below { result.1 ≤ rank }
-    ensures above { result.0 < length counts.now → rank < slice_index counts.now result.0 }
+    ensures found { IsSpan counts.now rank result.0 result.1 0 }
     ensures cost { tally.new.counts ≤ tally.old.counts + digits span.rest }
     ensures counts { tally.old.counts ≤ tally.new.counts }
     ensures words { tally.new.words ≡ tally.old.words }
@@ -351,10 +385,7 @@ fn find_in_seven<L>(
 ) -> (usize, u64)
     requires span { IsSpan counts.now rank span.low span.sum span.rest }
     requires seven { span.rest ≡ 7 }
-    ensures within { result.0 ≤ length counts.now }
-    ensures before { result.1 ≡ count_before counts.now result.0 }
-    ensures below { result.1 ≤ rank }
-    ensures above { result.0 < length counts.now → rank < slice_index counts.now result.0 }
+    ensures found { IsSpan counts.now rank result.0 result.1 0 }
     ensures counts { tally.new.counts ≡ tally.old.counts + 7 }
     ensures words { tally.new.words ≡ tally.old.words }
     ensures turns { tally.new.turns ≡ tally.old.turns + 7 }
@@ -376,10 +407,7 @@ fn find_in_seven<L>(
 #[tactic(auto, using(crate::specs::Spans::digits_le, crate::specs::CountLaws::count_before_none))]
 fn find_chunk<L>(counts: &MeteredCounts<'_, L>, rank: u64, tally: &mut Tally<L>) -> (usize, u64)
     requires rising { (i : ℕ) → i + 1 < length counts.now → slice_index counts.now i ≤ slice_index counts.now (i + 1) }
-    ensures within { result.0 ≤ length counts.now }
-    ensures before { result.1 ≡ count_before counts.now result.0 }
-    ensures below { result.1 ≤ rank }
-    ensures above { result.0 < length counts.now → rank < slice_index counts.now result.0 }
+    ensures found { IsSpan counts.now rank result.0 result.1 0 }
     ensures cost { tally.new.counts ≤ tally.old.counts + (digits (length counts.now) + 1) }
     ensures counts { tally.old.counts ≤ tally.new.counts }
     ensures words { tally.new.words ≡ tally.old.words }
@@ -401,8 +429,78 @@ fn find_chunk<L>(counts: &MeteredCounts<'_, L>, rank: u64, tally: &mut Tally<L>)
     }
 }
 
+// What is left of whole words among which the one of a set bit is sought: the half in which it is.
+#[tactic(auto, using(crate::specs::CountLaws::ones_word_whole, crate::specs::CountLaws::ones_below_le, crate::specs::CountLaws::kept_more, crate::specs::CountLaws::length_words))]
+#[inline(always)]
+fn half_of_words<L>(
+    words: &MeteredWords<'_, L>,
+    rank: u64,
+    span: Span,
+    tally: &mut Tally<L>,
+) -> Span
+    requires even { span.rest ≡ 2 * (span.rest / 2) }
+    requires whole { span.low + span.rest < length words.now }
+    requires short { length words.now ≤ 2 ^ 58 }
+    requires before { span.sum ≡ ones_below (bit_in words.now) (64 * span.low) }
+    requires below { span.sum ≤ rank }
+    requires above { rank < ones_below (bit_in words.now) (64 * (span.low + span.rest)) }
+    ensures half { result.rest ≡ span.rest / 2 }
+    ensures within { result.low + result.rest ≤ span.low + span.rest }
+    ensures before { result.sum ≡ ones_below (bit_in words.now) (64 * result.low) }
+    ensures below { result.sum ≤ rank }
+    ensures above { rank < ones_below (bit_in words.now) (64 * (result.low + result.rest)) }
+    ensures reads { Adds 0 (span.rest / 2) tally.old tally.new }
+    ensures turns { tally.new.turns ≡ tally.old.turns + span.rest / 2 }
+{
+    let half = span.rest / 2;
+    let mut sum = span.sum;
+    for i in 0..half {
+        tally.tick();
+        sum += words.read_whole(span.low + i, tally).count_ones() as u64;
+    }
+    if sum <= rank {
+        Span {
+            low: span.low + half,
+            sum,
+            rest: half,
+        }
+    } else {
+        Span { rest: half, ..span }
+    }
+}
+
+// The place of the set bit before which there are `rank` others, where it is in one of sixteen whole words. That is found by halving,
+// and no jump depends on what is read, which no processor could tell beforehand.
+#[tactic(auto, using(crate::specs::CountLaws::ones_word_whole, crate::specs::CountLaws::kept_more, crate::specs::CountLaws::found_in, crate::specs::CountLaws::length_words))]
+fn select_in_chunk<L>(
+    words: &MeteredWords<'_, L>,
+    rank: u64,
+    chunk: Span,
+    tally: &mut Tally<L>,
+) -> usize
+    requires sixteen { chunk.rest ≡ 16 }
+    requires whole { chunk.low + 16 < length words.now }
+    requires short { length words.now ≤ 2 ^ 58 }
+    requires before { chunk.sum ≡ ones_below (bit_in words.now) (64 * chunk.low) }
+    requires below { chunk.sum ≤ rank }
+    requires above { rank < ones_below (bit_in words.now) (64 * (chunk.low + 16)) }
+    ensures within { result < 64 * length words.now }
+    ensures set { bit_in words.now result ≡ true }
+    ensures before { ones_below (bit_in words.now) result ≡ rank }
+    ensures reads { Adds 0 16 tally.old tally.new }
+    ensures some_read { length tally.old.words < length tally.new.words }
+    ensures turns { tally.new.turns ≤ tally.old.turns + 18 }
+{
+    let eight = half_of_words(words, rank, chunk, tally);
+    let four = half_of_words(words, rank, eight, tally);
+    let two = half_of_words(words, rank, four, tally);
+    let one = half_of_words(words, rank, two, tally);
+    let word = words.read_whole(one.low, tally);
+    64 * one.low + place_in_word(word, rank - one.sum, tally) as usize
+}
+
 // The place of the set bit before which there are `rank` others.
-#[tactic(auto, using(crate::specs::CountLaws::ones_word_whole, crate::specs::CountLaws::ones_below_le, crate::specs::CountLaws::kept_more, crate::specs::CountLaws::found_in, crate::specs::CountLaws::none_left, crate::specs::CountLaws::length_words))]
+#[tactic(auto, using(crate::specs::CountLaws::ones_word_whole, crate::specs::CountLaws::ones_below_le, crate::specs::CountLaws::kept_more, crate::specs::CountLaws::found_in, crate::specs::CountLaws::length_words))]
 pub(crate) fn select_in<L>(
     counts: &MeteredCounts<'_, L>,
     words: &MeteredWords<'_, L>,
@@ -416,11 +514,15 @@ pub(crate) fn select_in<L>(
     ensures value { MatchOption result (ones_below (bit_in words.now) (64 * length words.now) ≤ rank) (λ p. (p < 64 * length words.now) × (bit_in words.now p ≡ true) × (ones_below (bit_in words.now) p ≡ rank)) }
     ensures reads { Adds (digits (length counts.now) + 1) 16 tally.old tally.new }
     ensures some_read { length tally.old.words < length tally.new.words }
-    ensures turns { tally.new.turns ≤ tally.old.turns + (digits (length counts.now) + 22) }
+    ensures turns { tally.new.turns ≤ tally.old.turns + (digits (length counts.now) + 19) }
 {
     let (chunk, mut sum) = find_chunk(counts, rank, tally);
-    let end = (16 * chunk + 16).min(words.len());
-    for at in 16 * chunk..end {
+    let low = 16 * chunk;
+    if chunk < counts.len() {
+        let rest = 16;
+        return Some(select_in_chunk(words, rank, Span { low, sum, rest }, tally));
+    }
+    for at in low..words.len() {
         tally.tick();
         let word = words.read(at, tally);
         let ones = word.count_ones() as u64;

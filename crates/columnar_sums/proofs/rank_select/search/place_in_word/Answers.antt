@@ -1,7 +1,9 @@
-use Rattle.std.proofs.Common.{ℕ, ◌-◌, ◌*◌, ◌%◌, ◌^◌, ◌<◌, subst, arith, lit≤, refl, ◌∙◌}
+use Rattle.std.proofs.Common.{ℕ, ◌-◌, ◌*◌, ◌%◌, ◌^◌, ◌<◌, subst, ap, sym, arith, lit≤, refl, ◌∙◌}
 use Rattle.std.proofs.lemmas.Nat.{one_shl}
+use Rattle.columnar_bits.specs.Bits.{bit}
+use Rattle.columnar_bits.specs.BitLaws.{bit_shr}
 use Rattle.columnar_sums.specs.Counting.{ones_below}
-use Rattle.columnar_sums.specs.CountLaws.{halves_start, halves_over, halve_up, Halved}
+use Rattle.columnar_sums.specs.CountLaws.{halves_start, halve_up, Halved}
 use Rattle.columnar_sums.proofs.rank_select.search.place_in_word.Goals as goal
 
 pub loop-level-init : goal.loop-level-init
@@ -10,6 +12,7 @@ loop-level-init g c = record {
   rest = omega arith;
   left = subst (λ (x : ℕ). c.args.rank < x) (halves_start c.args.word (omega arith)) c.requires;
   before = omega arith;
+  high = lit≤ tt;
   level = lit≤ tt;
   within = lit≤ tt;
   turns = refl;
@@ -27,6 +30,7 @@ loop-level-preserved-then-low-left g c =
       rest = s.rest;
       left = s.left;
       before = s.before;
+      high = omega arith;
       level = omega arith;
       within = s.within;
       turns = omega arith;
@@ -35,7 +39,5 @@ loop-level-preserved-then-low-left g c =
     }
 
 pub returns-clause-set : goal.returns-clause-set
-returns-clause-set g c = (halves_over c.args.word c.loop-level.place c.loop-level.rest c.loop-level.left c.loop-level.level (omega arith) c.loop-level.invariant.rest c.loop-level.invariant.left).1
-
-pub returns-clause-before : goal.returns-clause-before
-returns-clause-before g c = let e = halves_over c.args.word c.loop-level.place c.loop-level.rest c.loop-level.left c.loop-level.level (omega arith) c.loop-level.invariant.rest c.loop-level.invariant.left in omega arith
+returns-clause-set g c =
+    sym (bit_shr c.args.word c.loop-level.place c.place_in_byte.result) ∙ ap (λ (x : ℕ). bit x c.place_in_byte.result) (sym c.loop-level.invariant.rest) ∙ c.place_in_byte.ensures.set

@@ -9,6 +9,7 @@ invariant-loop-level g l =
       rest : l.rest ≡ l.word / 2 ^ l.place;
       left : l.left < ones_below (bit l.rest) (2 ^ l.level);
       before : l.left + ones_below (bit l.word) l.place ≡ l.rank;
+      high : 3 ≤ l.level;
       level : l.level ≤ 6;
       within : l.place + 2 ^ l.level ≤ 64;
       turns : l.tally.turns + l.level ≡ l.fn.tally.turns + 6;

@@ -22,6 +22,7 @@ fn ones_before<L>(counts: &MeteredCounts<'_, L>, chunk: usize, tally: &mut Tally
     requires { chunk ≤ length counts.now }
     ensures value { result ≡ count_before counts.now chunk }
     ensures counts { tally.new.counts ≤ tally.old.counts + 1 }
+    ensures more { tally.old.counts ≤ tally.new.counts }
     ensures words { tally.new.words ≡ tally.old.words }
     ensures turns { tally.new.turns ≡ tally.old.turns }
 {
@@ -374,7 +375,8 @@ fn find_in_span<L>(
     (low, sum)
 }
 
-// As `find_in_span` of seven counts. All seven are looked at, so that no look waits for what another one says.
+// As `find_in_span` of seven counts. All seven are looked at, so that no look waits for what another one says, and then at the count
+// before the chunk that was found.
 #[tactic(auto, using(crate::specs::CountLaws::count_before_next))]
 #[inline(always)]
 fn find_in_seven<L>(
@@ -386,21 +388,20 @@ fn find_in_seven<L>(
     requires span { IsSpan counts.now rank span.low span.sum span.rest }
     requires seven { span.rest ≡ 7 }
     ensures found { IsSpan counts.now rank result.0 result.1 0 }
-    ensures counts { tally.new.counts ≡ tally.old.counts + 7 }
+    ensures few { tally.new.counts ≤ tally.old.counts + 8 }
+    ensures counts { tally.old.counts ≤ tally.new.counts }
     ensures words { tally.new.words ≡ tally.old.words }
     ensures turns { tally.new.turns ≡ tally.old.turns + 7 }
 {
     let mut chunk = span.low;
-    let mut sum = span.sum;
     for i in 0..7 {
         tally.tick();
         let count = counts.read(span.low + i, tally);
         if count <= rank {
             chunk = span.low + i + 1;
-            sum = count;
         }
     }
-    (chunk, sum)
+    (chunk, ones_before(counts, chunk, tally))
 }
 
 // The first chunk with more than `rank` trues up to its end, and how many stand before it.
@@ -418,7 +419,7 @@ fn find_chunk<L>(counts: &MeteredCounts<'_, L>, rank: u64, tally: &mut Tally<L>)
         sum: 0,
         rest: counts.len(),
     };
-    if whole.rest < 512 {
+    if whole.rest < 1024 {
         return find_in_span(counts, rank, whole, tally);
     }
     let span = narrowed(counts, rank, whole, tally);

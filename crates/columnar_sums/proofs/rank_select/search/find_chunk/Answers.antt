@@ -3,7 +3,7 @@ use Rattle.columnar_sums.specs.CountLaws.{digits_from}
 use Rattle.columnar_sums.proofs.rank_select.search.find_chunk.Goals as goal
 
 pub returns-then-span-eq7-clause-cost : goal.returns-then-span-eq7-clause-cost
-returns-then-span-eq7-clause-cost g c = let ten = digits_from 10 (length c.args.counts.now) (omega arith) (omega arith) in omega arith
+returns-then-span-eq7-clause-cost g c = let eleven = digits_from 11 (length c.args.counts.now) (omega arith) (omega arith) in omega arith
 
 pub returns-then-span-eq7-clause-turns : goal.returns-then-span-eq7-clause-turns
-returns-then-span-eq7-clause-turns g c = let ten = digits_from 10 (length c.args.counts.now) (omega arith) (omega arith) in omega arith
+returns-then-span-eq7-clause-turns g c = let eleven = digits_from 11 (length c.args.counts.now) (omega arith) (omega arith) in omega arith

@@ -7,8 +7,7 @@ abbrev pub invariant-loop-i : goal.invariant-loop-i
 invariant-loop-i g l =
     record {
       within : l.chunk ≤ l.span.low + l.i;
-      before : l.sum ≡ count_before l.counts l.chunk;
-      below : l.sum ≤ l.rank;
+      below : count_before l.counts l.chunk ≤ l.rank;
       above : l.chunk < l.span.low + l.i → l.rank < slice_index l.counts l.chunk;
       counts : l.tally.counts ≡ l.fn.tally.counts + l.i;
       words : l.tally.words ≡ l.fn.tally.words;

@@ -221,8 +221,8 @@ counts_within {a} {b} {a'} {b'} xs s t l = omega (arith, counts_many xs s, bits_
 pub words_short : {a b : List ℕ} → SoundBools a b → length (words_in a) < 2 ^ 58
 words_short {a} {b} s = omega (arith, s.short)
 
--- turns for words, and for the counts of new chunks
-pub turns_fit : (old mid new l m w n : ℕ) → mid ≤ old + (m / 64 + 1) → new + 16 * n ≤ mid + 16 * w → n ≡ l / 1024 → w ≡ (l + m) / 1024 → new ≤ old + (m / 16 + 64)
+-- turns for words, and for new chunks and their words
+pub turns_fit : (old mid new l m w n : ℕ) → mid ≤ old + (m / 64 + 1) → new + 17 * n ≤ mid + 17 * w → n ≡ l / 1024 → w ≡ (l + m) / 1024 → new ≤ old + (m / 16 + 64)
 turns_fit old mid new l m w n p q r s = omega arith
 
 -- a bit that may be refused for want of memory fills a word

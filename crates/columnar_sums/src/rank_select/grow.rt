@@ -38,8 +38,8 @@ fn count_after(counts: View<'_, u64>, chunk: usize) -> u64
     }
 }
 
-// Appends a count for each chunk of words that is complete and has none; all or none. Of the tail no word is read: it stands in what
-// is asked and told alone, since its bits have no count.
+// Appends a count for each chunk of words that is complete and has none; all or none. A turn for each chunk and each of its words. Of
+// the tail no word is read: it stands in what is asked and told alone, since its bits have no count.
 fn count_on<L>(
     counts: &mut Vec<u64>,
     values: View<'_, u64>,
@@ -53,11 +53,12 @@ fn count_on<L>(
     ensures ok { OnOk result (CountWords (bit_words (view_bytes values.entry) (view_bytes tail.entry)) (words_in (le_bytes counts.new.items)) × (length counts.new.items ≡ length (view_words values.entry) / 16)) }
     ensures err { OnErr result (counts.new.items ≡ counts.old.items) }
     ensures memory { IfErr result (λ e. e ≡ GrowError.Memory) }
-    ensures turns { tally.new.turns + 16 * length counts.old.items ≤ tally.old.turns + 16 * (length (view_words values.entry) / 16) }
+    ensures turns { tally.new.turns + 17 * length counts.old.items ≤ tally.old.turns + 17 * (length (view_words values.entry) / 16) }
 {
     let before = Vec::len(counts);
     let mut sum = count_after(counts.words(), before);
     for chunk in before..word_count(values) / 16 {
+        tally.tick();
         for at in 16 * chunk..16 * chunk + 16 {
             tally.tick();
             sum += word_at(values, at).count_ones() as u64;

@@ -28,7 +28,7 @@ loop-at-init g c =
     let q : 1024 * c.loop-chunk.chunk ≡ 64 * (16 * c.loop-chunk.chunk) = omega arith in
     record {
       sum = c.loop-chunk.invariant.sum ∙ ap (ones_below (bit_in ws)) q;
-      turns = omega (arith, c.loop-chunk.invariant.turns);
+      turns = omega (arith, c.loop-chunk.invariant.turns, c.tick.ensures.turns);
     }
 
 pub overflow_add-sum : goal.overflow_add-sum

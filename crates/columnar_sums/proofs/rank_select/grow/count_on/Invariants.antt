@@ -11,12 +11,12 @@ invariant-loop-chunk g l =
       sum : l.sum ≡ ones_below (bit_in (bit_words (view_bytes l.values) (view_bytes l.tail))) (1024 * l.chunk);
       counted : CountedTo (bit_words (view_bytes l.values) (view_bytes l.tail)) l.fn.counts.items l.counts.items l.before l.chunk;
       from : l.before ≤ l.chunk;
-      turns : l.tally.turns + 16 * l.before ≡ l.fn.tally.turns + 16 * l.chunk;
+      turns : l.tally.turns + 17 * l.before ≡ l.fn.tally.turns + 17 * l.chunk;
     }
 
 abbrev pub invariant-loop-at : goal.invariant-loop-at
 invariant-loop-at g l =
     record {
       sum : l.sum ≡ ones_below (bit_in (bit_words (view_bytes l.values) (view_bytes l.tail))) (64 * l.at);
-      turns : l.tally.turns + 16 * l.before ≡ l.fn.tally.turns + l.at;
+      turns : l.tally.turns + 17 * l.before ≡ l.fn.tally.turns + l.chunk + l.at + 1;
     }

@@ -1,5 +1,5 @@
 //! Truth values, packed as bits.
-ghost use Rattle.std.specs.Prelude.{◌≡◌, ℕ, ◌+◌, ◌-◌, ◌*◌, ◌/◌, ◌%◌, ◌^◌, ◌<◌, ◌≤◌, [], ◌∷◌, ◌++◌, length, slice_index_or, slice_range, false, OnOk, OnErr, IfErr, IsOk, refl};
+ghost use Rattle.std.specs.Prelude.{◌≡◌, ℕ, ◌+◌, ◌-◌, ◌*◌, ◌/◌, ◌%◌, ◌^◌, ◌<◌, ◌≤◌, [], ◌∷◌, ◌++◌, length, vec_len, vec_capacity, slice_index_or, slice_range, false, OnOk, OnErr, IfErr, IsOk, refl};
 ghost use Rattle.columnar_core.specs.Row.{truth};
 ghost use Rattle.columnar_core.specs.Format.{IsSound};
 ghost use Rattle.columnar_core.specs.Change.{Stayed, Took, Refused};
@@ -18,6 +18,7 @@ use columnar_core::traits::{Clear, Column, Index, Len, Push, PushRef};
 use columnar_core::view::View;
 use columnar_core::words::{Words, word_at, word_count};
 use std::alloc::Global;
+use std::mem;
 use std::ops::Range;
 
 mod bytes;
@@ -182,6 +183,45 @@ fn one_bit(bit: bool) -> u64
     if bit { 1 } else { 0 }
 }
 
+// A column without bits.
+fn no_bits(alloc: Global) -> Bools<Vec<u64>, [u64; 2]>
+    ensures sound { IsSound bools_format (owned_content result) }
+    ensures bits { owned_bits result ≡ [] }
+{
+    Bools {
+        values: Vec::new(alloc),
+        tail: tail_of(0, 0),
+    }
+}
+
+// The column with the bits of `count` words, from bit `start` on, after its own; there is room for them. It is taken by value,
+// since the compiler then knows that what is written changes neither its length nor its place. One turn for each.
+#[inline]
+fn with_words<L>(
+    column: Bools<Vec<u64>, [u64; 2]>,
+    values: View<'_, u64>,
+    tail: View<'_, u64>,
+    start: usize,
+    count: usize,
+    tally: &mut Tally<L>,
+) -> Bools<Vec<u64>, [u64; 2]>
+    requires sound { IsSound bools_format (owned_content column) }
+    requires other { SoundBools (view_bytes values) (view_bytes tail) }
+    requires in_range { start + 64 * count ≤ length (bits_in (view_bytes values) (view_bytes tail)) }
+    requires room { vec_len column.values + count ≤ vec_capacity column.values }
+    requires short { length (owned_bits column) + 64 * count < 2 ^ 64 }
+    ensures bits { owned_bits result ≡ owned_bits column ++ slice_range (bits_in (view_bytes values.entry) (view_bytes tail.entry)) start (start + 64 * count) }
+    ensures sound { IsSound bools_format (owned_content result) }
+    ensures turns { tally.new.turns ≤ tally.old.turns + count }
+{
+    let mut column = column;
+    for i in 0..count {
+        tally.tick();
+        column.push_word(taken(values, tail, start + 64 * i, 64));
+    }
+    column
+}
+
 impl Bools<Vec<u64>, [u64; 2]> {
     /// Appends the lowest `count` bits of the number, the lowest first; all or none. Asks for at most 64, and that no
     /// bit of the number is set from there on. Where they fill no word, they need no memory. It answers Length
@@ -215,6 +255,22 @@ impl Bools<Vec<u64>, [u64; 2]> {
         Ok(())
     }
 
+    // Appends the bits of a word, the lowest first; there is room for it.
+    #[inline(always)]
+    fn push_word(&mut self, bits: u64)
+        requires sound { IsSound bools_format (owned_content self.old) }
+        requires room { vec_len self.old.values < vec_capacity self.old.values }
+        requires short { length (owned_bits self.old) + 64 < 2 ^ 64 }
+        ensures bits { owned_bits self.new ≡ owned_bits self.old ++ truths (bit_of bits) 64 }
+        ensures sound { IsSound bools_format (owned_content self.new) }
+        ensures len { vec_len self.new.values ≡ vec_len self.old.values + 1 }
+        ensures capacity { vec_capacity self.new.values ≡ vec_capacity self.old.values }
+    {
+        let (word, have) = tail_parts(self.tail.words());
+        self.values.push_reserved(joined(word, bits, have));
+        self.tail = tail_of(spilled(bits, have, 64), have);
+    }
+
     /// Appends one bit, and is refused as `push_bits` of one.
     #[inline(always)]
     pub fn push_bit(&mut self, bit: bool) -> Result<(), GrowError>
@@ -227,6 +283,11 @@ impl Bools<Vec<u64>, [u64; 2]> {
         ensures no_memory { length (owned_bits self.old) % 64 < 63 → IsOk result }
         ensures sound { IsSound bools_format (owned_content self.new) }
     {
+        let (word, have) = tail_parts(self.tail.words());
+        if have < 63 {
+            self.tail = tail_of(joined(word, one_bit(bit), have), have + 1);
+            return Ok(());
+        }
         self.push_bits(one_bit(bit), 1)
     }
 
@@ -251,25 +312,26 @@ impl Bools<Vec<u64>, [u64; 2]> {
         ensures sound { IsSound bools_format (owned_content self.new) }
         ensures turns { tally.new.turns ≤ tally.old.turns + ((range.«end» - range.start) / 64 + 1) }
     {
-        let end = range.end;
-        let mut at = range.start;
         let start = self.len();
-        if end - at > usize::MAX - start {
+        let count = range.end - range.start;
+        if count > usize::MAX - start {
             return Err(GrowError::Length);
         }
         // (the words that are filled at least, asked for at once)
-        self.values.reserve((end - at) / 64)?;
-        while at < end {
-            tally.tick();
-            let count = (end - at).min(64);
-            match self.push_bits(other.bits_at(at, count), count) {
-                Ok(()) => {}
-                Err(error) => {
-                    self.truncate(start);
-                    return Err(error);
-                }
+        let words = count / 64;
+        self.values.reserve(words)?;
+        let empty = no_bits(*self.values.allocator());
+        let own = mem::replace(self, empty);
+        let values = other.values.words();
+        let tail = other.tail.words();
+        *self = with_words(own, values, tail, range.start, words, tally);
+        let rest = taken(values, tail, range.start + 64 * words, count % 64);
+        match self.push_bits(rest, count % 64) {
+            Ok(()) => {}
+            Err(error) => {
+                self.truncate(start);
+                return Err(error);
             }
-            at += count;
         }
         Ok(())
     }
@@ -319,10 +381,7 @@ impl Truncate for Bools<Vec<u64>, [u64; 2]> {
 
 impl Storage for Bools<Vec<u64>, [u64; 2]> {
     fn empty(alloc: Global) -> Self {
-        Bools {
-            values: Vec::new(alloc),
-            tail: tail_of(0, 0),
-        }
+        no_bits(alloc)
     }
 
     fn duplicate(&self, alloc: Global) -> Result<Self, GrowError> {

@@ -19,6 +19,7 @@ use columnar_core::traits::{Clear, Len, Push, PushRef};
 use columnar_core::view::View;
 use columnar_core::words::{Words, word_at, word_count};
 use std::alloc::Global;
+use std::mem;
 use std::ops::Range;
 
 type Held = RankSelect<Vec<u64>, Vec<u64>, [u64; 2]>;
@@ -110,12 +111,32 @@ impl Held {
             self.values.push_bit(bit)?;
             return Ok(());
         }
-        self.push_last(bit)
+        let empty = <Held as Storage>::empty(*self.counts.allocator());
+        let (column, pushed) = mem::replace(self, empty).with_last(bit);
+        *self = column;
+        pushed
     }
 
-    // As `push_bit`, of a bit that may fill a word; apart, so that the push of any other is a few instructions.
+    // The column after a push of a bit that may fill a word, and what that answers; apart, so that the push of any other is a few
+    // instructions. It is taken by value: the compiler then need not keep a column that grows in memory because of this call.
     #[cold]
     #[inline(never)]
+    fn with_last(self, bit: bool) -> (Held, Result<(), GrowError>)
+        requires { IsSound ranks_format (owned_ranks self) }
+        ensures ok { OnOk result.1 (ranked_bits result.0 ≡ ranked_bits self ++ bit ∷ []) }
+        ensures err { OnErr result.1 (Stayed ranks_format (owned_ranks self) (owned_ranks result.0)) }
+        ensures length { result.1 ≡ Err GrowError.Length → 2 ^ 64 ≤ length (ranked_bits self) + 1 }
+        ensures full { 2 ^ 64 ≤ length (ranked_bits self) + 1 → result.1 ≡ Err GrowError.Length }
+        ensures kinds { IfErr result.1 IsOfGrowth }
+        ensures no_memory { length (ranked_bits self) % 64 < 63 → IsOk result.1 }
+        ensures sound { IsSound ranks_format (owned_ranks result.0) }
+    {
+        let mut column = self;
+        let pushed = column.push_last(bit);
+        (column, pushed)
+    }
+
+    // As `push_bit`, with a count where the bit completes 1024.
     fn push_last(&mut self, bit: bool) -> Result<(), GrowError>
         requires { IsSound ranks_format (owned_ranks self.old) }
         ensures ok { OnOk result (ranked_bits self.new ≡ ranked_bits self.old ++ bit ∷ []) }

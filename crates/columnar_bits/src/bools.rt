@@ -18,7 +18,6 @@ use columnar_core::traits::{Clear, Column, Index, Len, Push, PushRef};
 use columnar_core::view::View;
 use columnar_core::words::{Words, word_at, word_count};
 use std::alloc::Global;
-use std::mem;
 use std::ops::Range;
 
 mod bytes;
@@ -217,7 +216,7 @@ fn with_words<L>(
     let mut column = column;
     for i in 0..count {
         tally.tick();
-        column.push_word(taken(values, tail, start + 64 * i, 64));
+        column.append_word(taken(values, tail, start + 64 * i, 64));
     }
     column
 }
@@ -257,7 +256,7 @@ impl Bools<Vec<u64>, [u64; 2]> {
 
     // Appends the bits of a word, the lowest first; there is room for it.
     #[inline(always)]
-    fn push_word(&mut self, bits: u64)
+    fn append_word(&mut self, bits: u64)
         requires sound { IsSound bools_format (owned_content self.old) }
         requires room { vec_len self.old.values < vec_capacity self.old.values }
         requires short { length (owned_bits self.old) + 64 < 2 ^ 64 }
@@ -321,7 +320,7 @@ impl Bools<Vec<u64>, [u64; 2]> {
         let words = count / 64;
         self.values.reserve(words)?;
         let empty = no_bits(*self.values.allocator());
-        let own = mem::replace(self, empty);
+        let own = std::mem::replace(self, empty);
         let values = other.values.words();
         let tail = other.tail.words();
         *self = with_words(own, values, tail, range.start, words, tally);

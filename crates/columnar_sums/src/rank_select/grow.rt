@@ -19,7 +19,6 @@ use columnar_core::traits::{Clear, Len, Push, PushRef};
 use columnar_core::view::View;
 use columnar_core::words::{Words, word_at, word_count};
 use std::alloc::Global;
-use std::mem;
 use std::ops::Range;
 
 type Held = RankSelect<Vec<u64>, Vec<u64>, [u64; 2]>;
@@ -112,7 +111,7 @@ impl Held {
             return Ok(());
         }
         let empty = <Held as Storage>::empty(*self.counts.allocator());
-        let (column, pushed) = mem::replace(self, empty).with_last(bit);
+        let (column, pushed) = std::mem::replace(self, empty).with_last(bit);
         *self = column;
         pushed
     }

@@ -9,9 +9,9 @@ pub loop-i-preserved : goal.loop-i-preserved
 loop-i-preserved g c =
     let i = c.loop-i.invariant in
     record {
-      bits = copy_more _ _ _ _ (bit c.taken.result) c.args.start (c.args.start + 64 * c.loop-i.i) _ 64 i.bits c.push_word.ensures.bits c.taken.ensures.bits (omega arith) (omega arith);
-      sound = c.push_word.ensures.sound;
-      room = omega (arith, c.push_word.ensures.len, c.push_word.ensures.capacity, i.room);
+      bits = copy_more _ _ _ _ (bit c.taken.result) c.args.start (c.args.start + 64 * c.loop-i.i) _ 64 i.bits c.append_word.ensures.bits c.taken.ensures.bits (omega arith) (omega arith);
+      sound = c.append_word.ensures.sound;
+      room = omega (arith, c.append_word.ensures.len, c.append_word.ensures.capacity, i.room);
       turns = omega (arith, i.turns, c.tick.ensures);
     }
 

@@ -1,6 +1,6 @@
 use Rattle.std.proofs.Common.{◌≡◌, ◌+◌, ◌-◌, ℕ, arith}
 use Rattle.columnar_bits.specs.BoolLaws.{owned_bits_of, word_more, words_grown, bools_sound}
-use Rattle.columnar_bits.proofs.bools.Bools+Vec+u64+array+2+u64.push_word.Goals as goal
+use Rattle.columnar_bits.proofs.bools.Bools+Vec+u64+array+2+u64.append_word.Goals as goal
 
 pub returns-clause-bits : goal.returns-clause-bits
 returns-clause-bits c =

@@ -21,9 +21,27 @@ use std::alloc::Global;
 use std::mem;
 use std::ops::Range;
 
-// Appends the elements; want of memory refuses all of them.
+// Appends the elements; want of memory refuses all of them. Where there is room for them that is a copy and a length, and where there
+// are none it is nothing: the C library finds out by jumps how few elements it is handed.
 #[inline(always)]
 pub(crate) fn append_typed<T: Element>(column: &mut Vec<T>, items: &[T]) -> Result<(), GrowError>
+    ensures ok { OnOk result (column.new.items ≡ column.old.items ++ items.now) }
+    ensures err { OnErr result (column.new.items ≡ column.old.items) }
+    ensures memory { IfErr result (λ e. e ≡ GrowError.Memory) }
+{
+    if items.len() > column.capacity() - Vec::len(column) {
+        return append_grown(column, items);
+    }
+    if items.len() > 0 {
+        column.extend_from_slice(items)?;
+    }
+    Ok(())
+}
+
+// As `append_typed`, of elements for which there is no room; apart, so that a copy is small enough to be made part of a push.
+#[cold]
+#[inline(never)]
+fn append_grown<T: Element>(column: &mut Vec<T>, items: &[T]) -> Result<(), GrowError>
     ensures ok { OnOk result (column.new.items ≡ column.old.items ++ items.now) }
     ensures err { OnErr result (column.new.items ≡ column.old.items) }
     ensures memory { IfErr result (λ e. e ≡ GrowError.Memory) }

@@ -1,25 +1,24 @@
 #!/usr/bin/env python3
-"""Tries edits: each is a wrong body, and the prover must refuse the function that it is in (gate/edit.py has the form).
+"""Tries edits. An edit makes the body of a function wrong, and the prover must reject the function (gate/edit.py has the
+form).
 
-Many are tried in one check, of their functions and those of the crate that these call: no two of a group are of one
-function, and a function is proved from the contracts of what it calls alone, so what one edit breaks is not blamed on
-another, and a hole stands for each proof file of a function that no edit of the group is of: the gate proves those. An
-edit passes where a goal of its own function is not proved, and each that it names in a line 'goal:'. One that is refused
-for a name that it took away, or for no goal, fails. An edit of a definition in specs/ is tried alone, and passes where a
-lemma is not proved, too.
+One check tries many edits. It proves their functions, and the functions of the crate that these call. No two edits of a
+group change the same function, and each function is proved from the contracts of its callees only, so no edit is blamed
+for another. A hole replaces the proof files of all other functions: the gate proves those. An edit passes if a goal of
+its own function is not proved, and each goal that it names in a line 'goal:'. It fails if the prover rejects it because
+a name is gone, or for no goal. An edit of a definition in specs/ is tried alone; it also passes if a lemma is not proved.
 
-Those are tried whose record is not of what stands (gate/record.py), and a tenth of the others.
+A run tries the edits without a valid record (gate/record.py), and a tenth of the others.
 
 usage: .ci/edits.py [--all | --tenth N] [--sources] [--jobs N] [CRATE ..]
-                                      after the crates' libraries were built, as by rt all check: tries what is not recorded,
-                                      and all others, or the tenth N, 0 to 9, of them; writes the record of what passed.
-                                      With --sources nothing has to be built: the libraries are taken as sources, and that
-                                      the crates themselves are proved is left to the gate
+                                      after the crates' libraries were built, as by rt all check: tries the edits without a
+                                      valid record, and all others, or the tenth N, 0 to 9, of them; records what passed.
+                                      With --sources nothing has to be built: the libraries are read as sources, and the
+                                      gate must prove the crates themselves
        .ci/edits.py --beside LOG [--record]
-                                      beside the rt ci that writes LOG: the edits of a crate begin once the libraries that
-                                      it stands on are proved, and fail where it is not proved itself. A line 'ended' in
-                                      LOG says that no more comes. The tenth is the one that the commit's name chooses,
-                                      and a record is written with --record alone
+                                      next to the rt ci that writes LOG: the edits of a crate begin once its libraries are
+                                      proved, and fail if the crate itself is not proved. A line 'ended' ends LOG. The
+                                      commit's hash chooses the tenth. Writes records only with --record
 """
 import argparse
 import functools
@@ -53,7 +52,7 @@ def asked():
 
 
 class Run:
-    """One run over the edits of some crates."""
+    """A run over the edits of some crates."""
 
     def __init__(self, words):
         self.cores, self.records = words.jobs, words.record or not words.beside
@@ -72,12 +71,12 @@ class Run:
         say(f"edits: {edits.count('not recorded')} not recorded, {len(edits) - edits.count('not recorded')} tried again, {left_out} left as recorded")
 
     def free(self):
-        """How many processors there are for edits: half of them, or those that no other check uses."""
+        """Returns the number of processors for edits: half of them, or those that no other check uses."""
         return self.cores if not self.log or self.log.has_ended else max(self.cores // 2, self.cores - self.times.busy())
 
     def jobs(self):
-        """How many processes a check has: two where memory allows, so that one which goes on when rt ci has ended uses what
-        is free then."""
+        """Returns the number of processes of a check: two if memory allows, so that a check that continues after rt ci uses
+        the free processors."""
         return max(2 if has_room() else 1, self.free() // self.lanes.wanted())
 
     def begin(self, name, libraries, kept):
@@ -91,7 +90,7 @@ class Run:
                 self.lanes.add(len(group["edits"]), name, functools.partial(its.one, group))
 
     def look(self, room):
-        """Sees how far rt ci is, and copies the libraries that it has proved since."""
+        """Reads the progress of rt ci, and copies the libraries that it has proved since the last call."""
         if os.getppid() != self.parent:
             sys.exit(1)
         self.log.read()
@@ -99,7 +98,7 @@ class Run:
         for name, is_proved in self.log.proved.items():
             rlib = f"{ROOT}/crates/{name}/out/rlib/{name}.rlib"
             if is_proved and name not in self.copied and os.path.isdir(rlib):
-                # (rt ci gives a crate back what earlier runs left there, once it ends)
+                # (when rt ci ends, it gives a crate back what earlier runs left there)
                 shutil.copytree(rlib, f"{room}/{name}.rlib")
                 self.copied.add(name)
 
@@ -122,7 +121,7 @@ class Run:
                 time.sleep(0.5)
 
     def end(self):
-        """Says what came of all; the status."""
+        """Prints the results, and returns the status."""
         self.times.tell()
         passed = failed = 0
         for name, choice in self.choices.items():
@@ -141,11 +140,11 @@ class Run:
 
 
 def main():
-    # (so that what it has written below the temporary folder is taken away)
+    # (so that its files below the temporary folder are removed)
     signal.signal(signal.SIGTERM, lambda *_: sys.exit(1))
     run = Run(asked())
     if run.log:
-        # (what rt ci does comes first)
+        # (rt ci has priority)
         os.nice(10)
     run.say_choice()
     run.try_all()

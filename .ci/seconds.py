@@ -1,8 +1,8 @@
 #!/usr/bin/env python3
-"""Where the seconds go of the checks that run now: for each, how long it took so far, and the functions that took longest.
+"""Prints how long each running check has taken so far, and its slowest functions.
 
-A check writes a file for each module that it admitted, one after the other; the time between two of them is that of the second.
-Where a check uses several processes the times of one function are mixed with those of others.
+A check writes a file for each module that it has admitted, one after the other; the time between two files is that of the second.
+If a check uses several processes, the times of different functions are mixed.
 
 usage: .ci/seconds.py [HOW_MANY]"""
 import collections
@@ -15,7 +15,7 @@ MOST = int(sys.argv[1]) if len(sys.argv) > 1 else 20
 
 
 def checked(pid):
-    """The crate that a process checks, or None."""
+    """Returns the crate that a process checks, or None."""
     try:
         with open(f"/proc/{pid}/cmdline", encoding="utf-8", errors="replace") as it:
             words = it.read().split("\0")
@@ -27,14 +27,14 @@ def checked(pid):
 
 
 def written(folder):
-    """When each module was written, and its name."""
+    """Yields when each module was written, and its name."""
     for it in os.scandir(folder):
         if it.name.startswith("Rattle-") and it.name.endswith(".oantt"):
             yield it.stat().st_mtime, it.name.removesuffix(".oantt")
 
 
 def function(module):
-    """The function that a module is of: `Rattle-NAME-proofs.a.f.Lts` is one of a::f."""
+    """Returns the function of a module: `Rattle-NAME-proofs.a.f.Lts` is a module of a::f."""
     path = module.split("-", 2)[-1].split(".")
     return "::".join(path[1:-1]) if path[0] == "proofs" and len(path) > 2 else path[0]
 

@@ -1,12 +1,12 @@
 #!/usr/bin/env python3
-"""Makes the files of tuples of three to ten columns, each kind from one template of widths/ (holes.py has how one is
-written, a module beside it has which files there are of a kind). Tuples of one and of two are by hand.
+"""Makes the files of tuples of three to ten columns, each kind from one template in widths/. widths/holes.py describes
+templates, and the other modules in widths/ list the files of each kind. Tuples of one and two are written by hand.
 
-usage: .ci/widths.py --check    makes all in a temporary folder, lays them out by `rt fmt` and compares them with what
-                                stands. Tells the first line that differs of each; status 1 where any does
-       .ci/widths.py --write    writes those that differ
+usage: .ci/widths.py --check    makes all files in a temporary folder, lays them out by `rt fmt`, and compares them with
+                                the sources. Prints the first line that differs in each file; status 1 if any differs
+       .ci/widths.py --write    writes the files that differ
 
-The first line of a made file says that it is made, and from which template."""
+The first line of a generated file says so, and names the template."""
 import os
 import re
 import shutil
@@ -29,7 +29,7 @@ KINDS = (tuples, ordered, same, earlier, cells, types_of_tuples, names_of_tuples
 
 
 def make(folder):
-    """Writes all files to the folder, as a repository of its own in which `rt fmt` works, and gives their paths."""
+    """Writes all files to the folder, a repository in which `rt fmt` works, and returns their paths."""
     paths = []
     for path, template, text in (it for kind in KINDS for it in kind.made()):
         if re.search(r"[$⟨⟩]", text):
@@ -62,7 +62,7 @@ def first_unequal(xs, ys):
 
 
 def difference(path, new, old):
-    """The first line that differs, as it is made and as it stands: of long lines what is about the first difference."""
+    """Returns the first line that differs, as generated and as in the sources; of long lines the text near the difference."""
     if not old:
         return f"{path}: does not stand"
     at = first_unequal(new, old)

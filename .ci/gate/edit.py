@@ -1,17 +1,17 @@
-"""An edit: a wrong body, told as texts that stand for others, with the function that the prover must refuse.
+"""An edit: replacements of texts that make a body wrong, and the function that the prover must reject.
 
-It is a file crates/NAME/edits/PLACE/NAME.edit, where PLACE is the file that it turns: below src/, without its ending, as
-lookbacks/grow, and below the crate for a definition, as specs/Recall. Its lines are 'file: src/..', 'old: TEXT' (standing
-once in that file) and 'new: TEXT', more such pairs where it turns more, 'of: PATH', the function that must be refused, by
-its path below the crate as a check prints it, and 'goal: NAME' for each goal that must be among those refused, where one
-body breaks several promises. No other line is read."""
+The file is crates/NAME/edits/PLACE/NAME.edit. PLACE is the changed file: its path below src/ without the ending, such as
+lookbacks/grow, or, for a definition, its path below the crate, such as specs/Recall. The lines are 'file: src/..', pairs of
+'old: TEXT' (which occurs once in that file) and 'new: TEXT', 'of: PATH', the function that must be rejected, by its path below
+the crate as a check prints it, and 'goal: NAME' for each goal that must be among those left open, if one body breaks several
+promises. Other lines are not read."""
 import os
 
 from repository import ROOT
 
 
 class Edit:
-    """What an edit file says."""
+    """The contents of an edit file."""
 
     def __init__(self, folder, name):
         self.folder, self.name = folder, name
@@ -35,11 +35,11 @@ class Edit:
                 self.goals.append(line[6:].strip())
 
     def place(self):
-        """The folder below edits/ that it has to stand in."""
+        """Returns the folder below edits/ in which the file must be."""
         return os.path.splitext(self.pairs[0][0])[0].removeprefix("src/")
 
     def made(self, texts):
-        """Makes the edit in the texts, by file; says why it can't be made."""
+        """Makes the edit in the texts, by file; returns why it cannot be made, or None."""
         if not self.pairs:
             return "it has no 'old:' and 'new:' pair"
         if not self.of:
@@ -62,7 +62,7 @@ class Edit:
 
 
 def edits_of(name):
-    """The edits of a crate, by path."""
+    """Returns the edits of a crate, by path."""
     folder = f"{ROOT}/crates/{name}"
     paths = (f"{at}/{it}" for at, _, files in os.walk(f"{folder}/edits") for it in files if it.endswith(".edit"))
     return [Edit(folder, it) for it in sorted(os.path.relpath(path, f"{folder}/edits") for path in paths)]

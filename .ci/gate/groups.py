@@ -1,17 +1,17 @@
-"""Edits that are tried in one check: no two of a group are of one function."""
+"""Groups of edits that are tried in one check: no two edits of a group change the same function."""
 
-# The most edits in one check, or one or two more: what a check holds in memory grows with what it refuses.
+# The most edits in one check, or one or two more: the memory of a check grows with the goals that it rejects.
 MOST = 80
 
 
 def can_join(edit, group):
-    """Is an edit of code of another function and other texts than those of a group?"""
+    """Returns whether an edit of code changes another function and other texts than the edits of a group."""
     return all(it.is_of_code() and it.of != edit.of for it in group["edits"]) and edit.made(dict(group["texts"])) is None
 
 
 def grouped(edits):
-    """The edits in groups: no two of a group are of one function or in one text, and one of a definition is alone. There are
-    no more groups than these rules and MOST ask for, so an edit that fits in none that has room goes where it fits."""
+    """Returns the edits in groups: no two edits of a group change the same function or text, and an edit of a definition is
+    alone. There are no more groups than these rules and MOST require, so an edit that fits only in full groups joins one."""
     groups = []
     for edit in edits:
         fits = [group for group in groups if edit.is_of_code() and can_join(edit, group)]

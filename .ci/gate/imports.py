@@ -1,5 +1,5 @@
-"""What a file rests on: the definitions and lemmas that it imports, directly or not, and the other source files without
-the bodies of their functions and without the functions that it does not name. Comments don't count."""
+"""Finds what a file rests on: the definitions and lemmas that it imports, directly or not, and the other source files, without
+the bodies of their functions and without the functions that it does not name. Comments do not count."""
 import functools
 import os
 import re
@@ -9,7 +9,7 @@ from repository import ROOT, crates
 
 @functools.cache
 def read(path):
-    """The text of a file below the repository, without lines of comment."""
+    """Returns the text of a file of the repository, without comment lines."""
     mark = "//" if path.endswith(".rt") else "--"
     with open(f"{ROOT}/{path}", encoding="utf-8") as it:
         return "".join(line for line in it if not line.lstrip().startswith(mark))
@@ -19,7 +19,7 @@ HEAD = re.compile(r"(?m)^( *)(?:pub(?:\([a-z]+\))? )?(?:final )?(?:const )?(?:un
 
 
 def without_bodies(text):
-    """Source text without the bodies of functions, as `rt fmt` lays them out."""
+    """Returns source text, laid out by `rt fmt`, without the bodies of functions."""
     kept, at = [], 0
     for head in HEAD.finditer(text):
         if head.start() < at:
@@ -34,7 +34,7 @@ def without_bodies(text):
 
 
 def is_of_type(text, at):
-    """Does the function whose head is there stand in an impl of a type itself, and not of a trait for it?"""
+    """Returns whether the function with this head is in an impl of a type, not in an impl of a trait."""
     begins = [it.start() for it in re.finditer(r"(?m)(?:\A|(?<=\n\n))\S", text[:at])]
     header = text[begins[-1] : at].partition("{\n")[0] if begins else ""
     return bool(re.match(r"(?:#\[.*\]\n)*impl\b", header)) and not re.search(r"\bfor\b", header)
@@ -42,8 +42,8 @@ def is_of_type(text, at):
 
 @functools.cache
 def parts(path):
-    """The text of a source file without its functions, but for those of traits, whose bodies alone it is without; and the
-    other functions without bodies, each with its name. Where one is inlined no proof sees, nor what it was proved with."""
+    """Returns the text of a source file without its functions, except those of traits, which lose only their bodies; and the
+    other functions without bodies, each with its name. Attributes for inlining and tactics are left out: no proof sees them."""
     text = re.sub(r"(?m)^ *#\[(?:inline|cold|tactic)\b.*\]\n", "", without_bodies(read(path)))
     kept, functions, at = [], [], 0
     for head in HEAD.finditer(text):
@@ -56,7 +56,7 @@ def parts(path):
 
 
 def used(text):
-    """The text without what its `use`s bring and it does not name. An operator counts as named."""
+    """Returns the text without the imported names that it does not use. An operator counts as used."""
     lists = re.compile(r"(?m)^( *(?:ghost )?use [^;{]*\{)([^;{}]*)(\};\n)")
     words = frozenset(re.findall(r"[\w']+", lists.sub("", text)))
 
@@ -68,21 +68,21 @@ def used(text):
 
 @functools.cache
 def with_functions(path, which):
-    """The text of a source file, and of its own functions those that are marked."""
+    """Returns the text of a source file with only the marked functions."""
     text, functions = parts(path)
     return used("".join([text, *(it for is_named, (_, it) in zip(which, functions) if is_named)]))
 
 
 def signature(path, words):
-    """What is seen of a file where these words stand: what a proof does not name it doesn't see, but for what stands for an
-    operator, a loop or a conversion, and that is of traits."""
+    """Returns what a text with these words sees of a file. A proof does not see what it does not name, except what implements
+    an operator, a loop or a conversion, and that is in traits."""
     if not path.endswith(".rt"):
         return read(path)
     return with_functions(path, tuple(name in words for name, _ in parts(path)[1]))
 
 
 def split_names(text):
-    """The parts of a list of names that commas divide, with the lists in braces whole."""
+    """Returns the parts of a list of names between commas; lists in braces stay whole."""
     parts, depth = [""], 0
     for it in text:
         depth += (it == "{") - (it == "}")
@@ -94,7 +94,7 @@ def split_names(text):
 
 
 def spread(text):
-    """The paths that a `use` brings, each with the name that it has then."""
+    """Returns the paths that a `use` imports, each with its new name."""
     head, brace, rest = text.partition("{")
     if brace:
         return [(head + path if path != "self" else head.removesuffix("::"), name) for it in split_names(rest.strip()[:-1]) for path, name in spread(it)]
@@ -104,7 +104,7 @@ def spread(text):
 
 @functools.cache
 def uses(path):
-    """The `use`s of a source file that are no ghost ones: whether it passes them on, the path, and the name."""
+    """Returns the `use`s of a source file, except ghost ones: whether each is re-exported, its path, and its name."""
     found = []
     for at in re.finditer(r"(?m)^ *(pub(?:\([a-z]+\))? )?use ([^;]*);", read(path)):
         for it, name in spread(" ".join(at[2].split())):
@@ -113,7 +113,7 @@ def uses(path):
 
 
 def module(path):
-    """The crate of a source file, and the names of its module from the crate's root on."""
+    """Returns the crate of a source file, and the names of its module from the crate's root on."""
     _, crate, _, *names = path.removesuffix(".rt").split("/")
     return crate, [] if names in (["lib"], ["main"]) else names
 
@@ -124,7 +124,7 @@ def root(crate):
 
 
 def item(crate, names, seen=()):
-    """The source files that a path from a crate's root leads to: where its item stands, or is passed on from."""
+    """Returns the source files to which a path from a crate's root leads: those that define or re-export its item."""
     file, folder = root(crate), f"crates/{crate}/src"
     for at, name in enumerate(names):
         child = f"{folder}/{name}.rt"
@@ -141,7 +141,7 @@ def item(crate, names, seen=()):
 
 
 def named(file, path, more=(), seen=()):
-    """The source files that a path in a file, and more names after it, lead to."""
+    """Returns the source files to which a path in a file, and further names after it, lead."""
     crate, here = module(file)
     first, *names = [*path.split("::"), *more]
     if first == "crate":
@@ -161,7 +161,7 @@ def named(file, path, more=(), seen=()):
 
 @functools.cache
 def imports(path):
-    """The files that a file imports, and those in the folder of each module, in which its impls go on."""
+    """Returns the files that a file imports, and those in the folder of each module, which have more of its impls."""
     found = []
     for crate, names in re.findall(r"(?m)^ *(?:pub )?(?:ghost )?use Rattle\.(\w+)\.((?:specs|proofs)[\w.]*?)\.?(?:\{|;|$)", read(path)):
         at = f"crates/{crate}/{names.replace('.', '/')}.antt"
@@ -176,7 +176,7 @@ def imports(path):
 
 @functools.cache
 def in_folder(file):
-    """The source files in the folder of a module that is no root."""
+    """Returns the source files in the folder of a module that is not a root."""
     folder = file.removesuffix(".rt")
     paths = (f"{at}/{it}" for at, _, files in os.walk(f"{ROOT}/{folder}") for it in files if it.endswith(".rt"))
     return sorted(os.path.relpath(path, ROOT) for path in paths) if module(file)[1] else []
@@ -184,7 +184,7 @@ def in_folder(file):
 
 @functools.cache
 def reached_from(files):
-    """All files that these import, directly or not."""
+    """Returns all files that these import, directly or not."""
     found, left = set(), list(files)
     while left:
         for it in imports(left.pop()):

@@ -1,5 +1,5 @@
 #!/usr/bin/env python3
-"""What is seen of a source file from where some words stand: no body, no function that is not named, and all of traits."""
+"""Tests what a text with some words sees of a source file: no body, no unnamed function, and all of traits."""
 import os
 import sys
 import unittest

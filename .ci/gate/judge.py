@@ -1,18 +1,18 @@
-"""What a check of edited text says of an edit: is its function refused, and for what?"""
+"""Reads from the output of a check of edited text whether the function of an edit is rejected, and why."""
 import re
 
-# Errors about a name that is not there: such a refusal shows nothing of a contract.
+# Errors about a missing name: such a rejection shows nothing about a contract.
 GONE = r"has no field|is not in scope|has no `|was not admitted|has no function"
 
 
 def reached(said):
-    """Did a check reach the prover?"""
+    """Returns whether a check reached the prover."""
     return said.rstrip().split("\n")[-1].startswith(("logic=not-proved", "only="))
 
 
 def judged(said):
-    """By path of a function, the goals that the check does not prove of it, and what a proof file is refused for that names
-    what the edit took away."""
+    """Returns, by the path of a function, the goals that the check does not prove, and the errors of a proof file that names
+    what the edit removed."""
     open_goals, gone = {}, {}
     for line in said.split("\n"):
         at = re.match(r"fn \w+::(\S+): (?:no proof|not proved)", line)
@@ -27,8 +27,8 @@ def judged(said):
 
 
 def lemmas(said, text_of):
-    """The lemmas, by file and name, that the check does not prove, where `text_of` gives a file's text. What a definition
-    is refused for is none of them."""
+    """Returns the lemmas, by file and name, that the check does not prove; `text_of` returns a file's text. The errors of a
+    definition are not among them."""
     found = []
     for line in said.split("\n"):
         at = re.match(r"(?:\./)?((?:specs/\S+|proofs/[^/\s]+)\.antt):\d+:\d+: error: `([^`]*)`: (.*)", line)
@@ -40,8 +40,8 @@ def lemmas(said, text_of):
 
 
 def verdict(edit, said):
-    """Of a check that tried the edit with others: whether it is refused for what its function has to show, and what to
-    say. Where it isn't, it is tried by itself."""
+    """Returns, for a check that tried the edit with others, whether a goal of its function is rejected, and the message. If
+    not, the edit is tried alone."""
     if not reached(said):
         return False, "not reached"
     open_goals, gone = judged(said)
@@ -53,7 +53,7 @@ def verdict(edit, said):
 
 
 def verdict_alone(edit, status, said, text_of):
-    """The verdict of an edit that was tried by itself. One of a definition passes where a lemma is not proved, too."""
+    """Returns the verdict of an edit that was tried alone. An edit of a definition also passes if a lemma is not proved."""
     if status == 0:
         return False, "NOT REFUSED: its function is still proved"
     if not reached(said):

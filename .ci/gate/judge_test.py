@@ -1,5 +1,5 @@
 #!/usr/bin/env python3
-"""What the judge says of recorded outputs of the prover (recorded/: the status, then the lines of a check that it reads)."""
+"""Tests the judge on recorded outputs of the prover (recorded/: the status, then the lines of a check that it reads)."""
 import os
 import sys
 import unittest
@@ -11,7 +11,7 @@ import judge
 
 
 class Edit:
-    """An edit of code, of a function and with the goals that it names."""
+    """Returns an edit of a function, with the goals that it names."""
 
     def __init__(self, of, *goals, code=True):
         self.of, self.goals, self.code = of, goals, code

@@ -1,4 +1,4 @@
-"""What runs when: beside rt ci, of which the log tells how far it is, or alone."""
+"""Decides what runs when: next to rt ci, whose log shows its progress, or alone."""
 import os
 import re
 import threading
@@ -10,7 +10,7 @@ from tries import say
 
 
 class Log:
-    """What rt ci has written so far: which crates are proved and which are not."""
+    """The lines of rt ci so far: which crates are proved and which are not."""
 
     def __init__(self, path):
         self.lines = open(path, encoding="utf-8", errors="replace")
@@ -20,7 +20,7 @@ class Log:
     def read(self):
         *lines, self.rest = (self.rest + self.lines.read()).split("\n")
         for line in lines:
-            # (is kept: an earlier run on this machine proved the same text)
+            # ('is kept': an earlier run on this machine proved the same text)
             crate = re.fullmatch(r"rt: (\w+) (NOT PROVED|proved|is kept)(:.*)?", line)
             if crate:
                 self.proved[crate[1]] = crate[2] != "NOT PROVED"
@@ -28,7 +28,7 @@ class Log:
 
 
 def processors():
-    """The seconds that the processors were used, idle and taken by the machine's host since the machine began."""
+    """Returns for how many seconds since the start of the machine its processors were used, idle, and taken by the host."""
     with open("/proc/stat", encoding="utf-8") as it:
         user, nice, system, idle, waits, *handled, stolen = map(int, it.readline().split()[1:9])
     each = os.sysconf("SC_CLK_TCK")
@@ -36,19 +36,19 @@ def processors():
 
 
 def has_room():
-    """Is there memory for one more process of a check, and for what rt ci's checks still take?"""
+    """Returns whether there is memory for one more process of a check, and for what rt ci's checks still need."""
     with open("/proc/meminfo", encoding="utf-8") as it:
         sizes = dict(line.split()[:2] for line in it)
     return int(sizes["MemAvailable:"]) > 8 << 20
 
 
 class Times:
-    """When what ran, in seconds after the start: of rt ci's checks as far as the processes tell."""
+    """When each task ran, in seconds after the start; for the checks of rt ci, as seen from the processes."""
 
     def __init__(self):
         self.started, self.processors = time.time(), processors()
         self.seen = {}
-        # how many processes of checks ran, when they were looked at last
+        # the numbers of running processes of checks at the last looks
         self.checks = []
 
     def note(self, name, what):
@@ -72,7 +72,7 @@ class Times:
         self.checks = [*self.checks[-20:], checks]
 
     def busy(self):
-        """How many processors the checks have used of late."""
+        """Returns the number of processors that the checks have used recently."""
         return max(self.checks, default=0)
 
     def tell(self):
@@ -85,7 +85,7 @@ class Times:
 
 
 class Lanes:
-    """What may be done now, each with its size and its crate, and what is being done."""
+    """The tasks that may begin now, each with its size and crate, and the running tasks."""
 
     def __init__(self, times):
         self.times, self.ready, self.running = times, [], []
@@ -94,7 +94,7 @@ class Lanes:
         self.ready.append((size, name, call))
 
     def wanted(self):
-        """How many lanes there is work for."""
+        """Returns the number of lanes with work."""
         return max(1, len(self.ready) + len(self.running))
 
     def are_used(self):
@@ -102,8 +102,8 @@ class Lanes:
         return bool(self.ready or self.running)
 
     def fill(self, lanes):
-        """Begins what fits: of a crate that none is of, since a check begins with what those before it proved, and of such
-        the largest first, so that all end together."""
+        """Begins tasks: first those of crates without a running task, since a check reuses what earlier checks proved; among
+        these the largest first, so that all end together."""
         while self.are_used() and self.ready and len(self.running) < lanes:
             busy = {name for name, _ in self.running}
             first = max(self.ready, key=lambda it: (it[1] not in busy, it[0]))

@@ -1,4 +1,4 @@
-"""Calls of the prover on edited copies of a crate, and what is kept from one to the next."""
+"""Calls the prover on edited copies of a crate, and keeps results from one call to the next."""
 import contextlib
 import os
 import re
@@ -12,16 +12,16 @@ PROOFS = {"Answers.antt", "Invariants.antt", "Proof.antt"}
 
 
 def guard():
-    """The number of a group of processes that ends when this run ends, however it ends: the shell in it reads until the
-    last end of the pipe that this run holds is closed."""
+    """Returns the number of a process group that ends when this run ends, even if it is killed: the shell in the group reads
+    until this run's end of the pipe is closed."""
     ends, _ = os.pipe()
     how = {"stdin": ends, "stdout": subprocess.DEVNULL, "stderr": subprocess.DEVNULL}
     return subprocess.Popen(["sh", "-c", "read _; kill -9 0"], preexec_fn=os.setpgrp, **how).pid
 
 
 class Crate:
-    """A crate, where the libraries below it stand (None: as sources), where what checks of it proved is kept, and how many jobs
-    one may use."""
+    """A crate, the folders of the libraries below it (None: read as sources), the folder that keeps what its checks proved, and
+    the number of jobs of a check."""
 
     guard = None
 
@@ -31,7 +31,7 @@ class Crate:
         Crate.guard = Crate.guard or guard()
 
     def words(self):
-        """The call of a check, but for what it is asked to prove."""
+        """Returns the command of a check, without what it should prove."""
         words = [f"{kit()}/bin/rattle", "check", "--crate-name", self.name]
         words += ["src/main.rt" if os.path.isfile(f"{self.folder}/src/main.rt") else "src/lib.rt"]
         words += self.words_below() if self.libraries else self.words_of_sources()
@@ -39,7 +39,7 @@ class Crate:
         return [*words, "--links", f"{self.name}=", "--jobs", str(self.jobs())]
 
     def words_below(self):
-        """Where the libraries below stand, which were built."""
+        """Returns the arguments for the built libraries below."""
         own, needs = crates(), crates()[self.name]
         words = kit_libraries(it for it in needs if it not in own)
         for it in needs:
@@ -50,7 +50,7 @@ class Crate:
         return words
 
     def words_of_sources(self):
-        """The sources of the libraries below, none of which has to be built."""
+        """Returns the arguments for the sources of the libraries below, none of which has to be built."""
         own, its = crates(), below(self.name)
         words = kit_libraries(dict.fromkeys(it for name in [*its, self.name] for it in own[name] if it not in own))
         for it in (it for it in own if it in its):
@@ -58,7 +58,7 @@ class Crate:
         return words
 
     def copied(self, room, texts):
-        """Copies the crate's text to a folder, with these texts in place of its own."""
+        """Copies the crate's text to a folder, with these texts instead of its own."""
         for part in ("src", "specs", "proofs"):
             if os.path.isdir(f"{self.folder}/{part}"):
                 shutil.copytree(f"{self.folder}/{part}", f"{room}/{part}")
@@ -67,9 +67,9 @@ class Crate:
                 it.write(text)
 
     def check(self, texts, edits=(), keeps=False, by_contract=False):
-        """What the prover says of a copy of the crate with these texts in place of its own: of the functions of these edits,
-        or of all; and whether others are taken by their contracts. It begins with what the checks before it proved. No
-        other may run beside one that keeps."""
+        """Runs the prover on a copy of the crate with these texts instead of its own, for the functions of these edits or for all;
+        `by_contract` assumes the contracts of all others. Reuses what earlier checks proved. A check that keeps must run alone.
+        Returns the status and the output."""
         words = self.words()
         words += [word for edit in edits for word in ("--only", f"{self.name}::{edit.of}")]
         words += ["--allow-holes"] if by_contract else []
@@ -85,7 +85,7 @@ class Crate:
             ran = subprocess.run(words, cwd=room, errors="replace", text=True, **how)
             if not keeps:
                 keep(f"{room}/kept", self.kept)
-        # (a message that is long goes on in lines that are set in)
+        # (a long message continues on indented lines)
         return ran.returncode, re.sub(r"(\.antt:\d+:\d+: error: [^\n]*)\n  (?=\S)", r"\1 ", ran.stdout)
 
 
@@ -97,7 +97,7 @@ def kit_libraries(names):
 
 
 def leave_holes(name, proofs, edits):
-    """Leaves a hole for each proof file of a function that none of the edits is of, alone or in a cycle of calls."""
+    """Replaces by holes the proof files of functions that no edit changes, alone or in a cycle of calls."""
     own = {f"{proofs}/{edit.of.replace('::', '/')}" for edit in edits}
     for folder, _, files in os.walk(proofs):
         path = os.path.relpath(folder, proofs).split("/")
@@ -110,12 +110,12 @@ def leave_holes(name, proofs, edits):
 
 
 def linked(one, other):
-    """Copies a file, one of what was proved by a link: a check replaces such a file, and changes none."""
+    """Copies a file; links a file of proved results, since a check replaces such files and never changes them."""
     return os.link(one, other) if one.endswith(".oantt") else shutil.copy2(one, other)
 
 
 def keep(made, kept):
-    """Keeps what a check proved and no earlier one did. Each file is judged for itself by the check that would use it."""
+    """Keeps what a check proved and no earlier one did. A check that uses such a file tests it again."""
     for folder, _, files in os.walk(made):
         to = f"{kept}/{os.path.relpath(folder, made)}"
         for it in files:

@@ -1,8 +1,8 @@
 """The record of a crate's edits: for each, the checksum of what its verdict rests on, and the verdict.
 
-A verdict rests on the edit; on the files that it turns, the one of its function and that function's proof files; on all
-that these import, directly or not (imports.py); and on the toolchain. It stands in crates/NAME/edits/record.txt, a line an
-edit, and is made by `.ci/edits.py`. An edit whose checksum is not the recorded one is tried."""
+A verdict rests on the edit; on the files that it changes, the file of its function and that function's proof files; on all
+that these import, directly or not (imports.py); and on the toolchain. `.ci/edits.py` writes a line for each edit into
+crates/NAME/edits/record.txt. A run tries each edit whose checksum differs from the recorded one."""
 import functools
 import hashlib
 import os
@@ -23,8 +23,8 @@ def checksum(*texts):
 
 
 def function_files(crate, of):
-    """The source file in which a function stands, by its path below the crate, and its proof files, with those of the
-    cycles of calls in its module."""
+    """Returns the source file of a function, by its path below the crate, and its proof files, with those of the cycles of
+    calls in its module."""
     names = of.split("::")
     files = [f"crates/{crate}/src/{root}.rt" for root in ("lib", "main")]
     files += [f"crates/{crate}/src/{'/'.join(names[:n])}.rt" for n in range(1, len(names))]
@@ -52,7 +52,7 @@ def kit_line():
 
 
 def rests_on(crate, edit):
-    """The checksum of what the verdict of an edit rests on."""
+    """Returns the checksum of what the verdict of an edit rests on."""
     own = {f"crates/{crate}/{file}" for file, _, _ in edit.pairs} | set(function_files(crate, edit.of))
     own = tuple(sorted(it for it in own if os.path.isfile(f"{ROOT}/{it}")))
     words = frozenset(re.findall(r"\w+", edit.text)).union(*(words_of(it) for it in own))
@@ -64,7 +64,7 @@ def path(crate):
 
 
 def recorded(crate):
-    """By edit, the checksum and the verdict that the record has."""
+    """Returns, by edit, the recorded checksum and verdict."""
     found = {}
     if os.path.isfile(path(crate)):
         with open(path(crate), encoding="utf-8") as lines:
@@ -76,7 +76,7 @@ def recorded(crate):
 
 
 def write(crate, entries):
-    """Writes the record anew, from checksums and verdicts by edit."""
+    """Writes the record from checksums and verdicts by edit."""
     text = "".join(f"{sum_} {name}: {verdict}\n" for name, (sum_, verdict) in sorted(entries.items()))
     with open(path(crate), "w", encoding="utf-8") as it:
         it.write(text)
@@ -84,12 +84,12 @@ def write(crate, entries):
 
 @functools.cache
 def tenths():
-    """By crate and edit, which tenth of all edits it is of, 0 to 9. One tenth is a run of them, and so of few crates: what a
-    check costs before it tries an edit is some five edits."""
+    """Returns, by crate and edit, the tenth of all edits that has it, 0 to 9. Each tenth is a run of consecutive edits, so it
+    has few crates: the start of a check costs as much as five edits."""
     found = [(crate, it.name) for crate in crates() for it in edits_of(crate)]
     return {it: 10 * at // len(found) for at, it in enumerate(found)}
 
 
 def tenth_of_commit():
-    """The tenth that the commit's own name chooses."""
+    """Returns the tenth that the commit's hash chooses."""
     return int(said_by("git", "rev-parse", "HEAD"), 16) % 10

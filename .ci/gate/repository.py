@@ -1,4 +1,4 @@
-"""Where the repository and the kit stand, and which crate stands on which."""
+"""The paths of the repository and the kit, and which crate uses which."""
 import functools
 import os
 import subprocess
@@ -7,19 +7,19 @@ ROOT = os.path.dirname(os.path.dirname(os.path.dirname(os.path.abspath(__file__)
 
 
 def said_by(*words):
-    """What a command prints, without the end of its last line."""
+    """Returns what a command prints, without the end of its last line."""
     return subprocess.run(words, stdout=subprocess.PIPE, text=True, check=True, cwd=ROOT).stdout.strip()
 
 
 @functools.cache
 def kit():
-    """The folder of the kit."""
+    """Returns the folder of the kit."""
     return os.path.dirname(said_by("rt", "doc"))
 
 
 @functools.cache
 def crates():
-    """The crates, lowest first, each with the names after its colon."""
+    """Returns the crates, lowest first, each with the names after its colon."""
     found = {}
     with open(f"{ROOT}/crates.txt", encoding="utf-8") as lines:
         for line in lines:
@@ -30,7 +30,7 @@ def crates():
 
 
 def below(name):
-    """The crates of the repository that a crate stands on, each once."""
+    """Returns the crates of the repository that a crate uses, directly or not, each once."""
     own = crates()
     found = {}
     for it in own[name]:

@@ -1,4 +1,4 @@
-"""The edits of a crate that a run tries, and what came of them."""
+"""The edits of a crate that a run tries, and their results."""
 import threading
 
 import judge
@@ -15,8 +15,8 @@ def say(text):
 
 
 class Choice:
-    """Which edits of a crate are tried: those whose checksum is not the recorded one, and of the others a tenth, where one
-    is chosen, or all."""
+    """The edits of a crate that are tried: those whose checksum differs from the record, and of the others a tenth, if one is
+    chosen, or all."""
 
     def __init__(self, name, tenth=None, all_of_them=False):
         self.name, self.edits, self.why = name, [], {}
@@ -37,8 +37,8 @@ class Choice:
         self.gone = sorted(set(self.recorded) - {it.name for it in its})
 
     def write_record(self, told):
-        """Writes the verdicts that came into the record, by edit, and takes out what did not pass (None), and what is no
-        edit any more."""
+        """Writes the new verdicts into the record, by edit; removes edits that did not pass (None), and edits that no longer
+        exist."""
         entries = {name: it for name, it in self.recorded.items() if name not in self.gone and name not in told}
         entries.update((name, (self.sums[name], verdict)) for name, verdict in told.items() if verdict is not None)
         if entries != self.recorded:
@@ -46,8 +46,8 @@ class Choice:
 
 
 class Tries:
-    """The chosen edits of a crate, in the groups that are left to try, the largest last, and the verdicts that came, which
-    go into the record as they come, if they are to."""
+    """The chosen edits of a crate, in the groups that are not yet tried, the largest last, and the verdicts so far. Each
+    verdict is recorded at once, if the run records."""
 
     def __init__(self, crate, choice, records):
         self.crate, self.choice, self.records, self.told, well = crate, choice, records, {}, []
@@ -76,14 +76,14 @@ class Tries:
         say(f"edit {self.crate.name}/{edit.name} ({self.choice.why[edit.name]}): {text}")
 
     def first(self):
-        """Tries the smallest group of edits of code, and keeps what it proves of the rest."""
+        """Tries the smallest group of edits of code, and keeps what it proves about the rest of the crate."""
         group = next((it for it in self.groups if it["edits"][0].is_of_code()), None)
         if group:
             self.groups.remove(group)
             self.one(group, True)
 
     def one(self, group, keeps=False):
-        """Tries a group, and by itself each edit of it of which that check does not say that it is refused."""
+        """Tries a group; then tries alone each edit of the group that this check does not reject."""
         texts, edits = group["texts"], group["edits"]
         said = self.crate.check(texts, edits, keeps, by_contract=True)[1] if edits[0].is_of_code() else ""
         for edit in edits:

@@ -13,6 +13,9 @@ import time
 
 ROOT = os.path.dirname(os.path.dirname(os.path.dirname(os.path.abspath(__file__))))
 
+# How long one test may take: these run beside the gate, which leaves them little of the processors.
+SECONDS = 1200
+
 
 def said_by(*words, where=ROOT):
     return subprocess.run(words, cwd=where, stdout=subprocess.PIPE, text=True, check=True).stdout
@@ -48,6 +51,14 @@ def keep(folder, kept, ended):
         time.sleep(0.05)
 
 
+def run_of(folder, *words, **how):
+    """The status of `rt try` of the crate, and what it tells."""
+    words = ["--seconds", str(SECONDS), *words]
+    how = {"stdin": subprocess.DEVNULL, "stdout": subprocess.PIPE, "stderr": subprocess.STDOUT, "errors": "replace", "text": True, **how}
+    ran = subprocess.run(["rt", "try", *words], cwd=folder, check=False, **how)
+    return ran.returncode, ran.stdout
+
+
 def tried(folder, words, level="-O1"):
     """What `rt try` tells of the crate, with its status, and the program that it compiled, without its checks."""
     for it in ("compiled", "kept"):
@@ -55,16 +66,15 @@ def tried(folder, words, level="-O1"):
     ended = threading.Event()
     keeper = threading.Thread(target=keep, args=(f"{folder}/compiled", f"{folder}/kept", ended))
     keeper.start()
-    how = {"stdin": subprocess.DEVNULL, "stdout": subprocess.PIPE, "stderr": subprocess.STDOUT, "errors": "replace", "text": True}
-    ran = subprocess.run(["rt", "try", *words], cwd=folder, env={**os.environ, "TMPDIR": f"{folder}/compiled"}, check=False, **how)
+    status, told = run_of(folder, *words, env={**os.environ, "TMPDIR": f"{folder}/compiled"})
     ended.set()
     keeper.join()
-    if ran.returncode != 0:
-        return ran.returncode, ran.stdout, None
+    if status != 0:
+        return status, told, None
     # Beside the program there are small ones, which tell its checks how to work.
     module = max((it.path for it in os.scandir(f"{folder}/kept")), key=os.path.getsize)
     kit = os.path.dirname(said_by("rt", "doc").strip())
     built = f"{folder}/program"
     subprocess.run([f"{kit}/toolchain/bin/clang", "--no-default-config", "-c", "-x", "ir", module, "-o", f"{built}.o", "-fPIE", level], check=True)
     subprocess.run(["cc", "-o", built, f"{built}.o", f"{kit}/c/libos_c.a", f"{kit}/c/liblibc_c.a"], check=True)
-    return 0, ran.stdout, built
+    return 0, told, built

@@ -1,15 +1,15 @@
-"""Tuples of three to ten columns of which a row, or one field of it, is written in place, in columnar_cells."""
+"""Writes in place of a row, or of one field, of tuples of three to ten columns, in columnar_cells."""
 from holes import COLUMNS, NTH, NUMBERS, fill, fold, put, row_of, words_of_part
 from parts import WIDTHS, answer_file, answers, headed, template, words
 
 
 def formats_from(width, part):
-    """The formats of the parts from this one on."""
+    """Returns the formats of the parts from this one on."""
     return fill("⟨2+list: g.$A.Column.format⟩", width, range(part, width)).replace("([])", "[]")
 
 
 def others_wrote(width, part=1):
-    """What is written in the nest of the other parts."""
+    """Returns what is written in the nest of the other parts."""
     own = f"c.set_row-{part + 1}.ensures"
     if part == width - 1:
         return f"(λ s. {own})"
@@ -17,7 +17,7 @@ def others_wrote(width, part=1):
 
 
 def field_wrote(width, at, part=0):
-    """What a write to field `at` leaves in this part, and in the nest of those after it."""
+    """Returns what a write to field `at` leaves in this part, and in the nest of the later parts."""
     side = words_of_part(part, width)["side"]
     own = "c.set_row.ensures" if part == at else f"(part_kept c.args.index p{side} c.requires.in_range)"
     if part == width - 1:
@@ -29,7 +29,7 @@ def field_wrote(width, at, part=0):
 
 
 def field(width, at):
-    """The impl of one field of the row."""
+    """Returns the impl for one field of the row."""
     bounds = ", ".join(f"{COLUMNS[part]}: {'SetRow<Z>' if part == at else 'Len'}" for part in range(width))
     puts = fold("tuple", ["s" if part == at else row_of(part, width) for part in range(width)])
     return put(template("cells_field"), {"at": str(at), "mine": COLUMNS[at], "own": row_of(at, width), "put": puts, "bounds": bounds})

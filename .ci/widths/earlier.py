@@ -1,16 +1,16 @@
-"""The earlier form of tuples of three to ten columns, in columnar_core: all widths in one file. A tuple is made as its nested
-pairs are, of which each is made part by part."""
+"""The earlier form of tuples of three to ten columns, in columnar_core: all widths in one file. A tuple is made like its nested
+pairs, and each pair part by part."""
 from holes import fill
 from parts import WIDTHS, answers, template, words
 
 
 def listed(text, width, first):
-    """What is said of each part from `first` on, as a list."""
+    """Returns the list of the texts for each part from `first` on."""
     return "(" + fill(f"⟨lines[{first}:]: {text}⟩", width).replace("\n", " ∷ ") + (" ∷ " if first < width else "") + "[])"
 
 
 def one_by_one(width, first=1):
-    """That the parts from `first` on have earlier forms, one after another."""
+    """Returns the proof that the parts from `first` on have earlier forms, one after another."""
     if first == width:
         return "no_more"
     olds, news = listed("$A.Old.format", width, first + 1), listed("$A.format", width, first + 1)

@@ -1,20 +1,20 @@
-"""Texts with holes, from which the files of all widths of tuples are made.
+"""Templates: texts with holes, from which the files of all widths of tuples are made.
 
-A hole has a text as of the first part, which is said of each part:
+A hole has the text for the first part, which is repeated for each part:
 
     ⟨$A: Column⟩                 A: Column, B: Column, C: Column
-    ⟨$A: Truncate | $A: Len⟩     what follows the bar is the last part's: A: Truncate, B: Truncate, C: Len
-    ⟨[1:]: &self.$0⟩             some of the parts, as a slice in Python: &self.1, &self.2
-    ⟨nest: $first⟩               another shape than a list, of SHAPES: (first, (second, third))
+    ⟨$A: Truncate | $A: Len⟩     the text after the bar is for the last part: A: Truncate, B: Truncate, C: Len
+    ⟨[1:]: &self.$0⟩             some of the parts, like a slice in Python: &self.1, &self.2
+    ⟨nest: $first⟩               a shape of SHAPES instead of a list: (first, (second, third))
     ⟨fold both: $A.x⟩            one function applied: both A.x (both B.x C.x)
 
 The words of a part are $A, the type of its column; $P and $p, the type and the name of its item; $first, its name; $0, its
-number; $side, its place in nested pairs (.0, .1.0, .1.1); $row, its own part of the row r; $-2, which tells its call from earlier
-ones of the same name (nothing, -2, -3), and $-1, the same counted from the second part. A word outside of holes is of the tuple: see WORDS of
-parts.py.
+number; $side, its place in nested pairs (.0, .1.0, .1.1); $row, its part of the row r; $-2, the suffix that distinguishes its call
+from earlier calls of the same name (nothing, -2, -3), and $-1, the same counted from the second part. Words outside of holes are
+about the tuple: see WORDS in parts.py.
 
-The layout of the files is that of `rt fmt`: a template of impls has short bodies on one line, and no empty lines in an impl.
-A tuple is the nested pairs of its first part and of the others, (A, (B, C)), in contents and in proofs."""
+`rt fmt` lays out the files: a template of impls has short bodies on one line, and no empty lines in an impl. In contents and in
+proofs a tuple is the nested pairs of its first part and the others, (A, (B, C))."""
 import functools
 import re
 
@@ -25,7 +25,7 @@ COLUMNS, ITEMS = "ABCDEFGHIJ", "PQRSTUVWXY"
 
 
 def closed(x):
-    """A term as an argument: in parentheses, if it has a space outside of any."""
+    """Returns a term as an argument: in parentheses, if it has a space outside of parentheses."""
     return f"({x})" if " " in re.sub(r"\(.*\)", "", x) else x
 
 
@@ -54,12 +54,12 @@ def fold(function, xs):
 
 
 def arguments(apart, xs):
-    """The first ones as arguments of their own, then a list of the others."""
+    """Returns the first terms as separate arguments, then a list of the others."""
     return " ".join([closed(x) for x in xs[:apart]] + [f"({' ∷ '.join(xs[apart:] + ['[]'])})"])
 
 
 SHAPES = {
-    "commas": ", ".join,  # a, b, c, the shape of a hole that names none
+    "commas": ", ".join,  # a, b, c: the shape of a hole that names none
     "lines": "\n".join,
     "nest": nest,  # (a, (b, c))
     "left": left,  # ((a, b), c)
@@ -77,12 +77,12 @@ HOLE = re.compile(
 
 
 def put(text, said):
-    """The text with what is said for each $word; other words stay."""
+    """Returns the text with a replacement for each known $word; other words stay."""
     return re.sub(r"\$(-[12]|\w+)", lambda word: said.get(word[1], word[0]), text)
 
 
 def row_of(part, width):
-    """The part of the row r, a tuple, that is its own."""
+    """Returns the part's own component of the row r, a tuple."""
     row = "r"
     for _ in range(part):
         row = f"(second_of {row})"
@@ -96,7 +96,7 @@ def words_of_part(part, width):
 
 
 def fill(text, width, parts=None, /, **said):
-    """The text with its holes filled for these parts of a tuple, all of them if none are named."""
+    """Returns the text with its holes filled for these parts of a tuple; for all parts if none are named."""
     parts = range(width) if parts is None else parts
 
     def filled(hole):

@@ -1,4 +1,4 @@
-"""What the kinds of files share: templates, the words of a tuple, and how answers are written."""
+"""What all kinds of files share: templates, the words of a tuple, and how the proof files are written."""
 import os
 import re
 
@@ -13,8 +13,8 @@ def template(name):
         return file.read()
 
 
-# The words of the tuple, outside of holes; those of the second block are for answers. Besides these, $width is its number of
-# parts as a word and $fewer that of one part less, and in answers $call is the function and $goals the module of its goals.
+# The words of the tuple, outside of holes; those of the second block are for answers, that is, proof files. Also, $width is its
+# number of parts as a word and $fewer one less, and in answers $call is the function and $goals the module of its goals.
 WORDS = {
     "columns": "(⟨$A⟩)",
     "items": "(⟨$P⟩)",
@@ -39,13 +39,13 @@ def words(width):
 
 # --- Answers ---
 #
-# In a template of answers `NAME = TERM` is an answer to the goal of that name; the goals' own `use` is added. A heading is
-# the folder of a function, and the lowest width that has answers, where narrower ones need none. Below two headings are the
-# answers of both functions.
+# In a template of answers `NAME = TERM` answers the goal of that name; the `use` of the goals is added. A heading is the folder
+# of a function, and the lowest width with answers, if narrower ones need none. Answers below two headings belong to both
+# functions.
 
 
 def headed(name):
-    """Each heading of a template of answers: the folder, the lowest width, and the text below it."""
+    """Yields each heading of a template of answers: the folder, the lowest width, and the text below it."""
     for block in template(name).strip().split("\n\n"):
         heads, text = re.fullmatch(r"((?:=== .*\n)+)([^=][\s\S]*)", block).groups()
         for folder, lowest in re.findall(r"=== (\S+)(?: from (\d+))?", heads):
@@ -53,7 +53,7 @@ def headed(name):
 
 
 def answer_file(place, text, width, **said):
-    """A file of answers: its path and its text, of a function in the folder `place` below crates/."""
+    """Returns the path and text of a file of answers, for a function in the folder `place` below crates/."""
     goals = f"Rattle.{place.replace('/', '.')}.Goals"
     text = fill(text, width, **words(width), goals=goals, call=os.path.basename(place), **said)
     text = re.sub(r"(?m)^([\w-]+) =(.*)$", r"\npub \1 : goal.\1\n\1 g c =\2", text)
@@ -61,7 +61,7 @@ def answer_file(place, text, width, **said):
 
 
 def answers(name, said=lambda width: {}):
-    """Each file of answers of a template: its path, the template's name, and its text."""
+    """Yields each file of answers of a template: its path, the name of the template, and its text."""
     for folder, lowest, text in headed(name):
         for width in range(lowest, WIDTHS[-1] + 1):
             path, made = answer_file(folder.format(width=NUMBERS[width], number=width), text, width, **said(width))

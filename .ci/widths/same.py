@@ -4,7 +4,7 @@ from parts import WIDTHS, answer_file, template, words
 
 
 def same():
-    """All widths in one file, each with what the next wider one calls for all its parts but the first; the widest has none."""
+    """All widths in one file, each with the function that the next wider one calls for its parts after the first, except the widest."""
     text = template("same_head")
     for width in WIDTHS:
         chain = "" if width == WIDTHS[-1] else template("same_chain")
@@ -12,8 +12,8 @@ def same():
     return text
 
 
-# The impl has a tuple of columns, whose format is the nest's with other rules, and a tuple of items; the chain has a nest's
-# columns and its items one by one.
+# The impl has a tuple of columns, whose format is that of the nest with other rules, and a tuple of items; the chain has the
+# columns and items of a nest one by one.
 SAME_AS_IN = {
     "columnar_lookback/proofs/same/tuples/Tuple{number}SameAs/same": {
         "sound": "((tuple_same $formats).back _ c.requires.sound)", "column": "c.args.self.now.$0",
@@ -24,7 +24,7 @@ SAME_AS_IN = {
 
 
 def answers():
-    """Each file of answers. The widest impl is the last that calls the chain."""
+    """Yields each file of answers. The widest impl is the last that calls the chain."""
     for folder, more in SAME_AS_IN.items():
         for width in WIDTHS[:-1] if folder.endswith("same_{width}") else WIDTHS:
             place = folder.format(width=NUMBERS[width], number=width)

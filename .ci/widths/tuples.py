@@ -4,7 +4,7 @@ from parts import WIDTHS, answers, template, words
 
 
 def of_pairs(law, width, first=0):
-    """A law of nested pairs: that of the first part, and that of the pairs of the others."""
+    """Returns a law of nested pairs: that of the first part, and that of the pairs of the others."""
     if first == width - 1:
         return fill(f"⟨$A.{law}⟩", width, [first])
     others = of_pairs(law, width, first + 1)
@@ -13,7 +13,7 @@ def of_pairs(law, width, first=0):
 
 
 def base(width):
-    """The chain of pushes and copies goes on in the file of the next lower width; that of two is in tuple.rt."""
+    """The chain of pushes and copies continues in the file of the next lower width; that of two is in tuple.rt."""
     uses = "use crate::tuple::{ByRef, ByValue, Enter, duplicate_after, enter_two, reserve_after, taken_back};"
     if width > 3:
         uses = fill("use crate::tuple::$fewer::enter_$fewer;\n", width, **words(width)) + uses.replace("enter_two, ", "")
@@ -21,7 +21,7 @@ def base(width):
 
 
 def counted(width, first=0):
-    """What a content counts, as that of nested pairs: of the first part, and of the pairs of the others."""
+    """Returns the counts of a content of nested pairs: those of the first part, and those of the pairs of the others."""
     if first == width - 1:
         return fill("⟨$A.counted c.$0⟩", width, [first])
     contents = "(slices_of (⟨[:1]: $A.content c.$0⟩)) (slices_of (⟨fold both[1:]: $A.content c.$0⟩))"
@@ -29,14 +29,14 @@ def counted(width, first=0):
     return fill(text, width, range(first, width))
 
 
-# What has to be shown of the lifetimes of a nest of references doubles with each part. So a wide nest is written as two:
-# the parts of the second half, which of an odd width is the larger, are first put into a nest of their own, named `later`.
-# That is done from these widths on, of references as they are and of those in an `Owned`. A check has five parts in front.
+# The goals about the lifetimes of a nest of references double with each part. So a wide nest is written as two: the parts of the
+# second half, the larger one of an odd width, first form a nest named `later`. These are the widths from which this is done, for
+# plain references and for those in an `Owned`. A check has five parts in front.
 HALVES_LENT, HALVES_OWNED, HALVES_CHECK = 7, 5, 7
 
 
 def halves(part, width, wide):
-    """A nest of all parts: the line before it, if it is of a width for two, and itself."""
+    """Returns a nest of all parts: the line before it, if its width needs two nests, and the nest."""
     if width < wide:
         return "", fill(f"⟨nest: {part}⟩", width)
     half = width // 2
@@ -56,7 +56,7 @@ def core(width):
 
 
 def made():
-    """Each file: its path, the name of its template, and its text before it is laid out."""
+    """Yields each file: its path, the name of its template, and its text before `rt fmt`."""
     for width in WIDTHS:
         yield f"crates/columnar_base/src/tuple/{NUMBERS[width]}.rt", "base", base(width)
         yield f"crates/columnar_core/src/tuple/{NUMBERS[width]}.rt", "core", core(width)

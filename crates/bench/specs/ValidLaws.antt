@@ -1,4 +1,4 @@
--- Values that are valid whatever they are.
+-- Values that are always valid.
 use Rattle.std.specs.Prelude.{Option, Some, None, Result, Ok, Err}
 use Rattle.columnar_base.specs.OptionRows.{option_valid}
 use Rattle.columnar_base.specs.ResultRows.{result_valid}

@@ -1,7 +1,7 @@
-//! What a row adds to a sum of rows.
+//! The number that a row adds to a sum of rows.
 use columnar_variants::cases::{Last, Nth};
 
-/// A row that is a number, or is made of such.
+/// A row that is a number, or that consists of numbers.
 pub trait Amount {
     fn amount(self) -> u64;
 }

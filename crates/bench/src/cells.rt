@@ -1,4 +1,4 @@
-//! Cells that are written in place: single numbers, and one field of rows of three.
+//! Writes in place: of single numbers, and of one field of rows of three.
 use crate::clock::{Random, line};
 use crate::times::Times;
 use crate::{input, work};

@@ -12,7 +12,7 @@ type Numbers = Stash<Vec<u64>, Vec<u8>>;
 
 const COMMANDS: usize = 1_000;
 
-// Most push; some copy, cut, or write the rows and open them again.
+// Makes commands: most push; some copy, truncate, or write the stash and open it again.
 fn commands(alloc: Global, random: &mut Random) -> Option<Vec<Command<u64>>> {
     let mut commands = Vec::new(alloc);
     for at in 0..COMMANDS {

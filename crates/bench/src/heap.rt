@@ -1,11 +1,11 @@
-//! The heap, before anything is measured.
+//! Preparation of the heap before the measurements.
 use std::alloc::Global;
 
-// How many small blocks of a size the C library keeps for the next that asks for one
+// The number of small blocks of one size that the C library keeps for later requests.
 const KEPT: usize = 7;
 
-/// Takes blocks of each small size and gives them back. They stay where they are, for the next that asks for one: taken
-/// later, they would stand between large blocks, and a column that grows would have to move because of them.
+/// Allocates blocks of each small size and frees them, so that later requests reuse them. If they were allocated later,
+/// they would stand between large blocks, and a growing column would have to move.
 pub fn small_blocks(alloc: Global) -> Option<()> {
     let mut columns = Vec::new(alloc);
     for _column in 0..KEPT {

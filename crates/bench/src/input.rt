@@ -1,4 +1,4 @@
-//! What is pushed and asked for.
+//! The items that are pushed, and the places that are read.
 ghost use Rattle.std.specs.Prelude.{◌<◌};
 
 use crate::clock::Random;
@@ -111,7 +111,7 @@ pub fn texts<'a>(alloc: Global, records: &'a [(u64, String, Option<u64>)]) -> Op
     Some(texts)
 }
 
-/// Three in four are Ok.
+/// Makes results, of which three in four are Ok.
 pub fn results(alloc: Global, count: usize, random: &mut Random) -> Option<Vec<Result<u64, u32>>> {
     let mut results = Vec::new(alloc);
     results.reserve(count).ok()?;
@@ -130,7 +130,7 @@ pub fn results(alloc: Global, count: usize, random: &mut Random) -> Option<Vec<R
 /// A value of one of three variants.
 pub type Kind = Nth<u64, Nth<u32, Last<u32>>>;
 
-/// Values of each variant, of one as many as of another.
+/// Makes values of each variant, equally many of each on average.
 pub fn kinds(alloc: Global, count: usize, random: &mut Random) -> Option<Vec<Kind>> {
     let mut kinds = Vec::new(alloc);
     kinds.reserve(count).ok()?;
@@ -146,7 +146,7 @@ pub fn kinds(alloc: Global, count: usize, random: &mut Random) -> Option<Vec<Kin
     Some(kinds)
 }
 
-/// The variants 0, 1 and 2.
+/// Makes variants 0, 1 and 2.
 pub fn variants(alloc: Global, count: usize, random: &mut Random) -> Option<Vec<u8>> {
     let mut variants = Vec::new(alloc);
     variants.reserve(count).ok()?;
@@ -156,7 +156,7 @@ pub fn variants(alloc: Global, count: usize, random: &mut Random) -> Option<Vec<
     Some(variants)
 }
 
-/// Runs of eight words on the average.
+/// Makes runs of equal words, of eight words on average.
 pub fn runs(alloc: Global, count: usize, random: &mut Random) -> Option<Vec<u64>> {
     let mut runs = Vec::new(alloc);
     runs.reserve(count).ok()?;

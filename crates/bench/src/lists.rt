@@ -16,10 +16,10 @@ type Viewed<'a> = Vecs<Words<'a>, Words<'a>>;
 
 type Held = Stash<Lists, Vec<u8>>;
 
-/// How many lists there are.
+/// The number of lists.
 pub const N: usize = 1_000_000;
 
-/// How many items the lists have.
+/// The number of items of all lists.
 pub const ITEMS: usize = 3_500_000;
 
 pub fn measure<R: Clock, O: Write>(times: &mut Times<'_, R, O>) -> Option<()> {

@@ -1,5 +1,6 @@
-//! Measures the columns: `bench times` prints lines `NAME NANOSECONDS ITEMS`, in five rounds; lines that begin with # are
-//! sums, printed so that the work is done. With no word it says so, since a program of the gate prints the same at each run.
+//! Measures the columns: `bench times` prints lines `NAME NANOSECONDS ITEMS`, in five rounds. Lines that begin with #
+//! are sums; printing them forces the work. Without an argument the program prints its usage, because programs of the
+//! gate must print the same in each run.
 #![tactic(auto)]
 
 mod amount;
@@ -14,6 +15,7 @@ mod lists;
 mod numbers;
 mod opened;
 mod plain;
+mod relations;
 mod repeated;
 mod rows;
 mod sorts;
@@ -49,11 +51,12 @@ fn all<R: Clock, O: Write>(times: &mut Times<'_, R, O>) -> Option<()> {
         sorts::measure(times)?;
         commands::measure(times)?;
         types::measure(times)?;
+        relations::measure(times)?;
     }
     Some(())
 }
 
-// Is it run as `bench times`?
+// Returns whether the argument is `times`.
 fn is_asked(rt: &HostRuntime) -> bool {
     let Ok(mut args) = env::args(rt) else {
         return false;

@@ -1,4 +1,4 @@
-//! Numbers alone.
+//! Columns of numbers.
 use crate::clock::Random;
 use crate::times::Times;
 use crate::{input, work};
@@ -34,8 +34,8 @@ fn pushed<R: Clock, O: Write>(times: &mut Times<'_, R, O>, words: &[u64]) -> Opt
     Some(())
 }
 
-// A slice is pushed into the memory of the copy before it, as in the Rust crate's workloads: what such memory is in the cache
-// decides the time.
+// Pushes a slice into the memory that the copy before it freed, as the workloads of the Rust crate do: whether that
+// memory is in the cache decides the time.
 fn taken<R: Clock, O: Write>(times: &mut Times<'_, R, O>, words: &[u64]) -> Option<()> {
     let start = times.start();
     let column = sliced(times.alloc, words)?;

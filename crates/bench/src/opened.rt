@@ -1,4 +1,4 @@
-//! Stores of records that are tested, and opened for one field.
+//! Stores of records that are validated, and opened to read one field.
 use crate::clock::Random;
 use crate::times::Times;
 use crate::{input, work};
@@ -31,7 +31,7 @@ fn written<R: Clock, O: Write>(times: &mut Times<'_, R, O>, records: &[Record]) 
     work::written(times.alloc, &held.borrow(), 32 * N)
 }
 
-// The first field alone is summed: at first with the test of the bytes, then without.
+// Sums the first field: first with validation of the bytes, then without.
 fn opened<R: Clock, O: Write>(times: &mut Times<'_, R, O>, bytes: Vec<u8>) -> Option<()> {
     let start = times.start();
     let held = Held::try_from_bytes(times.alloc, bytes).ok()?;

@@ -1,4 +1,4 @@
-//! Items that may be pushed whatever they are.
+//! Items that are always valid, so that each can be pushed.
 ghost use Rattle.bench.specs.ValidLaws.{option_always, result_always, nth_always};
 
 use columnar_base::traits::Item;

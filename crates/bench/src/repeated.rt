@@ -1,4 +1,4 @@
-//! Numbers that come again: at once, or among the last of them.
+//! Numbers that repeat: in runs, or within the last few values.
 use crate::clock::Random;
 use crate::input;
 use crate::times::Times;

@@ -1,4 +1,4 @@
-//! Rows of a number and a number that may be absent.
+//! Rows of a number and an optional number.
 use crate::clock::Random;
 use crate::input;
 use crate::times::Times;
@@ -23,8 +23,8 @@ type Held = Stash<Rows, Vec<u8>>;
 
 const N: usize = 1_000_000;
 
-// What is measured comes in the order of the Rust crate's workloads: what was read before is in the cache, and what was freed
-// is where the heap has room.
+// The workloads are in the order of those of the Rust crate, because the order decides what is in the cache and where
+// the heap has room.
 pub fn measure<R: Clock, O: Write>(times: &mut Times<'_, R, O>) -> Option<()> {
     let mut random = Random::new(7);
     let rows = input::rows(times.alloc, N, &mut random)?;

@@ -1,4 +1,4 @@
-//! Stores of results and of variants that are tested.
+//! Stores of results and of variants that are validated.
 use crate::clock::Random;
 use crate::times::Times;
 use crate::{input, work};

@@ -1,4 +1,4 @@
-//! Strings, and records of a number, a string and a number that may be absent.
+//! Strings, and records of a number, a string and an optional number.
 use crate::clock::Random;
 use crate::times::Times;
 use crate::{input, work};

@@ -1,5 +1,5 @@
-//! Workloads, each a line with the time that it took. Each is one call for a nest of columns, since a call at a nest is what
-//! costs in a proof.
+//! Workloads, each with a line for its time. Each workload makes one call per nest of columns, because such calls are
+//! expensive to prove.
 ghost use Rattle.std.specs.Prelude.{IfSome, IsTrue};
 ghost use Rattle.columnar_base.specs.Format.{IsSound, representable};
 
@@ -18,7 +18,7 @@ use std::alloc::Global;
 use std::io::Write;
 use std::rt::Clock;
 
-/// The clock, where the lines go, and the memory that is worked in.
+/// The clock, the output for the lines, and the allocator of the workloads.
 #[derive(Drop)]
 pub struct Times<'a, R, O> {
     pub rt: &'a R,
@@ -27,7 +27,7 @@ pub struct Times<'a, R, O> {
 }
 
 impl<'a, R: Clock, O: Write> Times<'a, R, O> {
-    /// Nanoseconds, before a workload.
+    /// Returns the time before a workload, in nanoseconds.
     pub fn start(&self) -> u64 {
         nanos(self.rt)
     }
@@ -38,14 +38,14 @@ impl<'a, R: Clock, O: Write> Times<'a, R, O> {
         line(self.out, name, end.wrapping_sub(start), items)
     }
 
-    /// The same of work that gives a number, which is printed, so that the work is done.
+    /// Does the same for work that returns a number; printing the number forces the work.
     pub fn summed(&mut self, name: &str, start: u64, items: usize, sum: u64) -> Option<u64> {
         self.end(name, start, items)?;
         line(self.out, "#sum", sum, 1)?;
         Some(sum)
     }
 
-    /// A column of these items, each pushed by value.
+    /// Returns a column of these items, each pushed by value.
     pub fn values<T: Plain + Copy, C: Storage + Push<T>>(
         &mut self,
         name: &str,
@@ -59,7 +59,7 @@ impl<'a, R: Clock, O: Write> Times<'a, R, O> {
         Some(column)
     }
 
-    /// A column of these items, each pushed by reference.
+    /// Returns a column of these items, each pushed by reference.
     pub fn refs<T: Plain, C: Storage + PushRef<T>>(&mut self, name: &str, items: &[T]) -> Option<C>
         ensures { IfSome result (λ c. IsSound C.format (C.content c)) }
     {
@@ -82,7 +82,7 @@ impl<'a, R: Clock, O: Write> Times<'a, R, O> {
         self.end(name, start, view.len())
     }
 
-    /// Reads all rows of a view, and adds them up.
+    /// Reads all rows of a view and adds them up.
     pub fn sum<V: Len + Index<Ref: Amount>>(&mut self, name: &str, view: &V) -> Option<u64>
         requires { IsSound V.format (V.content view.now) }
     {
@@ -92,7 +92,7 @@ impl<'a, R: Clock, O: Write> Times<'a, R, O> {
     }
 
     /// Copies the rows `start..end` of a view into an empty column.
-    pub fn copy<V: Len + Copy, C: ExtendFrom<V> + Drop>(
+    pub fn copy<V: Len + Copy, C: Storage + ExtendFrom<V> + Drop>(
         &mut self,
         name: &str,
         view: V,
@@ -106,8 +106,8 @@ impl<'a, R: Clock, O: Write> Times<'a, R, O> {
         self.end(name, began, end.saturating_sub(start))
     }
 
-    /// The same after the first `front` rows of the view.
-    pub fn copy_after<V: Len + Copy, C: ExtendFrom<V> + Drop>(
+    /// Does the same after the first `front` rows of the view.
+    pub fn copy_after<V: Len + Copy, C: Storage + ExtendFrom<V> + Drop>(
         &mut self,
         name: &str,
         view: V,
@@ -131,7 +131,7 @@ impl<'a, R: Clock, O: Write> Times<'a, R, O> {
         self.end(name, start, items)
     }
 
-    /// Writes a view where there is room for `room` bytes, and gives these.
+    /// Writes a view into a vector with capacity for `room` bytes, and returns the bytes.
     pub fn write<'b, S: AsBytes<'b>>(
         &mut self,
         name: &str,
@@ -147,8 +147,8 @@ impl<'a, R: Clock, O: Write> Times<'a, R, O> {
         Some(bytes)
     }
 
-    /// Pushes the rows of a view, encodes them, and gives the bytes that it writes where there is room for `room` bytes. `names`
-    /// has a name for each.
+    /// Pushes the rows of a view, encodes them, and writes them into a vector with capacity for `room` bytes. `names`
+    /// has a name for each of the three. Returns the bytes.
     pub fn stored<'b, V: Len + Copy + Index + AsBytes<'b>, C: Storage + Push<V::Ref> + Drop>(
         &mut self,
         names: [&str; 3],
@@ -165,9 +165,9 @@ impl<'a, R: Clock, O: Write> Times<'a, R, O> {
         self.write(written, items, &view, room)
     }
 
-    /// Reads all rows of a view, copies the half in the middle, and copies the half from one row further on after the first
-    /// row. `names` has a name for each.
-    pub fn halves<V: Len + Copy + Index<Ref: Amount>, C: ExtendFrom<V> + Drop>(
+    /// Reads all rows of a view, copies the half in the middle, and copies the half that begins one row later after the
+    /// first row. `names` has a name for each of the three.
+    pub fn halves<V: Len + Copy + Index<Ref: Amount>, C: Storage + ExtendFrom<V> + Drop>(
         &mut self,
         names: [&str; 3],
         view: V,
@@ -203,7 +203,7 @@ impl<'a, R: Clock, O: Write> Times<'a, R, O> {
         self.end(name, start, items)
     }
 
-    /// A column of these values, made by their type.
+    /// Returns a column of these values, made by their type.
     pub fn columns<T: Plain + Columnar<Container: Storage + PushRef<T>>>(
         &mut self,
         name: &str,

@@ -1,4 +1,4 @@
-//! Trees in which each node but the lowest has three kids.
+//! Trees in which each node has three children, except on the lowest level.
 ghost use Rattle.std.specs.Prelude.{IfSome};
 ghost use Rattle.columnar_base.specs.Format.{IsSound};
 ghost use Rattle.columnar_nested.specs.Trees.{trees_format, trees_content, owned_trees};
@@ -21,7 +21,7 @@ type Numbers = Trees<Vec<u64>, Vec<u64>>;
 
 const LEAVES: usize = 59_049;
 
-// A column of trees that is well formed
+// A well-formed column of trees.
 #[derive(Drop)]
 struct Grove {
     trees: Numbers,
@@ -41,7 +41,7 @@ impl Grove {
     }
 }
 
-/// A value of a node.
+/// The value of a node.
 trait Worth: Drop {
     fn of(word: u64) -> Self;
 }
@@ -58,7 +58,7 @@ impl Worth for usize {
     }
 }
 
-// New nodes above these, each with three of them in turn.
+// Makes parents of these nodes, each with the next three as children.
 fn above<T: Worth>(
     alloc: Global,
     nodes: Vec<Tree<T>>,
@@ -77,7 +77,7 @@ fn above<T: Worth>(
     Some(upper)
 }
 
-// Trees with so many levels below the root, of all leaves.
+// Makes trees of all leaves, with `levels` levels below the root.
 fn forest<T: Worth>(alloc: Global, levels: usize, random: &mut Random) -> Option<Vec<Tree<T>>> {
     let mut nodes = Vec::new(alloc);
     for _leaf in 0..LEAVES {
@@ -100,7 +100,7 @@ fn push_trees(alloc: Global, trees: Vec<Tree<u64>>) -> Option<Grove> {
     Some(grove)
 }
 
-// The values of a node and of its kids.
+// Adds up the values of a node and its children.
 fn sum_kids<V: Index<Ref: Amount> + Copy, B: NodeBounds + Copy>(node: TreesRef<V, B>) -> u64
     requires { ⟦<TreesRef<V, B> as Item>⟧.valid node }
 {
@@ -111,7 +111,7 @@ fn sum_kids<V: Index<Ref: Amount> + Copy, B: NodeBounds + Copy>(node: TreesRef<V
     sum
 }
 
-// The values of all trees that have two levels below their root.
+// Adds up the values of all trees with two levels below the root.
 #[inline(never)]
 fn walk<V: Index<Ref: Amount> + Copy, B: NodeBounds + Copy>(trees: &Trees<V, B>) -> u64
     requires { IsSound (trees_format V.format) (trees_content B.bytes V.content trees.now) }

@@ -1,4 +1,4 @@
-//! Values of types, as columns and back.
+//! Values that are converted to columns and back.
 use crate::clock::Random;
 use crate::input;
 use crate::times::Times;
@@ -13,7 +13,7 @@ type Row = (u64, Option<u64>);
 
 const N: usize = 1_000_000;
 
-/// A value of which each field is looked at.
+/// A value whose fields are all read.
 pub trait Looked {
     fn looked(&self) -> u64;
 }

@@ -1,4 +1,4 @@
-//! Lists with bounds in unary, as the containers of vectors have them: beside the same over bounds as numbers, in `lists`.
+//! Lists with bounds in unary, as in the column of `Vec<T>`. The module `lists` has the same with bounds as numbers.
 use crate::clock::Random;
 use crate::lists::{ITEMS, N};
 use crate::times::Times;
@@ -48,7 +48,7 @@ fn typed<R: Clock, O: Write>(
     Some(())
 }
 
-// A store with bounds as numbers, loaded as it is, and opened as the form with bounds in unary.
+// Loads a store with bounds as numbers, and opens it as a column with bounds in unary.
 fn earlier<R: Clock, O: Write>(
     times: &mut Times<'_, R, O>,
     words: &[u64],

@@ -1,4 +1,4 @@
-//! The work that is measured.
+//! The measured work.
 ghost use Rattle.std.specs.Prelude.{◌≡◌, ℕ, ◌<◌, ◌≤◌, length, IfOk, IfSome, IsTrue};
 ghost use Rattle.columnar_base.specs.Format.{IsSound, both, part, part_format, representable};
 ghost use Rattle.columnar_base.specs.Elements.{words_format};
@@ -19,10 +19,13 @@ use columnar_cells::lent::ValueMut;
 use columnar_core::bytes::{AsBytes, Stored};
 use columnar_core::container::ExtendFrom;
 use columnar_core::offsets::Offsets;
+use columnar_core::ordered::OrderedRow;
 use columnar_core::slice::Slice;
 use columnar_core::words::Words;
 use columnar_lists::vector::Vecs;
 use columnar_lists::walk::ListIter;
+use columnar_operators::merge::merge;
+use columnar_operators::select::{filter, take_checked};
 use columnar_sums::discriminant::Discriminant;
 use columnar_sums::rank_select::RankSelect;
 use columnar_types::types::{Columnar, ContainerOf, FromRow};
@@ -78,7 +81,7 @@ pub fn sum<V: Len + Index<Ref: Amount>>(view: &V) -> u64
     total(view)
 }
 
-// The same, as a part of what calls it.
+// Does the same, but the caller may inline it.
 fn total<V: Len + Index<Ref: Amount>>(view: &V) -> u64
     requires { IsSound V.format (V.content view.now) }
 {
@@ -89,7 +92,7 @@ fn total<V: Len + Index<Ref: Amount>>(view: &V) -> u64
     sum
 }
 
-/// Adds one to the number at each place that there is.
+/// Adds one to the number at each place that exists.
 #[inline(never)]
 pub fn add_each<C: ValueMut<Value = u64>>(column: &mut C, places: &[usize])
     requires { IsSound C.format (C.content column.old) }
@@ -103,7 +106,7 @@ pub fn add_each<C: ValueMut<Value = u64>>(column: &mut C, places: &[usize])
     }
 }
 
-/// Writes the second field of the row at each place that there is.
+/// Writes the second field of the row at each place that exists.
 #[inline(never)]
 pub fn set_second_each<C: SetItem<Field<1>, u64>>(column: &mut C, places: &[usize])
     requires { IsSound C.format (C.content column.old) }
@@ -203,8 +206,8 @@ pub fn copy_part<V: Len + Copy, C: ExtendFrom<V>>(
     column.extend_from_self(view, start..end).is_ok()
 }
 
-/// A column of the rows start..end of a view.
-pub fn copied<V: Len + Copy, C: ExtendFrom<V>>(
+/// Returns a column of the rows start..end of a view.
+pub fn copied<V: Len + Copy, C: Storage + ExtendFrom<V>>(
     alloc: Global,
     view: V,
     start: usize,
@@ -221,8 +224,8 @@ pub fn copied<V: Len + Copy, C: ExtendFrom<V>>(
     }
 }
 
-/// As `copied`, after the first `front` rows of the view.
-pub fn copied_after<V: Len + Copy, C: ExtendFrom<V>>(
+/// Does the same as `copied`, after the first `front` rows of the view.
+pub fn copied_after<V: Len + Copy, C: Storage + ExtendFrom<V>>(
     alloc: Global,
     view: V,
     front: usize,
@@ -271,7 +274,7 @@ pub fn sum_lists<'a>(lists: &Vecs<View<'a, u64>, View<'a, u64>>) -> u64
     sum
 }
 
-/// The sum of all items of lists, one list after another.
+/// Returns the sum of all items of lists, list by list.
 #[inline(never)]
 pub fn walk_lists<V: Index<Ref: Amount> + Copy, W: Offsets + Drop>(lists: ListIter<V, W>) -> u64 {
     let mut sum = 0u64;
@@ -281,7 +284,7 @@ pub fn walk_lists<V: Index<Ref: Amount> + Copy, W: Offsets + Drop>(lists: ListIt
     sum
 }
 
-/// Pushes each variant with the number of earlier ones of it.
+/// Pushes each variant with the number of earlier rows of the same variant.
 #[inline(never)]
 pub fn push_variants(alloc: Global, variants: &[u8]) -> Result<Discriminant, GrowError>
     ensures sound { IfOk result (λ d. IsSound discriminant_format (owned_forms d.variant.items d.offset.items)) }
@@ -297,7 +300,7 @@ pub fn push_variants(alloc: Global, variants: &[u8]) -> Result<Discriminant, Gro
     Ok(column)
 }
 
-/// The words of a column's encoding.
+/// Returns the words of a column's encoding.
 #[inline(never)]
 pub fn encoded<'a, S: AsBytes<'a>>(alloc: Global, view: &S) -> Option<Vec<u64>>
     requires { IsTrue (representable S.format) }
@@ -307,7 +310,7 @@ pub fn encoded<'a, S: AsBytes<'a>>(alloc: Global, view: &S) -> Option<Vec<u64>>
     Some(words)
 }
 
-/// The bytes of a column's encoding, written where there is room for `room` of them.
+/// Returns the bytes of a column's encoding, written into a vector with capacity for `room` bytes.
 #[inline(never)]
 pub fn written<'a, S: AsBytes<'a>>(alloc: Global, view: &S, room: usize) -> Option<Vec<u8>>
     requires { IsTrue (representable S.format) }
@@ -318,7 +321,7 @@ pub fn written<'a, S: AsBytes<'a>>(alloc: Global, view: &S, room: usize) -> Opti
     Some(bytes)
 }
 
-/// 1 where the bytes are accepted, else 0.
+/// Returns 1 if the bytes are accepted, otherwise 0.
 #[inline(never)]
 pub fn validated<C: Stored>(bytes: &[u8]) -> u64
     requires { IsTrue (representable C.format) }
@@ -326,7 +329,7 @@ pub fn validated<C: Stored>(bytes: &[u8]) -> u64
     validate::<C>(bytes).is_ok() as u64
 }
 
-/// A column of values that come one by one, made by their type.
+/// Returns a column of the values of an iterator, made by their type.
 #[inline(never)]
 pub fn columns<T: Plain + Columnar<Container: Storage + PushRef<T>>>(
     alloc: Global,
@@ -337,7 +340,7 @@ pub fn columns<T: Plain + Columnar<Container: Storage + PushRef<T>>>(
     T::as_columns(alloc, items.iter())
 }
 
-/// Makes a value of each row; None where one is refused.
+/// Makes a value of each row; returns `None` if one is refused.
 #[inline(never)]
 pub fn owned_each<T: FromRow<V::Ref> + Looked, V: Len + Index>(
     alloc: Global,
@@ -351,4 +354,54 @@ pub fn owned_each<T: FromRow<V::Ref> + Looked, V: Len + Index>(
         sum = sum.wrapping_add(value.looked());
     }
     Some(sum)
+}
+
+/// Returns a column of the rows of a view at these places, in their order.
+#[inline(never)]
+pub fn taken<V: Len + Copy, C: Storage + ExtendFrom<V>>(
+    alloc: Global,
+    view: V,
+    places: &[usize],
+) -> Option<C>
+    requires { IsSound V.format (V.content view) }
+    ensures { IfSome result (λ c. IsSound C.format (C.content c)) }
+{
+    let mut column = C::empty(alloc);
+    take_checked(&mut column, view, places).ok()?.ok()?;
+    Some(column)
+}
+
+/// Returns a column of the rows of a view whose bit is set.
+#[inline(never)]
+pub fn filtered<V: Len + Copy, B: Index<Ref = bool> + Len, C: Storage + ExtendFrom<V>>(
+    alloc: Global,
+    view: V,
+    bits: &B,
+) -> Option<C>
+    requires sound { IsSound V.format (V.content view) }
+    requires bits { IsSound B.format (B.content bits.now) }
+    ensures { IfSome result (λ c. IsSound C.format (C.content c)) }
+{
+    if bits.len() != view.len() {
+        return None;
+    }
+    let mut column = C::empty(alloc);
+    filter(&mut column, view, bits).ok()?;
+    Some(column)
+}
+
+/// Returns a column of the rows of two views, merged.
+#[inline(never)]
+pub fn merged<V: Index<Ref: OrderedRow> + Len + Copy, C: Storage + ExtendFrom<V>>(
+    alloc: Global,
+    one: V,
+    other: V,
+) -> Option<C>
+    requires one { IsSound V.format (V.content one) }
+    requires other { IsSound V.format (V.content other) }
+    ensures { IfSome result (λ c. IsSound C.format (C.content c)) }
+{
+    let mut column = C::empty(alloc);
+    merge(&mut column, one, other).ok()?;
+    Some(column)
 }

@@ -1,4 +1,4 @@
-//! What a caller learns of a write, by the contracts alone: none of these has a proof file.
+//! Callers that use only the contracts of writes: none of these functions has a proof file.
 ghost use Rattle.std.specs.Prelude.{◌≡◌, ◌<◌, ◌+◌, ◌-◌, ◌%◌, ◌^◌, ◌↔◌, ℕ, [], length, slice_get, slice_set, Some, OnOk, OnErr, IfSome, IsNone, IsTrue, Ok, true, false};
 ghost use Rattle.columnar_core.specs.Format.{both, IsSound};
 ghost use Rattle.columnar_core.specs.Row.{tuple, first_of, second_of};
@@ -18,7 +18,7 @@ use columnar_core::traits::{Column, Index, Item, Len};
 
 type Pair = (Vec<u64>, Vec<u64>);
 
-/// Writes row `index` of a stash, of any column that takes such rows.
+/// Writes row `index` of a stash, for any column that accepts such rows.
 pub fn writes<T: Item + Drop, C: ContainerBytes + Drop + SetRow<T>, B: ByteStore>(
     stash: &mut Stash<C, B>,
     index: usize,
@@ -35,7 +35,7 @@ pub fn writes<T: Item + Drop, C: ContainerBytes + Drop + SetRow<T>, B: ByteStore
     Ok(())
 }
 
-/// Writes a row of a stash where there is one that the item fits, and tells whether there is.
+/// Writes a row of a stash if there is one that the item may replace; returns whether there is.
 pub fn writes_where_it_fits<T: Item + Drop, C: ContainerBytes + Drop + SetRow<T>, B: ByteStore>(
     stash: &mut Stash<C, B>,
     index: usize,
@@ -61,7 +61,7 @@ pub fn writes_pair<B: ByteStore>(stash: &mut Stash<Pair, B>, index: usize) -> Re
     Ok(())
 }
 
-/// Writes the second field of a pair, and leaves the first.
+/// Writes the second field of a pair; the first stays the same.
 pub fn writes_second<B: ByteStore>(
     stash: &mut Stash<Pair, B>,
     index: usize,
@@ -75,7 +75,7 @@ pub fn writes_second<B: ByteStore>(
     Ok(())
 }
 
-/// Counts one more, in place: n + 1 where row `index` was n.
+/// Increments row `index` in place.
 pub fn counts<B: ByteStore>(stash: &mut Stash<Vec<u64>, B>, index: usize) -> Result<(), GrowError>
     requires sound { IsSound ⟦<Vec<u64> as Column>⟧.format (stash_content stash.old) }
     requires in_range { index < length (⟦<Vec<u64> as Column>⟧.format.rows (stash_content stash.old)) }
@@ -87,7 +87,7 @@ pub fn counts<B: ByteStore>(stash: &mut Stash<Vec<u64>, B>, index: usize) -> Res
     Ok(())
 }
 
-/// Writes the value that is lent of row `index`, of any column that lends one.
+/// Writes row `index` through its `&mut`, for any column that gives one.
 pub fn writes_value<C: ValueMut>(column: &mut C, index: usize, item: C::Value)
 where
     C::Value: Drop,
@@ -98,7 +98,7 @@ where
     *column.value_mut(index) = item;
 }
 
-/// Writes what is lent of the last row; false where there is none.
+/// Writes the last row through its `&mut`; returns false if there is none.
 pub fn writes_last(column: &mut Vec<u64>, item: u64) -> bool
     requires { IsSound ⟦<Vec<u64> as Column>⟧.format (⟦<Vec<u64> as Column>⟧.content column.old) }
     ensures written { IsTrue result → Wrote ⟦<Vec<u64> as Column>⟧.format (⟦<Vec<u64> as Column>⟧.content column.old) (⟦<Vec<u64> as Column>⟧.content column.new) (length (⟦<Vec<u64> as Column>⟧.format.rows (⟦<Vec<u64> as Column>⟧.content column.old)) - 1) (word_row item) }
@@ -112,7 +112,7 @@ pub fn writes_last(column: &mut Vec<u64>, item: u64) -> bool
     }
 }
 
-/// Writes a row through what is lent of it.
+/// Writes a row through its `RowMut`.
 pub fn writes_lent(column: &mut Pair, index: usize)
     requires sound { IsSound ⟦<Pair as Column>⟧.format (⟦<Pair as Column>⟧.content column.old) }
     requires in_range { index < length (⟦<Pair as Column>⟧.format.rows (⟦<Pair as Column>⟧.content column.old)) }
@@ -121,7 +121,7 @@ pub fn writes_lent(column: &mut Pair, index: usize)
     column.get_mut(index).set((7u64, 9u64));
 }
 
-/// Writes a row through a column that is lent, of any column that takes such rows, and tells whether there is one that it fits.
+/// Writes a row through a loan of a column, for any column that accepts such rows; returns whether it was written.
 pub fn writes_through<T: Item + Drop, C: SetRow<T>>(column: &mut C, index: usize, item: T) -> bool
     requires sound { IsSound C.format (C.content column.old) }
     requires valid { T.valid item }
@@ -131,7 +131,7 @@ pub fn writes_through<T: Item + Drop, C: SetRow<T>>(column: &mut C, index: usize
     Lent::new(column).set_checked(index, item)
 }
 
-/// Writes a value of one part, by the part's own field.
+/// Writes a value of one part, through the part's own field.
 pub fn writes_part(column: &mut Pair, index: usize)
     requires sound { IsSound ⟦<Vec<u64> as Column>⟧.format (⟦<Vec<u64> as Column>⟧.content column.old.0) }
     requires in_range { index < length (⟦<Vec<u64> as Column>⟧.format.rows (⟦<Vec<u64> as Column>⟧.content column.old.0)) }

@@ -1,4 +1,4 @@
-//! Tests of rows and cells that are written in place, and callers that learn from the contracts what a write leaves.
+//! Tests of in-place writes of rows and cells, and callers that use only the contracts of writes.
 #![tactic(auto)]
 
 #[cfg(test)]

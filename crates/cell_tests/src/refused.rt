@@ -1,5 +1,5 @@
-//! A write asks for no memory: what is built and written makes as many requests as what is built alone. The check of
-//! refused memory compares the two of each pair of tests, and refuses each request in turn.
+//! Writes allocate nothing: building and writing makes as many allocations as building alone. The check of failed
+//! allocations compares the two tests of each pair, and lets each allocation fail in turn.
 use crate::rows::{writes, writes_item};
 use columnar_cells::items::Field;
 use columnar_core::container::Storage;

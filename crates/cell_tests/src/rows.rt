@@ -1,4 +1,4 @@
-//! What the tests do at a column, each proved once for all columns.
+//! Operations of the tests on a column, each proved once for all columns.
 ghost use Rattle.std.specs.Prelude.{All, IfOk};
 ghost use Rattle.columnar_core.specs.Format.{IsSound};
 
@@ -11,7 +11,7 @@ use std::alloc::Global;
 use std::test::Fail;
 use test_support::columns::reads;
 
-/// A column of these rows.
+/// Creates a column of these rows.
 pub fn column_of<T: Item + Copy, C: Storage + Push<T>>(alloc: Global, rows: &[T]) -> Result<C, Fail>
     requires { All T.valid rows.now }
     ensures { IfOk result (λ c. IsSound C.format (C.content c)) }
@@ -25,7 +25,7 @@ pub fn column_of<T: Item + Copy, C: Storage + Push<T>>(alloc: Global, rows: &[T]
     Ok(column)
 }
 
-/// A column of as many rows as `count`, all of them this one.
+/// Creates a column of `count` equal rows.
 pub fn repeated<T: Item + Copy, C: Storage + Push<T>>(
     alloc: Global,
     count: usize,
@@ -43,7 +43,7 @@ pub fn repeated<T: Item + Copy, C: Storage + Push<T>>(
     Ok(column)
 }
 
-/// Writes row `index` where the item fits.
+/// Writes row `index` if the item may replace it.
 pub fn writes<T: Item + Drop, C: SetRow<T>>(column: &mut C, index: usize, item: T) -> bool
     requires sound { IsSound C.format (C.content column.old) }
     requires valid { T.valid item }
@@ -52,7 +52,7 @@ pub fn writes<T: Item + Drop, C: SetRow<T>>(column: &mut C, index: usize, item: 
     column.set_row_checked(index, item)
 }
 
-/// Writes the item of row `index` at a place where it fits.
+/// Writes the item of row `index` at a position if it may replace the old one.
 pub fn writes_item<P: Copy, T: Item + Drop, C: SetItem<P, T>>(
     column: &mut C,
     index: usize,
@@ -66,7 +66,7 @@ pub fn writes_item<P: Copy, T: Item + Drop, C: SetItem<P, T>>(
     column.set_item_checked(index, at, item)
 }
 
-/// Has a column of these rows the rows `after`, once the item is written to row `index`? None where it is not written.
+/// Tests whether a column of these rows has the rows `after` once row `index` is written; `None` if it is not written.
 pub fn after_a_write<
     T: Item + Copy + PartialEq + Drop,
     C: Storage + Push<T> + SetRow<T> + Index<Ref = T>,

@@ -151,7 +151,7 @@ fn durations_and_boxes(rt: HostRuntime) -> Result<(), Fail> {
     Ok(())
 }
 
-// Has a column of as many bits, all as `bit`, just one other once bit `index` is written the other way?
+// Tests that writing bit `index` of `count` equal bits changes only that bit.
 fn one_bit_turned(alloc: Global, count: usize, bit: bool, index: usize) -> Result<bool, Fail> {
     let mut column: Bools<Vec<u64>, [u64; 2]> = repeated(alloc, count, bit)?;
     if !writes(&mut column, index, !bit) {
@@ -207,7 +207,7 @@ fn the_last_row_is_lent_with_its_column(rt: HostRuntime) -> Result<(), Fail> {
     Ok(())
 }
 
-// Writes the last pair by what is lent of it; false where there is none
+// Writes the last pair through its loan; returns false if there is none.
 fn last_written(pairs: &mut (Vec<u64>, Vec<u64>), item: (u64, u64)) -> bool
     requires { IsSound ⟦<(Vec<u64>, Vec<u64>) as Column>⟧.format (⟦<(Vec<u64>, Vec<u64>) as Column>⟧.content pairs.old) }
 {
@@ -217,7 +217,7 @@ fn last_written(pairs: &mut (Vec<u64>, Vec<u64>), item: (u64, u64)) -> bool
     }
 }
 
-// Writes the last row that may be absent
+// Writes the last row of options.
 fn last_option_written(column: &mut Options<Vec<u64>>, item: Option<u64>) -> bool
     requires { IsSound ⟦<Options<Vec<u64>> as Column>⟧.format (⟦<Options<Vec<u64>> as Column>⟧.content column.old) }
 {
@@ -227,7 +227,7 @@ fn last_option_written(column: &mut Options<Vec<u64>>, item: Option<u64>) -> boo
     }
 }
 
-// Writes the last row of one of two kinds
+// Writes the last row of results.
 fn last_result_written(column: &mut Results<Vec<u64>, Vec<u64>>, item: Result<u64, u64>) -> bool
     requires { IsSound ⟦<Results<Vec<u64>, Vec<u64>> as Column>⟧.format (⟦<Results<Vec<u64>, Vec<u64>> as Column>⟧.content column.old) }
 {
@@ -237,7 +237,7 @@ fn last_result_written(column: &mut Results<Vec<u64>, Vec<u64>>, item: Result<u6
     }
 }
 
-// Writes an item of the last list
+// Writes an item of the last list.
 fn last_list_written(lists: &mut Vecs<Vec<u64>>, at: usize, item: u64) -> bool
     requires { IsSound ⟦<Vecs<Vec<u64>> as Column>⟧.format (⟦<Vecs<Vec<u64>> as Column>⟧.content lists.old) }
 {

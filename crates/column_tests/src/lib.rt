@@ -1,5 +1,5 @@
-//! Tests of stashes, of rows of one of two kinds, and of runs of commands, by `columnar`'s public calls alone. They stand here
-//! and not in `columnar`, so that its tests are proved in two crates, side by side.
+//! Tests of stashes, of results, and of runs of commands, by `columnar`'s public calls. They are a crate of their own,
+//! so that the tests of `columnar` are proved in two crates in parallel.
 #![tactic(auto)]
 
 #[cfg(test)]

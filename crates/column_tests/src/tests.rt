@@ -1,4 +1,4 @@
-// Stashes, rows of one of two kinds, and runs of commands.
+// Stashes, results, and runs of commands.
 mod runs;
 mod stash;
 mod sums;

@@ -46,6 +46,7 @@ pub use Rattle.columnar_nested.specs.NodeRefs
 pub use Rattle.columnar_nested.specs.Refs
 pub use Rattle.columnar_lists.specs.Lists
 pub use Rattle.columnar_lists.specs.Cut
+pub use Rattle.columnar_lists.specs.Each
 pub use Rattle.columnar_lists.specs.Walks
 pub use Rattle.columnar_lists.specs.WalksLeft
 pub use Rattle.columnar_strings.specs.Strings
@@ -60,9 +61,11 @@ pub use Rattle.columnar_base.specs.Arrays
 pub use Rattle.columnar_base.specs.ElementLaws
 pub use Rattle.columnar_base.specs.Elements
 pub use Rattle.columnar_base.specs.Entries
+pub use Rattle.columnar_base.specs.Floats
 pub use Rattle.columnar_base.specs.Numbers
 pub use Rattle.columnar_base.specs.OptionRows
 pub use Rattle.columnar_base.specs.Reads
+pub use Rattle.columnar_base.specs.Digits
 pub use Rattle.columnar_base.specs.ResultRows
 pub use Rattle.columnar_base.specs.SameRows
 pub use Rattle.columnar_base.specs.SameRowsLaws
@@ -89,6 +92,7 @@ pub use Rattle.columnar_primitive.specs.Durations
 pub use Rattle.columnar_primitive.specs.Fixed
 pub use Rattle.columnar_primitive.specs.Held
 pub use Rattle.columnar_primitive.specs.Larges
+pub use Rattle.columnar_primitive.specs.Reals
 pub use Rattle.columnar_primitive.specs.Mapped
 pub use Rattle.columnar_primitive.specs.Stride
 pub use Rattle.columnar_primitive.specs.Tried
@@ -103,6 +107,7 @@ pub use Rattle.columnar_variants.specs.VariantBytes
 pub use Rattle.columnar_variants.specs.VariantByteLaws
 pub use Rattle.columnar_variants.specs.VariantCounts
 pub use Rattle.columnar_variants.specs.Nths
+pub use Rattle.columnar_variants.specs.NthOrders
 pub use Rattle.columnar_variants.specs.BankCases
 pub use Rattle.columnar_variants.specs.BankCopies
 pub use Rattle.columnar_variants.specs.BankEarlier
@@ -142,3 +147,17 @@ pub use Rattle.columnar_variants.specs.MayVariantLaws
 pub use Rattle.columnar_nested.specs.MayTrees
 pub use Rattle.columnar_nested.specs.MayTreeLaws
 pub use Rattle.columnar_lookback.specs.MayEndLaws
+pub use Rattle.columnar_bytes.specs.Streams
+pub use Rattle.columnar_bytes.specs.StreamFaults
+pub use Rattle.columnar_bytes.specs.StoresLeft
+pub use Rattle.columnar_bytes.specs.Exact
+pub use Rattle.columnar_names.specs.Kept
+pub use Rattle.columnar_operators.specs.Partly
+pub use Rattle.columnar_operators.specs.Picks
+pub use Rattle.columnar_operators.specs.PickLaws
+pub use Rattle.columnar_operators.specs.Numbered
+pub use Rattle.columnar_operators.specs.Merged
+pub use Rattle.columnar_operators.specs.MergedLaws
+pub use Rattle.columnar_operators.specs.Searches
+pub use Rattle.columnar_operators.specs.SearchLaws
+pub use Rattle.columnar_operators.specs.SortLaws

@@ -1,3 +1,3 @@
-//! Columns of data that refer to themselves.
+//! Columns of recursive data.
 
 pub mod tree;

@@ -1,3 +1,3 @@
-//! Rows in boxes.
+//! Boxed rows.
 
 pub use columnar_core::boxed::Boxed;

@@ -1,11 +1,11 @@
-//! Traits and types that all columns share.
+//! Traits and types shared by all columns.
 
 pub mod index;
 
 pub use columnar_core::bytes::{AsBytes, FromBytes};
 pub use columnar_core::container::{BorrowIndexAs, Named, PushIndexAs};
 pub use columnar_core::earlier::{Earlier, Kept};
-pub use columnar_core::element::{Element, Primitive, Wide};
+pub use columnar_core::element::{ArrayItem, Element, Primitive, Wide};
 pub use columnar_core::iter::IterOwn;
 pub use columnar_core::metered::{MeteredCounts, MeteredWords};
 pub use columnar_core::ordered::OrderedRow;

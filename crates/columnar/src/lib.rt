@@ -1,6 +1,6 @@
-//! Columns: lists of structured rows, kept in a few flat slices that are read in place from bytes.
+//! Columns: lists of structured rows, stored in a few flat slices that can be read in place from bytes.
 //!
-//! Each item stands here at the path that it has in Rust's `columnar`; what is this library's own stands beside it.
+//! Each item has the path that it has in Rust's `columnar`. Items that only this library has are next to them.
 #![tactic(auto)]
 
 pub mod adts;
@@ -10,6 +10,7 @@ pub mod common;
 pub mod fault;
 pub mod lookback;
 pub mod names;
+pub mod operators;
 pub mod own;
 pub mod primitive;
 pub mod rc;

@@ -1,3 +1,4 @@
-//! Names of slices, by which a fault names a field.
+//! Names of slices, so that a fault can name a field.
 
+pub use columnar_names::fault::{FaultNames, NamedFault};
 pub use columnar_names::names::{NamedParts, Numbered, PartNames, SliceNames};

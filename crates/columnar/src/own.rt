@@ -1,4 +1,4 @@
-//! Values of one's own as rows.
+//! Your own types as rows.
 
 pub use columnar_own::push::{LendRow, PushParts};
 pub use columnar_own::rows::{MakeRow, OwnRow, OwnRows};

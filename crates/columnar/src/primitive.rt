@@ -11,6 +11,7 @@ pub use columnar_primitive::count::Count;
 pub use columnar_primitive::durations::Durations;
 pub use columnar_primitive::empties::Empties;
 pub use columnar_primitive::flat::Flat;
+pub use columnar_primitive::floats::{Doubles, Singles};
 pub use columnar_primitive::larges::{I128s, U128s};
 pub use columnar_primitive::numbers::{Isizes, Usizes};
 pub use columnar_primitive::rule::Rule;

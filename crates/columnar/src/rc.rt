@@ -1,3 +1,3 @@
-//! Views that are shared.
+//! Shared views.
 
 pub use columnar_core::rc::{from_bytes, from_store};

@@ -1,3 +1,3 @@
 //! Strings.
 
-pub use columnar_strings::string::{StringIter, Strings, Text, as_text};
+pub use columnar_strings::string::{Quoted, Shown, StringIter, Strings, Text, as_text};

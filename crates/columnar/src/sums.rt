@@ -1,4 +1,4 @@
-//! Columns of sums, and offsets in unary.
+//! Columns of sum types, and offsets in unary.
 
 pub mod discriminant;
 pub mod option;

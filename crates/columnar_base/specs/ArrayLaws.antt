@@ -12,7 +12,7 @@ use Rattle.columnar_base.specs.Arrays.{filled, array_size, array_bytes, array_ro
 pub length-filled : (n : ℕ) (bs : List ℕ) → length (filled n bs) ≡ n
 length-filled n bs = length-take-le n (bs ++ replicate n 0) (omega (arith, length-append bs (replicate n 0), length-replicate {A = ℕ} n 0))
 
--- bytes that are as many as they should be
+-- bytes of the right number stay
 pub filled_whole : (n : ℕ) (bs : List ℕ) → length bs ≡ n → filled n bs ≡ bs
 filled_whole n bs e = take_at bs (replicate n 0) n e
 
@@ -27,7 +27,7 @@ array_element {T} {size} {bytes} n e = record {
   read_back = λ xs. refl;
 }
 
--- the bytes of an array, one element's after the other's
+-- the bytes of an array: those of its elements in order
 pub array_bytes_are : {T : Type 0} {size : ℕ} {bytes : T → List ℕ} {row_of : List ℕ → Row} {meaning : T → Row} (n : ℕ) → IsElement size bytes row_of meaning → (xs : List T) → 0 < n → length xs ≡ n → array_bytes n size bytes xs ≡ flat_map bytes xs
 array_bytes_are {T} {size} {bytes} zero e xs p l = absurd (omega arith)
 array_bytes_are {T} {size} {bytes} (suc n) e xs p l = filled_whole (size * suc n) (flat_map bytes xs) (length-flat size bytes e.sized xs ∙ ap (λ k. size * k) l)
@@ -41,7 +41,7 @@ array_row_is {T} {size} {bytes} {row_of} (suc n) e xs l =
     let p : pieces size (suc n) (flat_map bytes xs) ≡ map bytes xs = ap (λ k. pieces size k (flat_map bytes xs)) (sym l) ∙ pieces-flat size bytes e.sized xs in
     ap (λ bs. array_row_of (suc n) size row_of bs) b ∙ ap (λ ps. list (map row_of ps)) p ∙ ap list (map_back e xs)
 
--- how many bytes, as far as they can be counted
+-- the number of bytes, as far as a `usize` can count it
 pub array_size_is : (size n s : ℕ) → 1 ≤ size → s ≡ min size (2 ^ 64 - 1) → 0 < n → min (s * n) (2 ^ 64 - 1) ≡ min (array_size size n) (2 ^ 64 - 1)
 array_size_is size zero s p e l = absurd (omega arith)
 array_size_is size (suc n) s p e l =
@@ -53,7 +53,7 @@ array_size_is size (suc n) s p e l =
     omega (arith, a, b, e))
     (cases_lt size (2 ^ 64))
 
--- what is left of two arrays decides whether they are equal
+-- the remaining elements of two arrays decide whether the arrays are equal
 abbrev pub RestDecidesArrays : {T : Type 0} → (T → Row) → List T → List T → Bool → ℕ → Type 0
 RestDecidesArrays meaning xs ys answer i = answer ≡ row_eq (list (map meaning (drop i xs))) (list (map meaning (drop i ys)))
 

@@ -4,12 +4,12 @@ use Rattle.std.specs.List.{flat_map}
 use Rattle.columnar_base.specs.Row.{Row, list}
 use Rattle.columnar_base.specs.Elements.{pieces}
 
--- n bytes: those of bs, and zeros where they are too few
+-- n bytes: the first n of bs, filled up with zeros
 abbrev pub filled : ℕ → List ℕ → List ℕ
 filled n bs = take n (bs ++ replicate n 0)
 
--- How many bytes an array of n elements of `size` bytes has. An array of no elements stands in no bytes: its size is
--- past all that can be held, so no call over bytes takes it.
+-- The number of bytes of an array of n elements of `size` bytes. An array of no elements has no bytes, so its size is
+-- set beyond 2^64 - 1, and no call over bytes takes it.
 abbrev pub array_size : ℕ → ℕ → ℕ
 array_size size zero = 2 ^ 64
 array_size size (suc n) = size * suc n
@@ -18,7 +18,7 @@ array_size size (suc n) = size * suc n
 abbrev pub array_bytes : {T : Type 0} → ℕ → ℕ → (T → List ℕ) → List T → List ℕ
 array_bytes n size bytes xs = filled (array_size size n) (flat_map bytes xs)
 
--- the row that so many bytes are
+-- the row that the bytes represent
 abbrev pub array_row_of : ℕ → ℕ → (List ℕ → Row) → List ℕ → Row
 array_row_of n size row_of bs = list (map row_of (pieces size n bs))
 

@@ -10,14 +10,14 @@ use Rattle.columnar_base.specs.declared.fault.GrowError.{GrowError}
 use Rattle.columnar_base.specs.declared.fault.GrowError.TheVariants.{Memory, Length, Offset, Format as FormatError}
 use Rattle.columnar_base.specs.Change.{Keeps, Grew, Stayed, WasCut, Took, IsTrueOf, Refused}
 
--- what the exit of a `?` returns: the error that it was handed
+-- the exit of a `?` returns the error that it received
 pub passed_on : {T E : Type 0} {e : E} (r : Result T E) → IsErrAnd r (λ y. y ≡ e) → r ≡ Err e
 passed_on r h = let p = err_from_is_err_and r h in p.1 ∙ ap Err p.2
 
 pub keeps_all : {f : Format} {c : Content} {n : ℕ} → Keeps f c c n
 keeps_all = record { extents = λ n l. refl; limits = λ n l e rs. refl }
 
--- growth, and then a cut to the old length, is no change
+-- growth followed by a cut to the old length changes nothing
 pub undone : {f : Format} {old mid new : Content} {added : List Row} → IsLawful f → IsSound f old → Grew f old mid added → WasCut f mid new (length (f.rows old)) → Stayed f old new
 undone {f} {old} {mid} {new} {added} law s g w = record {
   sound = w.sound;
@@ -29,7 +29,7 @@ undone {f} {old} {mid} {new} {added} law s g w = record {
 pub unchanged : {f : Format} {c : Content} → IsSound f c → Stayed f c c
 unchanged s = record { sound = s; rows = refl; lengths_same = refl; kept = keeps_all }
 
--- one refused call after the other
+-- two refused calls in sequence
 pub stayed_twice : {f : Format} {x y z : Content} → Stayed f x y → Stayed f y z → Stayed f x z
 stayed_twice {f} {x} {y} {z} p q = record {
   sound = q.sound;
@@ -38,7 +38,7 @@ stayed_twice {f} {x} {y} {z} p q = record {
   kept = record { extents = λ n l. q.kept.extents n (rw p.rows l) ∙ p.kept.extents n l; limits = λ n l e rs. q.kept.limits n (rw p.rows l) e rs ∙ p.kept.limits n l e rs };
 }
 
--- a refused call leaves what may not be held
+-- a refused call leaves what is refused
 pub refuses_stayed : {f : Format} {x y : Content} → Stayed f x y → (e : Excess) (rs : List Row) → refuses_more f e y rs ≡ refuses_more f e x rs
 refuses_stayed {f} {x} {y} g e rs = ap (λ n. f.refuses e y n rs) (ap length g.rows) ∙ g.kept.limits (length (f.rows x)) (omega arith) e rs
 
@@ -95,20 +95,20 @@ took_stayed {f} {x} {y} {z} {r} p q = record {
   adds = λ e rs h. p.adds e rs (rw (refuses_stayed q e rs) at h);
 }
 
--- growth by just the rows asked for, where alike is equality
+-- growth by exactly the given rows, if alike is equality
 pub grew_exactly : {f : Format} {old new : Content} {added : List Row} → IsExact f.alike → Took f old new added → Grew f old new added
 grew_exactly {f} {old} {new} {added} e t =
     let h = alike_is f.alike e t.fresh added t.alike in
     rw h at t.grew
 
--- an error that is true of one column's rows is true of another's
+-- an error with a true cause at one column has one at another
 pub true_from : (f g : Format) (c d : Content) (rs ss : List Row) (error : GrowError) → ((e : Excess) → refuses_more f e c rs ≡ true → refuses_more g e d ss ≡ true) → IsTrueOf error f c rs → IsTrueOf error g d ss
 true_from f g c d rs ss Memory h t = t
 true_from f g c d rs ss Length h t = h too_many t
 true_from f g c d rs ss Offset h t = h misplaced t
 true_from f g c d rs ss FormatError h t = t
 
--- one more row of the rows from `from` on
+-- one more of the rows from `from` on
 pub took_more : {f : Format} {x y z : Content} (rs : List Row) (from i : ℕ) (r : Row) → from ≤ i → slice_get rs i ≡ Some r → Took f x y (take (i - from) (drop from rs)) → Took f y z (r ∷ []) → Took f x z (take (i + 1 - from) (drop from rs))
 took_more {f} {x} {y} {z} rs from i r l h p q =
     let d = slice_get-drop from rs i (i - from) r (omega arith) h in
@@ -122,7 +122,7 @@ take-front (suc m) zero xs l = absurd (omega arith)
 take-front (suc m) (suc n) [] l = ([], refl)
 take-front (suc m) (suc n) (x ∷ xs) l = let p = take-front m n xs (omega arith) in (p.0, ap (λ t. x ∷ t) p.1)
 
--- a copy row by row that was refused at row i, and undone
+-- a copy row by row that is refused at row i, and rolled back
 pub refused_more : {f : Format} {x y z : Content} {error : GrowError} (rs : List Row) (from i to : ℕ) (r : Row) → IsLawful f → from ≤ i → i < to → slice_get rs i ≡ Some r → Took f x y (take (i - from) (drop from rs)) → IsTrueOf error f y (r ∷ []) → Stayed f x z → Refused f x z (take (to - from) (drop from rs)) error
 refused_more {f} {x} {y} {z} {error} rs from i to r law l m h t cause st = record {
   stayed = st;

@@ -15,7 +15,7 @@ use Rattle.columnar_base.specs.Format.{Content, slice, both, part, plain, IsSoun
 use Rattle.columnar_base.specs.Change.{Keeps, Grew, WasCut, Took, Copied}
 use Rattle.columnar_base.specs.Elements.{pieces, past_count, elements_broken, elements_rows, elements_format, elements, first_slice, word_row, word_row_of, IsElement}
 
--- what breaks no rule of elements is a slice
+-- a content that breaks no rule of elements is a slice
 pub elements_form : (size : ℕ) (c : Content) → elements_broken size c ≡ [] → (bs : List ℕ) × (c ≡ slice bs)
 elements_form size (slice bs) h = (bs, refl)
 elements_form size (both x y) h = cc
@@ -142,7 +142,7 @@ elements_storable size align row_of = record {
 elements_keeps : {align : ℕ} (size : ℕ) (row_of : List ℕ → Row) (old new : Content) (n : ℕ) → Keeps (elements_format size align row_of) old new n
 elements_keeps size row_of old new n = record { extents = λ k l. refl; limits = λ k l e rs. refl }
 
--- the elements ys came after the elements xs
+-- the elements ys follow the elements xs
 pub elements_grew : {align : ℕ} {T : Type 0} {size : ℕ} {bytes : T → List ℕ} {row_of : List ℕ → Row} {meaning : T → Row} → IsElement size bytes row_of meaning → (xs ys : List T) → Grew (elements_format size align row_of) (elements bytes xs) (elements bytes (xs ++ ys)) (map meaning ys)
 elements_grew {T} {size} {bytes} {row_of} {meaning} e xs ys = record {
   sound = elements_sound row_of e (xs ++ ys);
@@ -191,7 +191,7 @@ word_back n = ap number (word_value n)
 pub word_element : IsElement 8 (to_le_bytes w64) word_row_of word_row
 word_element = record { positive = omega arith; sized = λ n. refl; read_back = word_back }
 
--- row i lies within the bytes
+-- the bytes contain row i
 pub within_bytes : (size : ℕ) (row_of : List ℕ → Row) (bs : List ℕ) (i : ℕ) → i < length (elements_rows size row_of (slice bs)) → size * i + size ≤ length bs
 within_bytes size row_of bs i l =
     let k : i < length bs / size = rw (length-elements size row_of bs) at l in
@@ -204,7 +204,7 @@ within_bytes size row_of bs i l =
 pub typed_fine : {T : Type 0} {size : ℕ} {bytes : T → List ℕ} (row_of : List ℕ → Row) {meaning : T → Row} → IsElement size bytes row_of meaning → (xs : List T) (o : ℕ) → None ≡ first (moved o (elements_broken size (elements bytes xs)))
 typed_fine {T} {size} {bytes} row_of e xs o = rw (elements_sound {align = 1} row_of e xs).accepted refl
 
--- row i of a slice of bytes, where the element that was read has its bytes
+-- row i of a slice of bytes, if the element that was read has its bytes
 pub row_read : {T : Type 0} {size : ℕ} {bytes : T → List ℕ} {row_of : List ℕ → Row} {meaning : T → Row} → IsElement size bytes row_of meaning → (bs : List ℕ) (i : ℕ) (x : T) → i < length (elements_rows size row_of (slice bs)) → bytes x ≡ take size (drop (size * i) bs) → slice_get (elements_rows size row_of (slice bs)) i ≡ Some (meaning x)
 row_read {T} {size} {bytes} {row_of} {meaning} e bs i x l h =
     let m : row_of (take size (drop (size * i) bs)) ≡ meaning x = rw (← h) (e.read_back x) in
@@ -214,7 +214,7 @@ take_none : (n : ℕ) → take {A = ℕ} n [] ≡ []
 take_none zero = refl
 take_none (suc n) = refl
 
--- the first n bytes, and then so many more
+-- the first n bytes, then m more
 pub take_next : (n m : ℕ) (bs : List ℕ) → take n bs ++ take m (drop n bs) ≡ take (n + m) bs
 take_next zero m bs = let e : zero + m ≡ m = omega arith in rw e refl
 take_next (suc n) m [] = take_none m ∙ sym (take_none (suc n + m))

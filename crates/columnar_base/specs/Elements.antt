@@ -1,4 +1,4 @@
--- Columns of elements of one size, each in its little-endian bytes.
+-- Columns of elements of one size, stored as little-endian bytes.
 use Rattle.std.specs.Prelude.{ℕ, zero, suc, Bool, false, List, [], ◌∷◌, length, ◌+◌, ◌*◌, ◌/◌, ◌%◌, ◌^◌, ◌-◌, map, take, drop, nat_eq, nat_lt}
 use Rattle.std.specs.List.{flat_map}
 use Rattle.std.specs.Int.{from_le_bytes, w8, w64}
@@ -7,12 +7,12 @@ use Rattle.columnar_base.specs.Row.{Row, number, row_eq}
 use Rattle.columnar_base.specs.Format.{Format, Content, slice, both, part, plain, Fault, fault, unless, misfit, Excess, too_many, misplaced}
 use Rattle.std.proofs.Common.{◌≡◌, ℕ, ◌-◌, ◌≤◌, List, length}
 
--- n pieces of `size` bytes, one after the other
+-- n consecutive pieces of `size` bytes
 abbrev pub pieces : ℕ → ℕ → List ℕ → List (List ℕ)
 pieces size zero bs = []
 pieces size (suc n) bs = take size bs ∷ pieces size n (drop size bs)
 
--- More than 2^64 - 1 rows may not be held.
+-- More than 2^64 - 1 rows are refused.
 abbrev pub past_count : Excess → ℕ → Bool
 past_count too_many n = nat_lt (2 ^ 64 - 1) n
 past_count misplaced n = false
@@ -33,7 +33,7 @@ abbrev pub first_slice : List (List ℕ) → Content
 first_slice [] = plain []
 first_slice (bs ∷ rest) = slice bs
 
--- one slice of elements of `size` bytes, each read by `row_of`, that ask for the alignment `align`
+-- one slice of elements of `size` bytes with the alignment `align`, each read by `row_of`
 abbrev pub elements_format : ℕ → ℕ → (List ℕ → Row) → Format
 elements_format size align row_of = record {
   count = 1;
@@ -53,7 +53,7 @@ elements_format size align row_of = record {
 abbrev pub elements : {T : Type 0} → (T → List ℕ) → List T → Content
 elements bytes xs = slice (flat_map bytes xs)
 
--- the row of a 64-bit number, and of its eight little-endian bytes
+-- the row of a 64-bit number; the row of its eight little-endian bytes
 abbrev pub word_row : ℕ → Row
 word_row n = number (n % 2 ^ 64)
 
@@ -68,7 +68,7 @@ words_format = elements_format 8 8 word_row_of
 abbrev pub bytes_format : Format
 bytes_format = elements_format 1 1 (unsigned_row_of w8)
 
--- how an element is kept: a size, its bytes, and the row that they read as
+-- how an element is stored: its size, its bytes, and the row that they represent
 pub record IsElement {T : Type 0} (size : ℕ) (bytes : T → List ℕ) (row_of : List ℕ → Row) (meaning : T → Row) : Type 0 where
   pub positive : 1 ≤ size
   pub sized : (x : T) → length (bytes x) ≡ size

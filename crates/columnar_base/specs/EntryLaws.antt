@@ -13,7 +13,7 @@ use Rattle.columnar_base.specs.Entries.{Entry, pushed, piece, entry_pieces, HasP
 
 -- one item, pushed
 
--- It is no front that is copied.
+-- A pushed item is not the front of a view.
 pub entered_pushed : {f : Format} {old new : Content} {r : Row} → Took f old new (r ∷ []) → Entered f old new (pushed r)
 entered_pushed t = record { took = t; front = λ n z. cc }
 
@@ -21,13 +21,13 @@ pub pushed_on_ok : {T : Type 0} (f : Format) (old new : Content) (r : Row) (o : 
 pushed_on_ok f old new r (Ok u) h = entered_pushed h
 pushed_on_ok f old new r (Err e) h = tt
 
--- one part, and then the others
+-- one part, then the others
 
 length-joined : (p : Entry) (qs : List Entry) → Level p qs → length (joined_entry p qs).rows ≡ length p.rows
 length-joined p [] h = refl
 length-joined p (q ∷ qs) h = length-tuples p.rows (joined_entry q qs).rows (h.0 ∙ sym (length-joined q qs h.2))
 
--- the first part is given as many rows as the others
+-- the first part receives as many rows as the others
 level_rows : (p q : Entry) (qs : List Entry) → Level p (q ∷ qs) → length p.rows ≡ length (joined_entry q qs).rows
 level_rows p q qs h = h.0 ∙ sym (length-joined q qs h.2)
 
@@ -46,20 +46,20 @@ next_entered a b fs {x} {y} {v} {w} p q qs s l g h =
     let e : (joined_entry q qs).start ≡ p.start = joined_start q qs ∙ sym l.1 in
     pair_copied a (nested b fs) p.start s (level_rows p q qs l) g (rw e at h)
 
--- The first part refused what it was given, and nothing was done to the others.
+-- The first part refused, and the others are unchanged.
 pub first_refused : (a b : Format) (fs : List Format) {x y v : Content} (p q : Entry) (qs : List Entry) {error : GrowError} → IsSound (nested a (b ∷ fs)) (both x y) → Level p (q ∷ qs) → Refused a x v p.rows error → Refused (nested a (b ∷ fs)) (both x y) (both v y) (joined_entry p (q ∷ qs)).rows error
 first_refused a b fs p q qs s l g = pair_refused_left a (nested b fs) p.rows (joined_entry q qs).rows s (level_rows p q qs l) g (unchanged (others_sound a b fs s))
 
--- The others refused what they were given, and the first was cut back.
+-- The others refused, and the first part was cut back.
 pub others_refused : (a b : Format) (fs : List Format) {x y m v w : Content} (p q : Entry) (qs : List Entry) {error : GrowError} → IsLawful a → IsSound (nested a (b ∷ fs)) (both x y) → Level p (q ∷ qs) → Entered a x m p → WasCut a m v (length (a.rows x)) → Refused (nested b fs) y w (joined_entry q qs).rows error → Refused (nested a (b ∷ fs)) (both x y) (both v w) (joined_entry p (q ∷ qs)).rows error
 others_refused a b fs p q qs law s l g k h = pair_refused_right a (nested b fs) p.rows (joined_entry q qs).rows s (level_rows p q qs l) (undone law (first_sound a b fs s) g.took.grew k) h
 
--- what a push of all parts answers, said of the tuple
+-- the result of a push of all parts, stated for the tuple
 pub took_on_ok : {T : Type 0} (a b : Format) (fs : List Format) (x y : Content) (p : Entry) (r : Result T GrowError) → OnOk r (Entered (nested a (b ∷ fs)) x y p) → OnOk r (Took (tuple_format a b fs) x y p.rows)
 took_on_ok a b fs x y p (Ok u) h = under_took (tuple_same a b fs) h.took
 took_on_ok a b fs x y p (Err e) h = tt
 
--- rows copied out of the views of the parts
+-- rows copied from the views of the parts
 
 has_piece : {f : Format} {c : Content} {n start stop : ℕ} → PartOf f c n → start ≤ stop → stop ≤ n → HasPiece f c start stop
 has_piece p o l = record { sound = p.sound; ordered = o; in_range = up_to p l }
@@ -71,7 +71,7 @@ have_pieces a (b ∷ fs) (slice bs) n start stop p o l = absurd p
 have_pieces a (b ∷ fs) (part k u y) n start stop p o l = absurd p
 have_pieces a (b ∷ fs) (plain rs) n start stop p o l = absurd p
 
--- a range of a view of a tuple is one of each part
+-- a range of a view of a tuple is a range of each part
 pub tuple_pieces : (a b : Format) (fs : List Format) {x y : Content} (start stop : ℕ) → IsSound (tuple_format a b fs) (both x y) → start ≤ stop → stop ≤ length (tuples (a.rows x) ((nested b fs).rows y)) → HavePieces a (b ∷ fs) (both x y) start stop
 tuple_pieces a b fs {x} {y} start stop s o l = have_pieces a (b ∷ fs) (both x y) (length (tuples (a.rows x) ((nested b fs).rows y))) start stop (tuple_parts a b fs s) o l
 
@@ -89,7 +89,7 @@ pieces_joined a x b (d ∷ fs) (slice bs) n start stop h = absurd h
 pieces_joined a x b (d ∷ fs) (part l u y) n start stop h = absurd h
 pieces_joined a x b (d ∷ fs) (plain rs) n start stop h = absurd h
 
--- the views of the parts of a well formed view have as many rows
+-- the views of the parts of a well-formed view have equally many rows
 pub views_level : (a b : Format) (fs : List Format) {x y : Content} (start stop : ℕ) → IsSound (tuple_format a b fs) (both x y) → Level (piece a x start stop) (entry_pieces b fs y start stop)
 views_level a b fs {x} {y} start stop s =
     let p = tuple_parts a b fs s in
@@ -98,7 +98,7 @@ views_level a b fs {x} {y} start stop s =
 views_rows : (a b : Format) (fs : List Format) {x y : Content} (start stop : ℕ) → IsSound (tuple_format a b fs) (both x y) → (joined_entry (piece a x start stop) (entry_pieces b fs y start stop)).rows ≡ take (stop - start) (drop start (tuples (a.rows x) ((nested b fs).rows y)))
 views_rows a b fs {x} {y} start stop s = pieces_joined a x b fs y (length (tuples (a.rows x) ((nested b fs).rows y))) start stop (tuple_parts a b fs s).1
 
--- what a copy of all parts answers, said of the tuple
+-- the result of a copy of all parts, stated for the tuple
 pub copied_on_ok : {T : Type 0} (a b : Format) (fs : List Format) (c d : Content) (a' b' : Format) (fs' : List Format) {v w : Content} (start stop : ℕ) → IsSound (tuple_format a' b' fs') (both v w) → (r : Result T GrowError) → OnOk r (Entered (nested a (b ∷ fs)) c d (joined_entry (piece a' v start stop) (entry_pieces b' fs' w start stop))) → OnOk r (Copied (tuple_format a b fs) c d start (take (stop - start) (drop start (tuples (a'.rows v) ((nested b' fs').rows w)))))
 copied_on_ok a b fs c d a' b' fs' {v} {w} start stop s (Ok u) h =
     rw (joined_start (piece a' v start stop) (entry_pieces b' fs' w start stop), views_rows a' b' fs' start stop s) at (under_copied (tuple_same a b fs) h)

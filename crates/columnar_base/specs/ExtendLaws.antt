@@ -40,7 +40,7 @@ extend_stopped {T} {f} {old} {mid} {new} {error} meaning xs x p q =
       cause = rw (b, m) (true_from f f mid old (meaning x ∷ []) (map meaning xs ++ meaning x ∷ []) error (λ e h. p.adds e (meaning x ∷ []) h) q.cause);
     }
 
--- items that were taken up to a refusal, and taken back: none of them was taken
+-- items that were taken up to a refusal, then rolled back: the call took none
 pub refused_whole : {f : Format} {old mid new : Content} {error : GrowError} (items : List Row) → IsLawful f → IsSound f old → StoppedAt f old mid items error → WasCut f mid new (length (f.rows old)) → Refused f old new items error
 refused_whole {f} {old} {mid} {new} {error} items law s h w = record {
   stayed = undone law s h.took.grew w;
@@ -51,7 +51,7 @@ refused_whole {f} {old} {mid} {new} {error} items law s h w = record {
 pub item_row_at : {T : Type 0} (meaning : T → Row) (items : List T) (i : ℕ) (x : T) → i < length items → x ≡ get_or items i x → slice_get (map meaning items) i ≡ Some (meaning x)
 item_row_at meaning items i x l e = slice_get-map meaning items i ∙ ap (option_map meaning) (slice_get_read items (length items) i x refl l e)
 
--- a push that was refused at item i, after the items before it were taken, and then taken back
+-- a push that was refused at item i, after it took the items before, then rolled back
 pub items_refused : {T : Type 0} {f : Format} {old mid refused new : Content} {error : GrowError} (meaning : T → Row) (items : List T) (i : ℕ) (x : T) → IsLawful f → IsSound f old → i < length items → x ≡ get_or items i x → Took f old mid (take (i - 0) (drop 0 (map meaning items))) → Refused f mid refused (meaning x ∷ []) error → WasCut f refused new (length (f.rows old)) → Refused f old new (map meaning items) error
 items_refused meaning items i x law s l e t r w =
     let n : i < length (map meaning items) = rw (length-map items meaning) l in

@@ -42,11 +42,11 @@ pub first_none : (xs : List Fault) → first xs ≡ None → xs ≡ []
 first_none [] h = refl
 first_none (x ∷ xs) h = cc
 
--- no fault of the slices from `at` on: they fit
+-- if the slices from `at` on have no fault, they fit
 pub fits_from : (f : Format) (at : ℕ) (ss : List (List ℕ)) → at + f.count ≤ length ss → None ≡ first (moved at (f.broken (f.build (drop at ss)))) → Fits f at ss
 fits_from f at ss l h = record { room = l; sound = record { accepted = nothing_moved at (f.broken (f.build (drop at ss))) (first_none (moved at (f.broken (f.build (drop at ss)))) (sym h)) } }
 
--- the whole test: room, and then the slices
+-- the whole test: enough slices, then their rules
 pub faults_none_left : (f : Format) (at : ℕ) (ss : List (List ℕ)) → length ss < at + f.count → Some (fault 5 0) ≡ first (faults_at f at ss)
 faults_none_left f at ss l =
     let e : nat_le (at + f.count) (length ss) ≡ false = lt-leb (at + f.count) (length ss) l in
@@ -57,7 +57,7 @@ faults_in_room f at ss l =
     let e : nat_le (at + f.count) (length ss) ≡ true = le-leb (at + f.count) (length ss) l in
     rw e refl
 
--- a content that a test found nothing in is sound
+-- a content in which a test found no fault is sound
 pub sound_from : (f : Format) (c : Content) (o : ℕ) → None ≡ first (moved o (f.broken c)) → IsSound f c
 sound_from f c o h = record { accepted = nothing_moved o (f.broken c) (first_none (moved o (f.broken c)) (sym h)) }
 
@@ -71,7 +71,7 @@ pub fits_on_ok : {A : Type 0} (f : Format) (at : ℕ) (ss : List (List ℕ)) (r 
 fits_on_ok f at ss (Ok x) l h = fits_from f at ss l h
 fits_on_ok f at ss (Err e) l h = tt
 
--- and a content that one accepts is well formed
+-- a content that a test accepts is sound
 pub sound_on_ok : {A : Type 0} (f : Format) (c : Content) (o : ℕ) (r : Result A StoreFault) → verdict r ≡ first (moved o (f.broken c)) → OnOk r (IsSound f c)
 sound_on_ok f c o (Ok x) h = sound_from f c o h
 sound_on_ok f c o (Err e) h = tt

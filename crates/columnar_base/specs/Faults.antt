@@ -1,10 +1,10 @@
--- The numbers of the rules, and the fault that a call answers.
+-- The numbers of the rules, and the fault that a call returns.
 use Rattle.std.specs.Prelude.{ℕ, Option, Some, None, Result, Ok, Err}
 use Rattle.columnar_base.specs.Format.{Fault, fault}
 use Rattle.columnar_base.specs.declared.fault.StoreFault.{StoreFault}
 use Rattle.columnar_base.specs.declared.fault.StoreFault.TheVariants.{NotWords, Empty, FirstOffset, Table, SliceCount, PastEnd, Backwards, ElementSize, HeadSize, Parts, Bounds, Counts, TailBits, Value, Lookback, Stride, Variant, Tree, Length}
 
--- the number of the rule that is broken
+-- the number of the broken rule
 abbrev pub fault_number : StoreFault → ℕ
 fault_number (NotWords s) = 1
 fault_number (Empty s) = 2
@@ -26,7 +26,7 @@ fault_number (Variant s) = 17
 fault_number (Tree s) = 18
 fault_number (Length s) = 19
 
--- the slice at which it is broken
+-- the slice that breaks it
 abbrev pub fault_slice : StoreFault → ℕ
 fault_slice (NotWords s) = s
 fault_slice (Empty s) = s
@@ -52,7 +52,7 @@ fault_slice (Length s) = s
 abbrev pub fault_of : StoreFault → Fault
 fault_of f = fault (fault_number f) (fault_slice f)
 
--- the broken rule that a test names, if any
+-- the broken rule that a test returns, if any
 abbrev pub verdict : {A : Type 0} → Result A StoreFault → Option Fault
 verdict (Ok x) = None
 verdict (Err e) = Some (fault_of e)

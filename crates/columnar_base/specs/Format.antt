@@ -2,19 +2,19 @@
 use Rattle.std.specs.Prelude.{ℕ, Bool, true, false, List, [], ◌∷◌, ◌++◌, length, ◌≡◌, ◌≤◌, ◌+◌, ◌-◌, ◌^◌, take, drop, ◌&&◌, nat_le, nat_lt, map, Option, Some, None, cond}
 use Rattle.columnar_base.specs.Row.{Row}
 
--- What a column holds: its byte slices, part by part. `part l u c` is the rows l..u of c, and `plain` has no bytes.
--- An owned column and a view of the same rows have the same content.
+-- The content of a column: its byte slices, part by part. `part l u c` is the rows l..u of c; `plain` has no bytes. An
+-- owned column and a view of the same rows have the same content.
 pub data Content : Type 0 where
   slice : List ℕ → Content
   both : Content → Content → Content
   part : ℕ → ℕ → Content → Content
   plain : List Row → Content
 
--- a broken rule: its number, and the slice at which it is broken
+-- a broken rule: its number, and the slice that breaks it
 pub data Fault : Type 0 where
   fault : ℕ → ℕ → Fault
 
--- the same faults, of slices that begin n later
+-- the same faults, for slices that start n later
 abbrev pub moved_one : ℕ → Fault → Fault
 moved_one n (fault rule at) = fault rule (n + at)
 
@@ -25,7 +25,7 @@ abbrev pub first : List Fault → Option Fault
 first [] = None
 first (x ∷ xs) = Some x
 
--- the rule x is broken where the test fails
+-- the rule x is broken if the test fails
 abbrev pub unless : Bool → Fault → List Fault
 unless true x = []
 unless false x = x ∷ []
@@ -36,32 +36,32 @@ pub record IsSame (same : Row → Row → Bool) : Type 0 where
   pub symmetric : (r s : Row) → same r s ≡ true → same s r ≡ true
   pub transitive : (r s t : Row) → same r s ≡ true → same s t ≡ true → same r t ≡ true
 
--- it is equality
+-- a relation of rows that is equality
 pub record IsExact (same : Row → Row → Bool) : Type 0 where
   pub exact : (r s : Row) → same r s ≡ true → r ≡ s
 
--- one for one
+-- pairwise, in order
 abbrev pub all_alike : (Row → Row → Bool) → List Row → List Row → Bool
 all_alike same [] [] = true
 all_alike same (r ∷ rs) (s ∷ ss) = same r s && all_alike same rs ss
 all_alike same [] (s ∷ ss) = false
 all_alike same (r ∷ rs) [] = false
 
--- Why rows may not be held: there are too many, here or at some part, for a count or a bound of 64 bits; or one is
--- an offset at a place where its column can't take it.
+-- Why rows are refused. Too many: a count or a bound, here or in some part, would exceed 64 bits. Misplaced: a row is
+-- an offset that its column cannot take at its place.
 pub data Excess : Type 0 where
   too_many : Excess
   misplaced : Excess
 
--- The format of a type of column.
---   count: its number of slices; sizes: the element size of each; aligns: the alignment of each, in bytes
---   turns: how many turns its test takes at most for a byte
---   broken: the rules that a content breaks: those of the parts in slice order, then its own
---   rows: what the content means
---   extent: the lengths of all parts, in bytes, at the first n rows
---   build: the content that the first slices of a list make
---   alike: may the first row stand for the second; kin: does the column's test for equal rows hold of them
---   refuses: may the rows not be held, added to the first n rows of a content
+-- The format of a column type.
+-- count: the number of slices; sizes: the element size of each; aligns: the alignment of each, in bytes
+-- turns: the greatest number of steps that validation takes per byte
+-- broken: the rules that a content breaks: those of the parts in slice order, then its own
+-- rows: the rows of a content
+-- extent: the lengths of all parts, in bytes, at the first n rows
+-- build: the content that the first slices of a list make
+-- alike: may the first row represent the second; kin: does the column's own test find the rows equal
+-- refuses: may the rows not be added after the first n rows of a content
 pub record Format : Type 0 where
   pub count : ℕ
   pub sizes : List ℕ
@@ -89,14 +89,14 @@ lengths (both x y) = lengths x ++ lengths y
 lengths (part l u x) = []
 lengths (plain rs) = []
 
--- how many bytes a content holds
+-- the number of bytes of a content
 abbrev pub bytes_held : Content → ℕ
 bytes_held (slice bs) = length bs
 bytes_held (both x y) = bytes_held x + bytes_held y
 bytes_held (part l u x) = 0
 bytes_held (plain rs) = 0
 
--- how many bytes slices have together
+-- the number of bytes of all slices together
 abbrev pub bytes_of_all : List (List ℕ) → ℕ
 bytes_of_all [] = 0
 bytes_of_all (bs ∷ rest) = length bs + bytes_of_all rest
@@ -105,41 +105,41 @@ bytes_of_all (bs ∷ rest) = length bs + bytes_of_all rest
 pub record IsSound (f : Format) (c : Content) : Type 0 where
   pub accepted : f.broken c ≡ []
 
--- The rows, added to those of c, may not be held.
+-- The rows are refused after those of c.
 abbrev pub refuses_more : Format → Excess → Content → List Row → Bool
 refuses_more f e c rs = f.refuses e c (length (f.rows c)) rs
 
--- What each format of a container keeps to.
+-- The laws of every container format.
 pub record IsLawful (f : Format) : Type 0 where
   -- the lengths at all rows are the lengths
   pub full : (c : Content) → IsSound f c → f.extent c (length (f.rows c)) ≡ lengths c
   -- alike is an equivalence
   pub same : IsSame f.alike
-  -- the test for equal rows is one too, and it holds of rows that are alike
+  -- kin is an equivalence, and rows that are alike are kin
   pub kindred : IsSame f.kin
   pub related : (r s : Row) → f.alike r s ≡ true → f.kin r s ≡ true
-  -- what may not be held may not be held with more after it
+  -- refused rows stay refused if more rows follow them
   pub more : (e : Excess) (c : Content) (n : ℕ) (rs ss : List Row) → f.refuses e c n rs ≡ true → f.refuses e c n (rs ++ ss) ≡ true
 
--- What each format of a type with bytes keeps to.
+-- The laws of every format of a type with bytes.
 pub record IsStorable (f : Format) : Type 0 where
-  -- its test takes at most 16 turns for a byte
+  -- validation takes at most 16 steps per byte
   pub swift : f.turns ≤ 16
   -- each slice has a size and an alignment
   pub sized : length f.sizes ≡ f.count
   pub aligned : length f.aligns ≡ f.count
   -- a well-formed content has as many slices as the type
   pub counted : (c : Content) → IsSound f c → length (slices_of c) ≡ f.count
-  -- the slices of a well-formed content make it again
+  -- the slices of a well-formed content build it again
   pub rebuilt : (c : Content) (rest : List (List ℕ)) → IsSound f c → f.build (slices_of c ++ rest) ≡ c
-  -- what slices make, well formed or not, has just these slices
+  -- a content that slices build has exactly these slices, well-formed or not
   pub built : (ss : List (List ℕ)) → f.count ≤ length ss → slices_of (f.build ss) ≡ take f.count ss
 
--- no content of this form is the format's
+-- the content does not have the form of the format
 abbrev pub misfit : List Fault
 misfit = fault 0 0 ∷ []
 
--- the rules of two parts, one after the other, and then one of both, which the test shows
+-- the rules of two parts, one after the other, then a rule of both, which the test decides
 abbrev pub two_broken : Format → Format → (Content → Content → Bool) → ℕ → Content → List Fault
 two_broken a b test rule (both x y) = a.broken x ++ (moved a.count (b.broken y) ++ unless (test x y) (fault rule 0))
 two_broken a b test rule (slice bs) = misfit
@@ -159,7 +159,7 @@ part_broken f (slice bs) = misfit
 part_broken f (both x y) = misfit
 part_broken f (plain rs) = misfit
 
--- a range of a column's rows: it has no slices of its own
+-- a range of a column's rows, without slices of its own
 abbrev pub part_format : Format → Format
 part_format f = record {
   count = 0;
@@ -179,15 +179,16 @@ abbrev pub are_sizes : List ℕ → Bool
 are_sizes [] = true
 are_sizes (s ∷ ss) = nat_le 1 s && (nat_lt s (2 ^ 63) && are_sizes ss)
 
--- Calls over bytes ask this of the type alone: at most 2^60 slices, of elements of 1 to 2^63 - 1 bytes.
+-- Calls over bytes require this of the type: at most 2^60 slices, of elements of 1 to 2^63 - 1 bytes.
 abbrev pub representable : Format → Bool
 representable f = nat_le f.count (2 ^ 60) && are_sizes f.sizes
 
--- The rules that the slices from `at` on break, counted in the whole store; 5 is SliceCount, of the store as a whole.
+-- The rules that the slices from `at` on break, with slices counted in the whole store. Rule 5, SliceCount, is about
+-- the store as a whole.
 abbrev pub faults_at : Format → ℕ → List (List ℕ) → List Fault
 faults_at f at ss = cond (nat_le (at + f.count) (length ss)) (moved at (f.broken (f.build (drop at ss)))) (fault 5 0 ∷ [])
 
--- the slices from `at` on are there and make a well-formed content
+-- there are enough slices from `at` on, and they make a well-formed content
 pub record Fits (f : Format) (at : ℕ) (ss : List (List ℕ)) : Type 0 where
   pub room : at + f.count ≤ length ss
   pub sound : IsSound f (f.build (drop at ss))

@@ -12,12 +12,15 @@ pub mod ChangeLaws
 pub mod Faults
 pub mod ExtendLaws
 pub mod Reads
+pub mod Digits
+pub mod DigitLaws
 pub mod RowsLeft
 pub mod RowsLeftLaws
 pub mod Elements
 pub mod ElementLaws
 pub mod Numbers
 pub mod NumberLaws
+pub mod Floats
 pub mod Arrays
 pub mod ArrayLaws
 pub mod SameRows

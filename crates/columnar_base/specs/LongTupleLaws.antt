@@ -74,11 +74,11 @@ pub tuple_two : (a b : Format) (fs : List Format) → TwoParts (tuple_format a b
 tuple_two a b [] = record { count = refl; sizes = refl; aligns = refl; build = λ ss. refl; broken = λ c. refl }
 tuple_two a b (g ∷ fs) = record { count = refl; sizes = refl; aligns = refl; build = λ ss. refl; broken = λ c. refl }
 
--- of two parts it is the pair
+-- a tuple of two parts is the pair
 pub tuple_of_two : (a b : Format) → tuple_format a b [] ≡ pair_format a b
 tuple_of_two a b = refl
 
--- no rule is broken in the nest where none is in the parts, and these have as many rows
+-- if no part breaks a rule and all have n rows, the nest breaks no rule
 pub sides_nested : (a : Format) (fs : List Format) (c : Content) (n : ℕ) → IsSound (sides a fs) c → are_level a fs n c ≡ true → PartOf (nested a fs) c n
 sides_nested a [] c n s h = record { sound = s; level = sym (eqb-true n (length (a.rows c)) h) }
 sides_nested a (b ∷ fs) (both x y) n s h =
@@ -95,7 +95,7 @@ sides_nested a (b ∷ fs) (slice bs) n s h = cc
 sides_nested a (b ∷ fs) (part l u x) n s h = cc
 sides_nested a (b ∷ fs) (plain rs) n s h = cc
 
--- and the other way round
+-- the converse
 pub record SidesOf (a : Format) (fs : List Format) (c : Content) (n : ℕ) : Type 0 where
   pub sound : IsSound (sides a fs) c
   pub level : are_level a fs n c ≡ true
@@ -155,14 +155,14 @@ same_tuple p q r = rw (p, q, r) refl
 pub tuple_parts : (a b : Format) (fs : List Format) {x y : Content} → IsSound (tuple_format a b fs) (both x y) → Parts a (b ∷ fs) (both x y) (length (tuples (a.rows x) ((nested b fs).rows y)))
 tuple_parts a b fs {x} {y} s = (nested_sides a (b ∷ fs) (both x y) (length (tuples (a.rows x) ((nested b fs).rows y))) (tuple_back a b fs (both x y) s) refl).parts
 
--- what stands in the tuple stands in a part
+-- a row of the tuple is a row of each part
 pub within : {f : Format} {c : Content} {n i : ℕ} → PartOf f c n → i < n → i < length (f.rows c)
 within p l = omega (arith, p.level, l)
 
 pub up_to : {f : Format} {c : Content} {n i : ℕ} → PartOf f c n → i ≤ n → i ≤ length (f.rows c)
 up_to p l = omega (arith, p.level, l)
 
--- sound parts of as many rows make a sound tuple
+-- sound parts with equally many rows make a sound tuple
 nested_of : (a : Format) (fs : List Format) (c : Content) (n : ℕ) → Parts a fs c n → PartOf (nested a fs) c n
 nested_of a [] c n p = p
 nested_of a (b ∷ fs) (both x y) n p =
@@ -185,7 +185,7 @@ no_rows s e = record { sound = s; level = ap length e }
 
 -- changes
 
--- parts that no call touched
+-- no call touched the parts
 parts_unchanged : (a : Format) (fs : List Format) (c : Content) (n : ℕ) → Parts a fs c n → PartsStayed a fs c c
 parts_unchanged a [] c n p = unchanged p.sound
 parts_unchanged a (b ∷ fs) (both x y) n p = (unchanged p.0.sound, parts_unchanged b fs y n p.1)
@@ -198,7 +198,7 @@ nested_stayed a [] c d s p = p
 nested_stayed a (b ∷ fs) (both x y) (both v w) s p = pair_stayed a (nested b fs) s p.0 (nested_stayed b fs y w (pair_parts a (nested b fs) s).right p.1)
 nested_stayed a (b ∷ fs) _ _ s p = absurd p
 
--- nothing was done yet, to any part
+-- no part has changed yet
 pub tuple_unchanged : (a b : Format) (fs : List Format) {x y : Content} → IsSound (tuple_format a b fs) (both x y) → PartsStayed a (b ∷ fs) (both x y) (both x y)
 tuple_unchanged a b fs {x} {y} s = parts_unchanged a (b ∷ fs) (both x y) (length (tuples (a.rows x) ((nested b fs).rows y))) (tuple_parts a b fs s)
 
@@ -213,13 +213,13 @@ nested_cut a (b ∷ fs) _ _ n s p = absurd p
 pub tuple_cut : (a b : Format) (fs : List Format) {x y v w : Content} (n : ℕ) → IsSound (tuple_format a b fs) (both x y) → PartsCut a (b ∷ fs) (both x y) (both v w) n → WasCut (tuple_format a b fs) (both x y) (both v w) n
 tuple_cut a b fs {x} {y} {v} {w} n s p = under_cut (tuple_same a b fs) (nested_cut a (b ∷ fs) (both x y) (both v w) n (tuple_back a b fs (both x y) s) p)
 
--- what a call over the parts was refused, said of the tuple
+-- the refusal of a call over the parts, stated for the tuple
 pub refused_if_err : {T : Type 0} (a b : Format) (fs : List Format) (x y : Content) (rs : List Row) (r : Result T GrowError) → IfErr r (λ e. Refused (nested a (b ∷ fs)) x y rs e) → IfErr r (λ e. Refused (tuple_format a b fs) x y rs e)
 refused_if_err a b fs x y rs (Ok u) h = tt
 refused_if_err a b fs x y rs (Err e) h = under_refused (tuple_same a b fs) h
 
 -- bytes
 
--- the slices of a tuple fit where those of the nest do
+-- the slices of the nest fit if those of the tuple do
 pub tuple_fits : (a b : Format) (fs : List Format) (o : ℕ) (ss : List (List ℕ)) → Fits (tuple_format a b fs) o ss → Fits (nested a (b ∷ fs)) o ss
 tuple_fits a b fs o ss h = record { room = h.room; sound = (tuple_same a b fs).back _ h.sound }

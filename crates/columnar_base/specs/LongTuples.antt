@@ -1,12 +1,12 @@
--- Columns side by side, two of them and more: rows of several fields. They are the nested pairs of the first part and
--- of the others; but that the parts have as many rows is told once, at the first slice of the whole, after the rules of
--- all parts.
+-- Columns of equal length whose rows have two or more fields: nested pairs of the first part and the rest. The only
+-- rule beyond those of the parts is that all parts have the same number of rows. It is checked last, and reported at
+-- the first slice of the whole.
 use Rattle.std.specs.Prelude.{ℕ, Bool, true, false, List, [], ◌∷◌, length, ◌≡◌, ◌&&◌, nat_eq}
 use Rattle.columnar_base.specs.Format.{Format, Content, slice, both, part, plain, Fault, two_broken, IsSound}
 use Rattle.columnar_base.specs.Change.{Stayed, WasCut}
 use Rattle.columnar_base.specs.Tuples.{pair_format}
 
--- the format f, with these rules in place of its own
+-- the format f with other rules
 abbrev pub under : (Content → List Fault) → Format → Format
 under broken f = record {
   count = f.count;
@@ -22,7 +22,7 @@ under broken f = record {
   refuses = f.refuses;
 }
 
--- one part, or the pair of the first part and of the others, nested
+-- one part, or the nested pair of the first part and the rest
 abbrev pub nested : Format → List Format → Format
 nested a [] = a
 nested a (b ∷ fs) = pair_format a (nested b fs)
@@ -32,7 +32,7 @@ abbrev pub sides : Format → List Format → Format
 sides a [] = a
 sides a (b ∷ fs) = under (two_broken a (sides b fs) (λ x y. true) 0) (nested a (b ∷ fs))
 
--- has each part n rows
+-- each part has n rows
 abbrev pub are_level : Format → List Format → ℕ → Content → Bool
 are_level a [] n c = nat_eq n (length (a.rows c))
 are_level a (b ∷ fs) n (both x y) = nat_eq n (length (a.rows x)) && are_level b fs n y
@@ -40,11 +40,11 @@ are_level a (b ∷ fs) n (slice bs) = false
 are_level a (b ∷ fs) n (part l u x) = false
 are_level a (b ∷ fs) n (plain rs) = false
 
--- have the other parts as many rows as the first
+-- the other parts have as many rows as the first
 abbrev pub tuple_level : Format → Format → List Format → Content → Content → Bool
 tuple_level a b fs x y = are_level b fs (length (a.rows x)) y
 
--- two parts or more of as many rows, side by side; of two it is the pair
+-- two or more parts with equally many rows; for two parts it is the pair
 abbrev pub tuple_format : Format → Format → List Format → Format
 tuple_format a b fs = under (two_broken a (sides b fs) (tuple_level a b fs) 10) (nested a (b ∷ fs))
 
@@ -53,7 +53,7 @@ pub record PartOf (f : Format) (c : Content) (n : ℕ) : Type 0 where
   pub sound : IsSound f c
   pub level : length (f.rows c) ≡ n
 
--- part by part: each is sound, and has n rows
+-- each part is sound and has n rows
 abbrev pub Parts : Format → List Format → Content → ℕ → Type 0
 Parts a [] c n = PartOf a c n
 Parts a (b ∷ fs) (both x y) n = PartOf a x n × Parts b fs y n

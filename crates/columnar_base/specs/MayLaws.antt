@@ -1,4 +1,4 @@
--- What formats refuse, their limits deny.
+-- Limits deny what their formats refuse.
 use Rattle.std.proofs.Common.{◌≡◌, ℕ, ◌+◌, ◌-◌, ◌^◌, ◌≤◌, true, false, List, [], ◌∷◌, ◌++◌, length, map, take, refl, sym, ◌∙◌, ap, subst, arith, inl, inr, ⊎_elim, length-append}
 use Rattle.std.proofs.lemmas.Bool.{or_cases, false≢true, lt-ltb, ltb-true}
 use Rattle.std.proofs.lemmas.List.{map-append}
@@ -23,7 +23,7 @@ nothing_limited {f} h = record { denied = λ e c rs s k. absurd (false≢true (s
 pub part_limited : (f : Format) → IsLimited (part_format f) no_limit
 part_limited f = nothing_limited {f = part_format f} (λ e c n rs. refl)
 
--- a column that refuses too many rows alone
+-- a column that refuses nothing but too many rows
 pub count_limited : {f : Format} → ((e : Excess) (c : Content) → IsSound f c → (n : ℕ) (rs : List Row) → f.refuses e c n rs ≡ past_count e (n + length rs)) → IsLimited f count_limit
 count_limited {f} h = record { denied = λ e c rs s k. ap (past_count e) (length-append (f.rows c) rs) ∙ (sym (h e c s (length (f.rows c)) rs) ∙ k) }
 
@@ -48,7 +48,7 @@ pair_denied a b la lb e (plain us) rs s h = absurd (false≢true h)
 pub pair_limited : (a b : Format) {m n : Limit} → IsLimited a m → IsLimited b n → IsLimited (pair_format a b) (pair_limit m n)
 pair_limited a b {m} {n} la lb = record { denied = pair_denied a b la lb }
 
--- of three parts and more: as the pair of the first and of the others
+-- three or more parts: as the pair of the first part and the rest
 pub tuple_limited : (a b : Format) (fs : List Format) {m : Limit} → IsLimited (nested a (b ∷ fs)) m → IsLimited (tuple_format a b fs) m
 tuple_limited a b fs {m} l = record { denied = λ e c rs s h. l.denied e c rs ((tuple_same a b fs).back c s) h }
 
@@ -61,35 +61,35 @@ solo_limited a {m} l = record {
 
 -- refusals
 
--- what an error that is true of the rows says of them
+-- what a true error says about the rows
 pub cause_denied : {f : Format} {m : Limit} → IsLimited f m → (c : Content) (rs : List Row) (error : GrowError) → IsSound f c → IsTrueOf error f c rs → Denied error m (f.rows c ++ rs)
 cause_denied l c rs Memory s h = tt
 cause_denied l c rs Length s h = l.denied too_many c rs s h
 cause_denied l c rs Offset s h = l.denied misplaced c rs s h
 cause_denied l c rs FormatError s h = h
 
--- What a refused growth says of the rows that would then have stood.
+-- What a refused growth says about the rows that it would have left.
 pub refused_denied : {f : Format} {m : Limit} {old new : Content} {added : List Row} (error : GrowError) → IsLimited f m → IsSound f old → Refused f old new added error → Denied error m (f.rows old ++ added)
 refused_denied {f} {m} {old} {new} {added} error l s g = cause_denied l old added error s g.cause
 
--- The same of items that were pushed one by one, up to the one that was refused.
+-- The same for items that were pushed one by one, up to the refused one.
 pub stopped_denied : {f : Format} {m : Limit} {old new : Content} {items : List Row} (error : GrowError) → IsLimited f m → IsSound f old → (g : StoppedAt f old new items error) → Denied error m (f.rows old ++ take (g.count + 1) items)
 stopped_denied {f} {m} {old} {new} {items} error l s g = cause_denied l old (take (g.count + 1) items) error s g.cause
 
--- An item that is refused by Length or Offset may not be pushed.
+-- An item that is refused with Length or Offset may not be pushed.
 pub length_may_not : {f : Format} {m : Limit} {old new : Content} {item : Row} → IsLimited f m → IsSound f old → Refused f old new (item ∷ []) Length → May m (f.rows old) item → ⊥
 length_may_not {f} {m} {old} {new} {item} l s g h = h too_many (refused_denied Length l s g)
 
 pub offset_may_not : {f : Format} {m : Limit} {old new : Content} {item : Row} → IsLimited f m → IsSound f old → Refused f old new (item ∷ []) Offset → May m (f.rows old) item → ⊥
 offset_may_not {f} {m} {old} {new} {item} l s g h = h misplaced (refused_denied Offset l s g)
 
--- some of the rows
+-- subsequences
 
 pub among_all : (rs : List Row) → AreAmong rs rs
 among_all [] = tt
 among_all (r ∷ rs) = inl (refl, among_all rs)
 
--- with others before them
+-- with other rows before
 pub among_after : (rs us ss : List Row) → AreAmong rs ss → AreAmong rs (us ++ ss)
 among_after rs [] ss h = h
 among_after [] (u ∷ us) ss h = tt
@@ -105,7 +105,7 @@ among_length [] ss h = omega arith
 among_length (r ∷ rs) [] h = absurd h
 among_length (r ∷ rs) (s ∷ ss) h = ⊎_elim (λ (k : (r ≡ s) × AreAmong rs ss). let l = among_length rs ss k.1 in omega (arith, l)) (λ (k : AreAmong (r ∷ rs) ss). let l = among_length (r ∷ rs) ss k in omega (arith, l)) h
 
--- of what is made of each row, one after the other
+-- with each row replaced by a list of rows
 pub among_made : (f : Row → List Row) (g : List Row → List Row) → ((r : Row) (rs : List Row) → g (r ∷ rs) ≡ f r ++ g rs) → (g [] ≡ []) → (rs ss : List Row) → AreAmong rs ss → AreAmong (g rs) (g ss)
 among_made f g e n [] ss h = subst (λ us. AreAmong us (g ss)) (sym n) tt
 among_made f g e n (r ∷ rs) [] h = absurd h

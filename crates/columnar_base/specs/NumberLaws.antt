@@ -5,7 +5,7 @@ use Rattle.columnar_base.specs.Row.{Row, number, integer}
 use Rattle.columnar_base.specs.Elements.{IsElement}
 use Rattle.columnar_base.specs.Numbers.{wrapped, unsigned_row, unsigned_row_of, signed_bytes, signed_row, signed_row_of}
 
--- the bytes of a number read as what the width holds of it
+-- the bytes of a number read as the number modulo the width
 pub number_back : (w : Width) (n : ℕ) → from_le_bytes w (to_le_bytes w n) ≡ wrapped w n
 number_back w8 n = refl
 number_back w16 n = omega arith
@@ -41,6 +41,6 @@ signed_element w = record {
   read_back = λ z. ap (λ n. integer (cast_signed w n)) (number_back w (cast_unsigned w z));
 }
 
--- a value that is kept as the element inside it
+-- a value that is stored as the element inside it
 pub element_inside : {T W : Type 0} (inside : W → T) {size : ℕ} {bytes : T → List ℕ} {row_of : List ℕ → Row} {meaning : T → Row} → IsElement size bytes row_of meaning → IsElement size (λ x. bytes (inside x)) row_of (λ x. meaning (inside x))
 element_inside inside e = record { positive = e.positive; sized = λ x. e.sized (inside x); read_back = λ x. e.read_back (inside x) }

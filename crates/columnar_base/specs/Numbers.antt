@@ -1,9 +1,9 @@
--- Numbers of a fixed width: their bytes, and the rows that the bytes are.
+-- Numbers of a fixed width: their bytes, and the rows of these bytes.
 use Rattle.std.specs.Prelude.{ℕ, ℤ, List, ◌%◌, ◌^◌, ◌*◌}
 use Rattle.std.specs.Int.{Width, byte_len, to_le_bytes, from_le_bytes, cast_signed, cast_unsigned}
 use Rattle.columnar_base.specs.Row.{Row, number, integer}
 
--- what a number is cut to where a width can't hold it
+-- n modulo the width
 abbrev pub wrapped : Width → ℕ → ℕ
 wrapped w n = n % 2 ^ (8 * byte_len w)
 

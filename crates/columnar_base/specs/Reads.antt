@@ -1,7 +1,7 @@
--- What a tally has noted.
+-- What a tally has recorded.
 use Rattle.std.specs.Prelude.{ℕ, List}
 
--- how many counts were read, the numbers of the words that were read, the first of them first, and how many turns loops have taken
+-- the number of counts that were read; the numbers of the words that were read, in order; the number of loop steps
 pub record Reads : Type 0 where
   pub counts : ℕ
   pub words : List ℕ

@@ -1,10 +1,10 @@
--- What a row is, whatever column holds it.
+-- Rows, independent of the column that stores them.
 use Rattle.std.specs.Prelude.{ℕ, ℤ, Bool, true, false, List, [], ◌∷◌, nat_eq, ◌&&◌}
 use Rattle.std.specs.Ordering.{int_eq}
 
--- A row of any type. A list of rows is `empty` or `more`; a tuple of three is a tuple of the first and the tuple of
--- the others; an array is the list of its elements; a team holds the list of its members, a tree its value and the
--- list of its kids.
+-- A row of any type. A list of rows is `empty` or `more`. A tuple of three is a tuple of the first and the tuple of the
+-- others. An array is the list of its elements. A team holds the list of its members, a tree its value and the list of
+-- its children.
 pub data Row : Type 0 where
   number : ℕ → Row
   integer : ℤ → Row
@@ -29,7 +29,7 @@ abbrev pub list : List Row → Row
 list [] = empty
 list (r ∷ rs) = more r (list rs)
 
--- the number that a row is, 0 for any other row
+-- the number of a row, 0 for any other row
 abbrev pub number_of : Row → ℕ
 number_of (number n) = n
 number_of _ = 0
@@ -43,7 +43,7 @@ abbrev pub second_of : Row → Row
 second_of (tuple r s) = s
 second_of _ = unit
 
--- the items of a list, and what stands where it ends
+-- the items of a list; what ends the list
 abbrev pub items_of : Row → List Row
 items_of (more r rs) = r ∷ items_of rs
 items_of _ = []
@@ -57,13 +57,13 @@ abbrev pub bare_tuple : Row → Row
 bare_tuple (tuple r s) = tuple unit unit
 bare_tuple r = r
 
--- do two truth values agree
+-- whether two truth values are equal
 abbrev pub truth_eq : Bool → Bool → Bool
 truth_eq true true = true
 truth_eq false false = true
 truth_eq _ _ = false
 
--- are two rows equal
+-- whether two rows are equal
 abbrev pub row_eq : Row → Row → Bool
 row_eq (number n) (number m) = nat_eq n m
 row_eq (integer n) (integer m) = int_eq n m

@@ -34,7 +34,7 @@ row_eq-refl (solo r) = row_eq-refl r
 row_eq-refl (team r) = row_eq-refl r
 row_eq-refl (tree r s) = and_from _ _ (row_eq-refl r) (row_eq-refl s)
 
--- the test means equality
+-- rows that the test finds equal are equal
 pub row_eq-is : (r s : Row) → row_eq r s ≡ true → r ≡ s
 row_eq-is (number n) (number m) h = ap number (eqb-true n m h)
 row_eq-is (integer n) (integer m) h = ap integer ((Decides-int_eq n m).0 h)
@@ -66,7 +66,7 @@ tuple_again-is : (r : Row) → tuple_again (bare_tuple r) (first_of r) (second_o
 tuple_again-is (tuple r s) = refl
 tuple_again-is _ = refl
 
--- a row is its bare form and its parts
+-- a row is determined by its bare form and its parts
 pub same_tuple : (r s : Row) → bare_tuple r ≡ bare_tuple s → first_of r ≡ first_of s → second_of r ≡ second_of s → r ≡ s
 same_tuple r s a b c = sym (tuple_again-is r) ∙ (rw (a, b, c) (tuple_again-is s))
 
@@ -78,7 +78,7 @@ listed-is : (r : Row) → listed (items_of r) (list_end r) ≡ r
 listed-is (more r s) = ap (more r) (listed-is s)
 listed-is _ = refl
 
--- a row is its items and what stands at their end
+-- a row is determined by its items and what ends them
 pub same_items : (r s : Row) → items_of r ≡ items_of s → list_end r ≡ list_end s → r ≡ s
 same_items r s a b = sym (listed-is r) ∙ (rw (a, b) (listed-is s))
 

@@ -24,7 +24,7 @@ solos_alike a (r ∷ rs) (s ∷ ss) h =
     let p = and_parts (a r s) (all_alike a rs ss) h in
     and_from _ _ p.0 (solos_alike a rs ss p.1)
 
--- it is well formed where the column is
+-- the tuple is sound if the column is
 pub solo_sound : (a : Format) {c : Content} → IsSound a c → IsSound (solo_format a) c
 solo_sound a s = record { accepted = s.accepted }
 
@@ -38,7 +38,7 @@ solo_length a c = length-map (a.rows c) solo
 pub solo_row : (i : ℕ) (rs : List Row) (r : Row) → slice_get rs i ≡ Some r → slice_get (solos rs) i ≡ Some (solo r)
 solo_row i rs r h = slice_get-map solo rs i ∙ (rw h refl)
 
--- rows of one kind may be held where the rows in them may
+-- tuples are refused if and only if the rows in them are
 solo_refuses : (a : Format) (e : Excess) (c : Content) (rs : List Row) → refuses_more (solo_format a) e c rs ≡ refuses_more a e c (onlies rs)
 solo_refuses a e c rs = ap (λ n. a.refuses e c n (onlies rs)) (solo_length a c)
 
@@ -73,7 +73,7 @@ solo_storable a l = record {
 pub same_solo : {a b : Format} → a ≡ b → solo_format a ≡ solo_format b
 same_solo p = rw p refl
 
--- the slices fit where those of the part do
+-- the slices of the part fit if those of the tuple do
 pub solo_fits : (a : Format) (o : ℕ) (ss : List (List ℕ)) → Fits (solo_format a) o ss → Fits a o ss
 solo_fits a o ss h = record { room = h.room; sound = solo_part a h.sound }
 
@@ -123,7 +123,7 @@ solo_piece start n rs = rw (drop-map solo start rs) (take-map solo n (drop start
 pub solo_copied : (a : Format) {x y : Content} (start : ℕ) {rs : List Row} → Copied a x y start rs → Copied (solo_format a) x y start (solos rs)
 solo_copied a {x} {y} start g = record { took = solo_took a g.took; front = λ n z. ap solos (g.front (solos_none (a.rows x) n) z) }
 
--- what a call over the part answers, said of the tuple
+-- the result of a call over the part, stated for the tuple
 pub solo_took_on_ok : {T : Type 0} (a : Format) (x y : Content) (rs : List Row) (r : Result T GrowError) → OnOk r (Took a x y rs) → OnOk r (Took (solo_format a) x y (solos rs))
 solo_took_on_ok a x y rs (Ok u) h = solo_took a h
 solo_took_on_ok a x y rs (Err e) h = tt

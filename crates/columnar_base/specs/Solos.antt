@@ -1,4 +1,4 @@
--- A column alone in a tuple: each row is the tuple of its one row.
+-- Tuples of one column: each row is the tuple of the part's row.
 use Rattle.std.specs.Prelude.{Bool, List, ◌&&◌, map}
 use Rattle.columnar_base.specs.Row.{Row, unit, solo, row_eq}
 use Rattle.columnar_base.specs.Format.{Format}
@@ -8,7 +8,7 @@ abbrev pub only_of : Row → Row
 only_of (solo r) = r
 only_of _ = unit
 
--- such a tuple without its part; any other row as it is
+-- a tuple of one without its part; any other row as it is
 abbrev pub bare_solo : Row → Row
 bare_solo (solo r) = solo unit
 bare_solo r = r
@@ -19,7 +19,7 @@ solos rs = map solo rs
 abbrev pub onlies : List Row → List Row
 onlies rs = map only_of rs
 
--- by the part
+-- compares the parts
 abbrev pub solo_alike : (Row → Row → Bool) → Row → Row → Bool
 solo_alike a r s = row_eq (bare_solo r) (bare_solo s) && a (only_of r) (only_of s)
 

@@ -48,7 +48,7 @@ slice_get-tuples i (x ∷ xs) [] r s p q = cc
 slice_get-tuples zero (x ∷ xs) (y ∷ ys) r s p q = cc
 slice_get-tuples (suc i) (x ∷ xs) (y ∷ ys) r s p q = slice_get-tuples i xs ys r s p q
 
--- the parts of tuples are what they were made of
+-- the parts of tuples are the rows that they were made of
 pub firsts-tuples : (xs ys : List Row) → length xs ≡ length ys → firsts (tuples xs ys) ≡ xs
 firsts-tuples [] ys e = refl
 firsts-tuples (x ∷ xs) [] e = absurd (omega arith)
@@ -60,20 +60,20 @@ seconds-tuples [] (y ∷ ys) e = absurd (omega arith)
 seconds-tuples (x ∷ xs) [] e = absurd (omega arith)
 seconds-tuples (x ∷ xs) (y ∷ ys) e = ap (λ t. y ∷ t) (seconds-tuples xs ys (ap pred e))
 
--- no tuples: nothing in either part
+-- no tuples: no rows in either part
 tuples_none : (xs ys : List Row) → length xs ≡ length ys → tuples xs ys ≡ [] → (xs ≡ []) × (ys ≡ [])
 tuples_none [] [] e h = (refl, refl)
 tuples_none [] (y ∷ ys) e h = absurd (omega arith)
 tuples_none (x ∷ xs) [] e h = absurd (omega arith)
 tuples_none (x ∷ xs) (y ∷ ys) e h = cc
 
--- a range of each of two lists of one length
+-- a range of each of two lists of equal length
 pub length-piece : (xs ys : List Row) (start n : ℕ) → length xs ≡ length ys → length (take n (drop start xs)) ≡ length (take n (drop start ys))
 length-piece xs ys start n e = rw (length-take, length-drop) (rw (length-take n (drop start ys), length-drop start ys, e) refl)
 
 -- part by part
 
--- one of two, where one of two others
+-- a disjunction follows from a disjunction
 pub or_both : (b c d e : Bool) → (b ≡ true → d ≡ true) → (c ≡ true → e ≡ true) → (b || c) ≡ true → (d || e) ≡ true
 or_both true c d e p q h = or_left d e (p refl)
 or_both false c d e p q h = or_right d e (q h)
@@ -93,7 +93,7 @@ tuples_alike a b (r ∷ rs) (u ∷ us) (s ∷ ss) (v ∷ vs) p q e =
     let k = and_parts (b s v) (all_alike b ss vs) q in
     and_from _ _ (and_from _ _ h.0 k.0) (tuples_alike a b rs us ss vs h.1 k.1 (ap pred e))
 
--- what the soundness of a pair is made of
+-- the soundness of both parts, and their equal lengths
 pub record SoundPair (a b : Format) (x y : Content) : Type 0 where
   pub left : IsSound a x
   pub right : IsSound b y
@@ -108,11 +108,11 @@ pair_parts a b {x} {y} s = let p = two_parts (pair_two a b) x y s in record { le
 pub pair_sound : (a b : Format) {x y : Content} → SoundPair a b x y → IsSound (pair_format a b) (both x y)
 pair_sound a b {x} {y} s = two_sound (pair_two a b) x y (record { left = s.left; right = s.right; own = eq-eqb _ _ s.level })
 
--- as many rows as the first part
+-- a pair has as many rows as its first part
 pub length-pair : (a b : Format) {x y : Content} → IsSound (pair_format a b) (both x y) → length (tuples (a.rows x) (b.rows y)) ≡ length (a.rows x)
 length-pair a b {x} {y} s = length-tuples (a.rows x) (b.rows y) (pair_parts a b s).level
 
--- A pair may not take rows where one of the parts may not take its parts of them.
+-- A pair refuses rows if and only if one of the parts refuses its fields.
 pub pair_refuses_more : (a b : Format) {x y : Content} → IsSound (pair_format a b) (both x y) → (e : Excess) (rs : List Row) → refuses_more (pair_format a b) e (both x y) rs ≡ (refuses_more a e x (firsts rs) || refuses_more b e y (seconds rs))
 pair_refuses_more a b {x} {y} s e rs =
     let p = pair_parts a b s in
@@ -158,7 +158,7 @@ pair_storable a b p q = two_storable (pair_two a b) (omega arith) p q
 
 -- changes
 
--- what stays the same in both parts stays the same in the pair
+-- what both parts keep, the pair keeps
 pub pair_keeps : (a b : Format) {x x' y y' : Content} (n : ℕ) {m k : ℕ} → n ≤ m → n ≤ k → Keeps a x x' m → Keeps b y y' k → Keeps (pair_format a b) (both x y) (both x' y') n
 pair_keeps a b n p q g h = record {
   extents = λ i l. let u = g.extents i (omega arith) in let v = h.extents i (omega arith) in cc;
@@ -171,7 +171,7 @@ pair_kept a b {x} {x'} {y} {y'} s g h =
     let n = length-tuples (a.rows x) (b.rows y) p.level in
     pair_keeps a b (length (tuples (a.rows x) (b.rows y))) (omega (arith, n)) (omega (arith, n, p.level)) g h
 
--- both parts grew by as many rows
+-- both parts grew by equally many rows
 pub pair_grew : (a b : Format) {x x' y y' : Content} {rs ss : List Row} → IsSound (pair_format a b) (both x y) → length rs ≡ length ss → Grew a x x' rs → Grew b y y' ss → Grew (pair_format a b) (both x y) (both x' y') (tuples rs ss)
 pair_grew a b {x} {x'} {y} {y'} {rs} {ss} s e g h =
     let p = pair_parts a b s in
@@ -207,7 +207,7 @@ pair_cut a b {x} {x'} {y} {y'} {n} s g h =
 pub pair_none : (a b : Format) {x y : Content} → IsSound a x → IsSound b y → a.rows x ≡ [] → b.rows y ≡ [] → IsSound (pair_format a b) (both x y)
 pair_none a b {x} {y} s t e f = pair_sound a b (record { left = s; right = t; level = rw (e, f) refl })
 
--- what the pair can't hold besides, the old one could not hold with the added rows
+-- what the new pair refuses, the old one refused after the added rows
 pair_adds : (a b : Format) {x x' y y' : Content} (us vs : List Row) → IsSound (pair_format a b) (both x y) → IsSound (pair_format a b) (both x' y') → length us ≡ length vs → ((e : Excess) (rs : List Row) → refuses_more a e x' rs ≡ true → refuses_more a e x (us ++ rs) ≡ true) → ((e : Excess) (rs : List Row) → refuses_more b e y' rs ≡ true → refuses_more b e y (vs ++ rs) ≡ true) → (e : Excess) (rs : List Row) → refuses_more (pair_format a b) e (both x' y') rs ≡ true → refuses_more (pair_format a b) e (both x y) (tuples us vs ++ rs) ≡ true
 pair_adds a b {x} {x'} {y} {y'} us vs s s' l g h e rs k =
     let u : firsts (tuples us vs ++ rs) ≡ us ++ firsts rs = map-append first_of (tuples us vs) rs ∙ ap (λ t. t ++ firsts rs) (firsts-tuples us vs l) in
@@ -231,14 +231,14 @@ pair_copied a b {x} {x'} {y} {y'} {us} {vs} start s e g h = record {
       rw (u, v) refl;
 }
 
--- rows that one of the parts may not take, the pair may not take
+-- the pair refuses rows that one of the parts refuses
 pub pair_refuses_left : (a b : Format) {x y : Content} (us vs : List Row) → IsSound (pair_format a b) (both x y) → length us ≡ length vs → (e : Excess) → refuses_more a e x us ≡ true → refuses_more (pair_format a b) e (both x y) (tuples us vs) ≡ true
 pair_refuses_left a b {x} {y} us vs s l e h = pair_refuses_more a b s e (tuples us vs) ∙ or_left (refuses_more a e x (firsts (tuples us vs))) (refuses_more b e y (seconds (tuples us vs))) (rw (firsts-tuples us vs l) h)
 
 pub pair_refuses_right : (a b : Format) {x y : Content} (us vs : List Row) → IsSound (pair_format a b) (both x y) → length us ≡ length vs → (e : Excess) → refuses_more b e y vs ≡ true → refuses_more (pair_format a b) e (both x y) (tuples us vs) ≡ true
 pair_refuses_right a b {x} {y} us vs s l e h = pair_refuses_more a b s e (tuples us vs) ∙ or_right (refuses_more a e x (firsts (tuples us vs))) (refuses_more b e y (seconds (tuples us vs))) (rw (seconds-tuples us vs l) h)
 
--- the first part refused, and nothing was done to the second; or the second refused, and the first was cut back
+-- the first part refused, and the second is unchanged; or the second refused, and the first was cut back
 pub pair_refused_left : (a b : Format) {x x' y y' : Content} (us vs : List Row) {error : GrowError} → IsSound (pair_format a b) (both x y) → length us ≡ length vs → Refused a x x' us error → Stayed b y y' → Refused (pair_format a b) (both x y) (both x' y') (tuples us vs) error
 pair_refused_left a b {x} {x'} {y} {y'} us vs {error} s e g h = record {
   stayed = pair_stayed a b s g.stayed h;
@@ -251,7 +251,7 @@ pair_refused_right a b {x} {x'} {y} {y'} us vs {error} s e g h = record {
   cause = true_from b (pair_format a b) y (both x y) vs (tuples us vs) error (pair_refuses_right a b us vs s e) h.cause;
 }
 
--- the same of a range of the rows of another pair
+-- the same for a range of rows of another pair
 
 pub pair_copied_piece : (a b : Format) {x x' y y' : Content} (a' b' : Format) (v w : Content) (start n : ℕ) → IsSound (pair_format a b) (both x y) → IsSound (pair_format a' b') (both v w) → Copied a x x' start (take n (drop start (a'.rows v))) → Copied b y y' start (take n (drop start (b'.rows w))) → Copied (pair_format a b) (both x y) (both x' y') start (take n (drop start (tuples (a'.rows v) (b'.rows w))))
 pair_copied_piece a b a' b' v w start n s t g h =
@@ -267,13 +267,13 @@ pair_refused_right_piece a b a' b' v w start n s t g h =
 
 -- reads
 
--- row i of a pair stands in both parts
+-- row i of a pair exists in both parts
 pub pair_within : (a b : Format) {x y : Content} (i : ℕ) → IsSound (pair_format a b) (both x y) → i < length (tuples (a.rows x) (b.rows y)) → (i < length (a.rows x)) × (i < length (b.rows y))
 pair_within a b {x} {y} i s l =
     let n = length-pair a b s in
     (omega arith, omega (arith, (pair_parts a b s).level))
 
--- so do its first i rows
+-- its first i rows exist in both parts
 pub pair_top : (a b : Format) {x y : Content} (i : ℕ) → IsSound (pair_format a b) (both x y) → i ≤ length (tuples (a.rows x) (b.rows y)) → (i ≤ length (a.rows x)) × (i ≤ length (b.rows y))
 pair_top a b {x} {y} i s l =
     let n = length-pair a b s in
@@ -283,7 +283,7 @@ pair_top a b {x} {y} i s l =
 pub same_pair : {a a' b b' : Format} → a ≡ a' → b ≡ b' → pair_format a b ≡ pair_format a' b'
 same_pair {a} {a'} {b} {b'} p q = rw (p, q) refl
 
--- equality, where it is so in both parts
+-- equality, if both parts have equality
 pub pair_exact : (a b : Row → Row → Bool) → IsExact a → IsExact b → IsExact (pair_alike a b)
 pair_exact a b p q = record {
   exact = λ r s h.
@@ -294,7 +294,7 @@ pair_exact a b p q = record {
 
 -- bytes
 
--- both parts fit where the pair does
+-- both parts fit if the pair does
 pub pair_fits : (a b : Format) (o : ℕ) (ss : List (List ℕ)) → Fits (pair_format a b) o ss → Fits a o ss × Fits b (o + a.count) ss
 pair_fits a b o ss h =
     let l : o + (a.count + b.count) ≤ length ss = h.room in

@@ -1,22 +1,22 @@
--- Columns side by side, whose rows are tuples.
+-- Columns of equal length whose rows are tuples.
 use Rattle.std.specs.Prelude.{ℕ, Bool, false, List, [], ◌∷◌, ◌++◌, length, ◌+◌, drop, ◌&&◌, ◌||◌, nat_eq, map}
 use Rattle.columnar_base.specs.Row.{Row, tuple, first_of, second_of, bare_tuple, row_eq}
 use Rattle.columnar_base.specs.Format.{Format, Content, slice, both, part, plain, Fault, two_broken, Excess}
 
--- row by row, as long as both have one
+-- pairwise, up to the end of the shorter list
 abbrev pub tuples : List Row → List Row → List Row
 tuples [] ss = []
 tuples (r ∷ rs) [] = []
 tuples (r ∷ rs) (s ∷ ss) = tuple r s ∷ tuples rs ss
 
--- what the first part is given of the rows, and what the second
+-- the fields of the first part; the fields of the second
 abbrev pub firsts : List Row → List Row
 firsts rs = map first_of rs
 
 abbrev pub seconds : List Row → List Row
 seconds rs = map second_of rs
 
--- have both parts as many rows
+-- whether both parts have the same number of rows
 abbrev pub pair_level : Format → Format → Content → Content → Bool
 pair_level a b x y = nat_eq (length (a.rows x)) (length (b.rows y))
 
@@ -35,18 +35,18 @@ pair_extent a b (slice bs) n = []
 pair_extent a b (part l u x) n = []
 pair_extent a b (plain rs) n = []
 
--- part by part
+-- compares part by part
 abbrev pub pair_alike : (Row → Row → Bool) → (Row → Row → Bool) → Row → Row → Bool
 pair_alike a b r s = row_eq (bare_tuple r) (bare_tuple s) && (a (first_of r) (first_of s) && b (second_of r) (second_of s))
 
--- One of the parts may not hold what it is given of the rows.
+-- One of the parts refuses its fields of the rows.
 abbrev pub pair_refuses : Format → Format → Excess → Content → ℕ → List Row → Bool
 pair_refuses a b e (both x y) n rs = a.refuses e x n (firsts rs) || b.refuses e y n (seconds rs)
 pair_refuses a b e (slice bs) n rs = false
 pair_refuses a b e (part l u x) n rs = false
 pair_refuses a b e (plain rs) n ss = false
 
--- two parts of as many rows, side by side: each row is the tuple of theirs
+-- two parts of equal length: each row is the tuple of the parts' rows
 abbrev pub pair_format : Format → Format → Format
 pair_format a b = record {
   count = a.count + b.count;

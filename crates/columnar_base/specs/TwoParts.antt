@@ -1,4 +1,4 @@
--- Formats of two parts, one after the other: what the tests of the parts say of the whole.
+-- Formats of two parts, one after the other: how the tests of the parts test the whole.
 use Rattle.std.proofs.Common.{◌≡◌, ℕ, ◌+◌, Bool, true, List, [], ◌++◌, drop}
 use Rattle.columnar_base.specs.Format.{Format, Content, both, two_broken, IsSound, Fault, moved}
 
@@ -8,7 +8,7 @@ pub record IsBoth (c : Content) : Type 0 where
   pub right : Content
   pub is : c ≡ both left right
 
--- a format of two parts one after the other, and its own rule over both
+-- a format of two parts, one after the other, with its own rule over both
 pub record TwoParts (f a b : Format) (test : Content → Content → Bool) (rule : ℕ) : Type 0 where
   pub count : f.count ≡ a.count + b.count
   pub sizes : f.sizes ≡ a.sizes ++ b.sizes
@@ -16,7 +16,7 @@ pub record TwoParts (f a b : Format) (test : Content → Content → Bool) (rule
   pub build : (ss : List (List ℕ)) → f.build ss ≡ both (a.build ss) (b.build (drop a.count ss))
   pub broken : (c : Content) → f.broken c ≡ two_broken a b test rule c
 
--- what the soundness of two parts is made of
+-- the soundness of both parts, and the own rule
 pub record SoundTwo (a b : Format) (x y : Content) (test : Bool) : Type 0 where
   pub left : IsSound a x
   pub right : IsSound b y

@@ -1,4 +1,4 @@
--- What the tests of two parts say of the whole.
+-- How the tests of two parts test the whole.
 use Rattle.std.proofs.Common.{◌≡◌, ℕ, zero, suc, ◌+◌, ◌*◌, ◌≤◌, ◌^◌, Bool, true, false, ◌&&◌, List, [], ◌∷◌, ◌++◌, length, take, drop, refl, sym, ◌∙◌, ap, arith, append_assoc, length-append, length-drop}
 use Rattle.std.specs.Prelude.{slice_get, Option, Some, None, nat_le, nat_lt}
 use Rattle.std.proofs.lemmas.List.{drop-drop, map-append}
@@ -33,7 +33,7 @@ two_sound {f} {a} {b} {test} {rule} t x y s = record {
       (nothing_both (moved a.count (b.broken y)) (unless (test x y) (fault rule 0)) (moved_nothing a.count (b.broken y) s.right.accepted) (true_unless (test x y) (fault rule 0) s.own));
 }
 
--- the faults of both parts, and then the own one, counted from `o`
+-- the faults of both parts, then the own one, counted from `o`
 pub two_moved : {f a b : Format} {test : Content → Content → Bool} {rule : ℕ} → TwoParts f a b test rule → (x y : Content) (o : ℕ) → moved o (f.broken (both x y)) ≡ moved o (a.broken x) ++ (moved (o + a.count) (b.broken y) ++ moved o (unless (test x y) (fault rule 0)))
 two_moved {f} {a} {b} {test} {rule} t x y o =
     let e = t.broken (both x y) in
@@ -85,7 +85,7 @@ flat_right [] ys i k b e h = let f : i ≡ k = omega arith in rw f h
 flat_right (x ∷ xs) ys zero k b e h = absurd (omega arith)
 flat_right (x ∷ xs) ys (suc i) k b e h = flat_right xs ys i k b (omega arith) h
 
--- the same over the slices of a store
+-- the same for the slices of a store
 pub two_right_at : {f a b : Format} {test : Content → Content → Bool} {rule : ℕ} → TwoParts f a b test rule → (ss : List (List ℕ)) (o : ℕ) (z : Fault) → None ≡ first (moved o (a.broken (a.build (drop o ss)))) → Some z ≡ first (moved (o + a.count) (b.broken (b.build (drop (o + a.count) ss)))) → Some z ≡ first (moved o (f.broken (f.build (drop o ss))))
 two_right_at {f} {a} {b} t ss o z n h = rw (two_built t ss o) (two_right t (a.build (drop o ss)) (b.build (drop (o + a.count) ss)) o z n h)
 
@@ -128,7 +128,7 @@ representable_count {f} {a} {b} t h =
     let c : f.count ≤ 2 ^ 60 = leb-true f.count (2 ^ 60) p.0 in
     omega (arith, c, t.count)
 
--- turns of both parts are turns of the whole
+-- the steps of both parts are bounded by those of the whole
 pub two_turns : (r a b m n : ℕ) → a ≤ r → b ≤ r → a * m + b * n ≤ r * (m + n)
 two_turns r a b m n p q =
     let u = mul-le-mul_right m p in
@@ -151,19 +151,19 @@ two_slices {f} {a} {b} t ss l p q =
     let y = q (rw length-drop (omega (arith, l, t.count))) in
     rw (t.build ss, t.count, x, y) (take_both a.count b.count ss)
 
--- both parts of what is well formed are well formed
+-- both parts of a sound content are sound
 pub two_sound_left : {f a b : Format} {test : Content → Content → Bool} {rule : ℕ} → TwoParts f a b test rule → (x y : Content) → IsSound f (both x y) → IsSound a x
 two_sound_left t x y s = (two_parts t x y s).left
 
 pub two_sound_right : {f a b : Format} {test : Content → Content → Bool} {rule : ℕ} → TwoParts f a b test rule → (x y : Content) → IsSound f (both x y) → IsSound b y
 two_sound_right t x y s = (two_parts t x y s).right
 
--- as many slices as both parts have
+-- the number of slices of both parts together
 two_all : {f a b : Format} {test : Content → Content → Bool} {rule : ℕ} → TwoParts f a b test rule → IsStorable a → IsStorable b → (x y : Content) → IsSound f (both x y) → length (slices_of x ++ slices_of y) ≡ f.count
 two_all {f} {a} {b} t p q x y s =
     length-append (slices_of x) (slices_of y) ∙ omega (arith, p.counted x (two_sound_left t x y s), q.counted y (two_sound_right t x y s), t.count)
 
--- the slices of both parts make them again
+-- the slices of both parts build them again
 two_again : {f a b : Format} {test : Content → Content → Bool} {rule : ℕ} → TwoParts f a b test rule → IsStorable a → IsStorable b → (x y : Content) (rest : List (List ℕ)) → IsSound f (both x y) → f.build ((slices_of x ++ slices_of y) ++ rest) ≡ both x y
 two_again {f} {a} {b} t p q x y rest s =
     let n = p.counted x (two_sound_left t x y s) in
@@ -173,7 +173,7 @@ two_again {f} {a} {b} t p q x y rest s =
     let v = q.rebuilt y rest (two_sound_right t x y s) in
     rw (t.build ((slices_of x ++ slices_of y) ++ rest), e, u, d, v) refl
 
--- Where both parts can stand in bytes, so can the whole.
+-- The whole is storable if both parts are.
 pub two_storable : {f a b : Format} {test : Content → Content → Bool} {rule : ℕ} → TwoParts f a b test rule → f.turns ≤ 16 → IsStorable a → IsStorable b → IsStorable f
 two_storable {f} {a} {b} t l p q = record {
   swift = l;
@@ -195,7 +195,7 @@ align_right [] ys i k n e h = let f : i ≡ k = omega arith in rw f h
 align_right (x ∷ xs) ys zero k n e h = absurd (omega arith)
 align_right (x ∷ xs) ys (suc i) k n e h = align_right xs ys i k n (omega arith) h
 
--- they come before the own one
+-- the faults of the parts precede the own one
 two_after : {f a b : Format} {test : Content → Content → Bool} {rule : ℕ} → TwoParts f a b test rule → (x y : Content) (o : ℕ) → moved o (f.broken (both x y)) ≡ both_broken a b x y o ++ moved o (unless (test x y) (fault rule 0))
 two_after {f} {a} {b} {test} {rule} t x y o = two_moved t x y o ∙ sym (append_assoc (moved o (a.broken x)) (moved (o + a.count) (b.broken y)) (moved o (unless (test x y) (fault rule 0))))
 
@@ -213,7 +213,7 @@ judged_fine {f} {a} {b} {test} {rule} t x y o n h =
     let e : both_broken a b x y o ≡ [] = first_none (both_broken a b x y o) (sym n) in
     rw (two_after t x y o, e, h) refl
 
--- the same over the slices of a store
+-- the same for the slices of a store
 pub judged_part_at : {f a b : Format} {test : Content → Content → Bool} {rule : ℕ} → TwoParts f a b test rule → (ss : List (List ℕ)) (o : ℕ) (z : Fault) → Some z ≡ first (both_broken a b (a.build (drop o ss)) (b.build (drop (o + a.count) ss)) o) → Some z ≡ first (moved o (f.broken (f.build (drop o ss))))
 judged_part_at {f} {a} {b} t ss o z h = rw (two_built t ss o) (judged_part t (a.build (drop o ss)) (b.build (drop (o + a.count) ss)) o z h)
 
@@ -223,7 +223,7 @@ judged_own_at {f} {a} {b} t ss o n h = rw (two_built t ss o) (judged_own t (a.bu
 pub judged_fine_at : {f a b : Format} {test : Content → Content → Bool} {rule : ℕ} → TwoParts f a b test rule → (ss : List (List ℕ)) (o : ℕ) → None ≡ first (both_broken a b (a.build (drop o ss)) (b.build (drop (o + a.count) ss)) o) → test (a.build (drop o ss)) (b.build (drop (o + a.count) ss)) ≡ true → None ≡ first (moved o (f.broken (f.build (drop o ss))))
 judged_fine_at {f} {a} {b} t ss o n h = rw (two_built t ss o) (judged_fine t (a.build (drop o ss)) (b.build (drop (o + a.count) ss)) o n h)
 
--- no fault of both parts: none of either
+-- no fault of both parts: no fault of either
 pub both_none : (a b : Format) (x y : Content) (o : ℕ) → None ≡ first (moved o (a.broken x)) → None ≡ first (moved (o + a.count) (b.broken y)) → None ≡ first (both_broken a b x y o)
 both_none a b x y o p q = rw (first_none (moved o (a.broken x)) (sym p), first_none (moved (o + a.count) (b.broken y)) (sym q)) refl
 
@@ -233,7 +233,7 @@ both_left a b x y o z h = sym (first_found (moved o (a.broken x)) (moved (o + a.
 pub both_right : (a b : Format) (x y : Content) (o : ℕ) (v : Option Fault) → None ≡ first (moved o (a.broken x)) → v ≡ first (moved (o + a.count) (b.broken y)) → v ≡ first (both_broken a b x y o)
 both_right a b x y o v n h = rw (first_none (moved o (a.broken x)) (sym n)) h
 
--- the slices of both parts fit where those of the whole do
+-- the slices of both parts fit if those of the whole do
 pub two_fits_left : {f a b : Format} {test : Content → Content → Bool} {rule : ℕ} → TwoParts f a b test rule → (o : ℕ) (ss : List (List ℕ)) → Fits f o ss → Fits a o ss
 two_fits_left {f} {a} {b} t o ss h = record {
   room = let r = h.room in omega (arith, r, t.count);

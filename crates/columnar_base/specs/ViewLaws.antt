@@ -34,7 +34,7 @@ pieces_take size k (suc n) bs =
     let y : suc n + k ≡ suc (n + k) = omega arith in
     rw (y, a, b) (ap (λ t. take size bs ∷ t) (pieces_take size k n (drop size bs)))
 
--- the bytes of a range of rows are there
+-- the bytes contain a range of rows
 pub part_within : (size : ℕ) (row_of : List ℕ → Row) (bs : List ℕ) (upper : ℕ) → upper ≤ length (elements_rows size row_of (slice bs)) → size * upper ≤ length bs
 part_within size row_of bs upper l =
     let m = mul-le-mul_left size (rw (length-elements size row_of bs) at l) in

@@ -23,7 +23,7 @@ length-le_bytes xs = length-flat 8 (to_le_bytes w64) word_element.sized xs
 pub word_back : (n : ℕ) → n < 2 ^ 64 → from_le_bytes w64 (to_le_bytes w64 n) ≡ n
 word_back n h = omega arith
 
--- the words of words are these, each below 2^64
+-- the words of the bytes of words are these words, modulo 2^64
 pub words_back : (xs : List ℕ) → words_in (le_bytes xs) ≡ map (λ n. from_le_bytes w64 (to_le_bytes w64 n)) xs
 unfolding words_in
 words_back xs =
@@ -50,7 +50,7 @@ pub words_cut : (xs : List ℕ) (n : ℕ) → words_in (le_bytes (take n xs)) �
 words_cut xs n =
     words_back (take n xs) ∙ sym (take-map (λ n. from_le_bytes w64 (to_le_bytes w64 n)) n xs) ∙ ap (take n) (sym (words_back xs))
 
--- the word at place i is that of eight bytes
+-- the word at index i is read from its eight bytes
 word_piece : (bs : List ℕ) (i : ℕ) → i < length (words_in bs) → slice_index (words_in bs) i ≡ from_le_bytes w64 (take 8 (drop (8 * i) bs))
 unfolding words_in
 word_piece bs i l =
@@ -67,7 +67,7 @@ word_piece bs i l =
 pub word_of_bytes : (bs : List ℕ) (i x : ℕ) → i < length (words_in bs) → x < 2 ^ 64 → to_le_bytes w64 x ≡ take 8 (drop (8 * i) bs) → slice_index (words_in bs) i ≡ x
 word_of_bytes bs i x l h e = word_piece bs i l ∙ (rw (← e) (word_back x h))
 
--- a word depends on its eight bytes alone
+-- a word depends only on its eight bytes
 pub front_number : (bs : List ℕ) → from_le_bytes w64 (take 8 bs) ≡ from_le_bytes w64 bs
 front_number bs =
     let e0 = get_or-take 8 bs 0 0 (omega arith) in
@@ -80,7 +80,7 @@ front_number bs =
     let e7 = get_or-take 8 bs 7 0 (omega arith) in
     rw (e0, e1, e2, e3, e4, e5, e6, e7) refl
 
--- a word that is there
+-- a word exists if its bytes do
 pub word_there : (bs : List ℕ) (i : ℕ) → 8 * i + 8 ≤ length bs → i < length (words_in bs)
 word_there bs i l = omega (arith, length-words_in bs)
 
@@ -88,16 +88,16 @@ pub word_is : (bs : List ℕ) (i : ℕ) → 8 * i + 8 ≤ length bs → slice_in
 unfolding word
 word_is bs i l = word_piece bs i (word_there bs i l) ∙ front_number (drop (8 * i) bs)
 
--- the bytes of word i are there
+-- the bytes of word i exist
 pub word_within : (bs : List ℕ) (i : ℕ) → i < length (words_in bs) → 8 * i + 8 ≤ length bs
 word_within bs i l = omega (arith, length-words_in bs)
 
--- what a view holds is a slice
+-- the content of a view is a slice
 pub items_slice : {T : Type 0} (bytes : T → List ℕ) (i : Items T) → items_content bytes i ≡ slice (bytes_of (items_content bytes i))
 items_slice bytes (Typed xs) = refl
 items_slice bytes (Bytes bs) = refl
 
--- the same of a view that holds these words, and of one that holds these bytes
+-- the same for a view with these words, and for one with these bytes
 pub typed_bytes : (xs bs : List ℕ) → flat_map (to_le_bytes w64) xs ≡ bs → 8 * length xs ≡ length bs
 typed_bytes xs bs h = sym (length-flat 8 (to_le_bytes w64) word_element.sized xs) ∙ ap length h
 

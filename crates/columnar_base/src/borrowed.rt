@@ -20,7 +20,7 @@ impl<'a, T: Element> Len for &'a [T] {
     }
 }
 
-/// Leaves the empty slice; no element is touched.
+/// Leaves the empty slice; no element changes.
 impl<'a, T: Element> Clear for &'a [T] {
     fn clear(&mut self) {
         *self = &[];
@@ -87,14 +87,14 @@ impl<'a, T: Element> Index for &'a Vec<T> {
     }
 }
 
-// How many items a slice has.
+// Returns the number of items of a slice.
 fn count_of<T>(items: &[T]) -> usize
     ensures { result ≡ length items.now }
 {
     items.len()
 }
 
-// Item `index` of a slice.
+// Returns item `index` of a slice; requires that it exists.
 fn shared_at<'a, T>(items: &'a [T], index: usize) -> &'a T
     requires { index < length items.now }
     ensures { slice_get items.now index ≡ Some result.now }

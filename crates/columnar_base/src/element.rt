@@ -1,39 +1,43 @@
-//! What the elements of a `Vec` are: values of one size, each kept in its little-endian bytes.
+//! Elements of a `Vec`: values of a fixed size, stored as little-endian bytes.
 ghost use Rattle.std.specs.Prelude.{◌≡◌, ℕ, ◌<◌, ◌≤◌, ◌-◌, ◌^◌, List, length, min, slice_index};
 ghost use Rattle.columnar_base.specs.Row.{Row, row_eq};
 ghost use Rattle.columnar_base.specs.Elements.{IsElement};
 
 use crate::traits::Item;
+pub use array::ArrayItem;
 
 mod array;
 mod signed;
 mod unsigned;
 mod wrapping;
 
-/// A value of a fixed number of bytes, which a `Vec` keeps as they are, little-endian.
+/// A value of a fixed number of bytes, which a `Vec` stores in little-endian order.
 pub trait Element: Copy + Item {
-    // how many bytes
+    // its number of bytes
     ghost size: { ℕ };
 
-    // the alignment that it asks for, in bytes
+    // its alignment, in bytes
     ghost align: { ℕ };
 
-    // its bytes, the lowest first
+    // its bytes, lowest first
     ghost le_bytes: { Self → List ℕ };
 
-    // the row that so many bytes are
+    // the row that the bytes represent
     ghost row_of: { List ℕ → Row };
 
-    /// How many bytes an element has, at least 1; 2^64 - 1 where they are more.
+    /// Returns the size of an element in bytes, at least 1; 2^64 - 1 if the size is larger.
     fn size() -> usize
         ensures { result ≡ min size (2 ^ 64 - 1) };
 
-    /// The element of these bytes, the lowest first.
+    /// Returns the element of these bytes, lowest first.
+    ///
+    /// # Requires
+    /// As many bytes as the element's size.
     fn from_le_bytes(bytes: &[u8]) -> Self
         requires { length bytes.now ≡ size }
         ensures { le_bytes result ≡ bytes.now };
 
-    /// Are the two equal as rows?
+    /// Returns whether both represent equal rows.
     fn same(&self, other: &Self) -> bool
         ensures { result ≡ row_eq (Self.meaning self.now) (Self.meaning other.now) };
 
@@ -46,15 +50,18 @@ pub trait Element: Copy + Item {
 pub trait Primitive: Element {
     ghost MIN: { Self };
 
-    /// The least.
+    /// The least value.
     const MIN: Self;
 
     ghost MAX: { Self };
 
-    /// The greatest.
+    /// The greatest value.
     const MAX: Self;
 
-    /// Byte `index` of the number, the lowest first.
+    /// Returns byte `index` of the number, lowest first.
+    ///
+    /// # Requires
+    /// `index` below the element's size.
     fn byte(&self, index: usize) -> u8
         requires { index < Self.size }
         ensures { result ≡ slice_index (Self.le_bytes self.now) index };

@@ -1,4 +1,4 @@
-//! Why a call is refused.
+//! Errors: why a call refuses.
 ghost use Rattle.std.specs.Prelude.{◌≡◌};
 ghost use Rattle.columnar_base.specs.Faults.{fault_number, fault_slice};
 ghost use Rattle.columnar_base.specs.declared.fault.GrowError.{GrowError};
@@ -12,140 +12,141 @@ use thiserror::Error;
 /// Why a column did not grow.
 #[derive(Clone, Copy, Debug, PartialEq, Eq, Error)]
 pub enum GrowError {
-    /// A request for memory was refused.
+    /// Out of memory: an allocation was refused.
     #[error("no memory")]
     Memory,
-    /// A count or a bound would pass 2^64 - 1.
-    #[error("a count or a bound would pass 2^64 - 1")]
+    /// A count or a bound would exceed 2^64 - 1.
+    #[error("a count or a bound would exceed 2^64 - 1")]
     Length,
-    /// An offset does not stand where its column could take it.
-    #[error("an offset that its column can't take")]
+    /// A column of offsets cannot take this offset at its place.
+    #[error("the column of bounds cannot store this offset")]
     Offset,
-    /// A value that was to be shown as text failed.
-    #[error("a value could not be shown as text")]
+    /// A value failed to format as text.
+    #[error("a value could not be formatted as text")]
     Format,
 }
 
-/// Why a row was not turned into an owned value.
+/// Why a row was not converted to an owned value.
 #[derive(Clone, Copy, Debug, PartialEq, Eq, Error)]
 pub enum OwnError {
-    /// A request for memory was refused.
+    /// Out of memory: an allocation was refused.
     #[error("no memory")]
     Memory,
-    /// The bytes of a text are no UTF-8.
-    #[error("the bytes of a text are no UTF-8")]
+    /// The bytes of a text are not UTF-8.
+    #[error("the bytes of a text are not UTF-8")]
     Utf8,
-    /// A list has not the length of the array that was asked for.
-    #[error("a list of another length than the array")]
+    /// The length of a list differs from that of the requested array.
+    #[error("the length of a list is not that of the array")]
     WrongLength,
 }
 
 /// Why nothing was encoded.
 #[derive(Clone, Copy, Debug, PartialEq, Eq, Error)]
 pub enum EncodeError {
-    /// A request for memory was refused.
+    /// Out of memory: an allocation was refused.
     #[error("no memory")]
     Memory,
-    /// The number of bytes would pass 2^64 - 1.
-    #[error("the encoding would pass 2^64 - 1 bytes")]
+    /// The encoding would exceed 2^64 - 1 bytes.
+    #[error("the encoding would exceed 2^64 - 1 bytes")]
     Length,
 }
 
-/// Why not all was written.
+/// Why not all bytes were written.
 #[derive(Debug, Drop, Error)]
 pub enum WriteFault<E: Drop> {
-    /// The number of bytes would pass 2^64 - 1; none was written.
-    #[error("the encoding would pass 2^64 - 1 bytes")]
+    /// The encoding would exceed 2^64 - 1 bytes; nothing was written.
+    #[error("the encoding would exceed 2^64 - 1 bytes")]
     Length,
-    /// The writer failed; a beginning of the bytes went out.
+    /// The writer failed; it may have received the first bytes of the encoding.
     #[error("the writer failed")]
     Writer(E),
 }
 
-/// Why no column was made of a store, of its type's form or of the earlier one.
+/// Why a store was not opened as a type's own form or its earlier form.
 #[derive(Clone, Copy, Debug, PartialEq, Eq, Error)]
 pub enum EitherFault {
-    /// The store is accepted for neither form.
+    /// Neither form accepts the store.
     #[error("{0}")]
     Store(StoreFault),
-    /// The store is of the earlier form, and no column was made of it.
+    /// The store has the earlier form, but the column could not be built from it.
     #[error("{0}")]
     Grow(GrowError),
 }
 
-/// Why a tree's values were not summed.
+/// Why the values of a tree were not summed.
 #[derive(Clone, Copy, Debug, PartialEq, Eq, Error)]
 pub enum SumError {
-    /// The sum would pass the largest `usize`.
+    /// The sum would exceed the largest `usize`.
     #[error("the sum would overflow")]
     Overflow,
 }
 
-/// The rule that a byte store breaks, and the number of the slice at which it does, counted from 0 in the whole store;
-/// a rule of the store as a whole is broken at 0, a rule of a column at its first slice.
+/// The rule that a store breaks, and the number of the slice that breaks it.
+/// Slices are counted from 0 in the whole store. A rule of the whole store is reported at slice 0, a rule of a column
+/// at its first slice.
 #[derive(Clone, Copy, Debug, PartialEq, Eq, Error)]
 pub enum StoreFault {
-    /// The store is not made of whole words of eight bytes.
-    #[error("the store is not made of whole words, slice {0}")]
+    /// The store is not a whole number of eight-byte words.
+    #[error("the length of the store is not a multiple of 8 bytes, slice {0}")]
     NotWords(usize),
-    /// The store has no bytes at all.
-    #[error("the store has no bytes, slice {0}")]
+    /// The store has no bytes.
+    #[error("the store is empty, slice {0}")]
     Empty(usize),
     /// The first offset points into its own word, or not to the start of a word.
-    #[error("the first offset points to no word after it, slice {0}")]
+    #[error("the first offset does not point to a later word, slice {0}")]
     FirstOffset(usize),
     /// The table of offsets does not fit in the store.
     #[error("the table of offsets does not fit in the store, slice {0}")]
     Table(usize),
     /// The store has more or fewer slices than the type.
-    #[error("more or fewer slices than the type has, slice {0}")]
+    #[error("the store and its type differ in the number of slices, slice {0}")]
     SliceCount(usize),
-    /// The slice reaches beyond the store.
-    #[error("slice {0} reaches beyond the store")]
+    /// The slice extends past the end of the store.
+    #[error("slice {0} extends past the end of the store")]
     PastEnd(usize),
-    /// The slice's end is below its start.
-    #[error("the end of slice {0} is below its start")]
+    /// The slice ends before it starts.
+    #[error("slice {0} ends before it starts")]
     Backwards(usize),
-    /// The slice does not divide into whole elements.
-    #[error("slice {0} does not divide into whole elements")]
+    /// The slice is not a whole number of elements.
+    #[error("slice {0} is not a whole number of elements long")]
     ElementSize(usize),
-    /// A head or a tail that is not two words, or a count that is not one.
-    #[error("slice {0} is a head, tail or count of another size")]
+    /// A head or a tail is not two words long, or a count is not one word long.
+    #[error("slice {0} is a head, tail or count of the wrong size")]
     HeadSize(usize),
-    /// The column's parts have lengths that don't go together.
-    #[error("parts of lengths that don't go together, slice {0}")]
+    /// The lengths of the column's parts do not match.
+    #[error("the lengths of the column's parts do not match, slice {0}")]
     Parts(usize),
-    /// Bounds that fall, or that don't end at the length of the values.
-    #[error("bounds that fall or end elsewhere than the values, slice {0}")]
+    /// Bounds decrease, or do not end at the length of the values.
+    #[error("the bounds decrease or do not end at the last value, slice {0}")]
     Bounds(usize),
-    /// Counts that are not the numbers of set bits.
-    #[error("counts that are not the numbers of set bits, slice {0}")]
+    /// Counts differ from the numbers of set bits.
+    #[error("the counts are not the numbers of set bits, slice {0}")]
     Counts(usize),
-    /// A tail with too many bits, or with bits set after them.
-    #[error("a tail with too many bits or with bits set after them, slice {0}")]
+    /// A tail has too many bits, or bits set after them.
+    #[error("the tail has too many bits, or set bits after its last, slice {0}")]
     TailBits(usize),
-    /// A value that its type does not have.
-    #[error("a value that its type does not have, slice {0}")]
+    /// The type has no such value.
+    #[error("a value is not one of its type, slice {0}")]
     Value(usize),
-    /// A row that looks back to no stored value.
-    #[error("a row that looks back to no stored value, slice {0}")]
+    /// A row refers back to no stored value.
+    #[error("a row refers back to no stored value, slice {0}")]
     Lookback(usize),
-    /// A stride whose last multiple passes 2^64 - 1.
-    #[error("a stride whose last multiple passes 2^64 - 1, slice {0}")]
+    /// The last multiple of a stride exceeds 2^64 - 1.
+    #[error("the last multiple of a stride exceeds 2^64 - 1, slice {0}")]
     Stride(usize),
-    /// Variants and offsets in none of their legal forms.
-    #[error("variants and offsets in none of their forms, slice {0}")]
+    /// Variants and offsets have none of their legal forms.
+    #[error("the variants and offsets have none of their forms, slice {0}")]
     Variant(usize),
-    /// Groups and bounds that no forest has.
-    #[error("groups and bounds that no forest has, slice {0}")]
+    /// Groups and bounds describe no forest.
+    #[error("the groups and bounds describe no forest, slice {0}")]
     Tree(usize),
-    /// More than 2^64 - 1 rows.
-    #[error("more than 2^64 - 1 rows, slice {0}")]
+    /// There are more than 2^64 - 1 rows.
+    #[error("the column has more than 2^64 - 1 rows, slice {0}")]
     Length(usize),
 }
 
 impl StoreFault {
-    /// The number of the rule that is broken, from 1 to 19.
+    /// Returns the number of the broken rule, from 1 to 19.
     pub fn number(&self) -> u8
         ensures { result ≡ fault_number self.now }
     {
@@ -172,7 +173,7 @@ impl StoreFault {
         }
     }
 
-    /// The number of the slice, counted from 0 in the whole store.
+    /// Returns the number of the slice, counted from 0 in the whole store.
     pub fn slice(&self) -> usize
         ensures { result ≡ fault_slice self.now }
     {
@@ -200,7 +201,7 @@ impl StoreFault {
     }
 }
 
-/// A request for memory that was refused is `Memory`.
+/// Converts a refused allocation to `Memory`.
 impl From<AllocError> for GrowError {
     ghost from_gives = { λ _ e. e ≡ Memory };
 
@@ -209,7 +210,7 @@ impl From<AllocError> for GrowError {
     }
 }
 
-/// A request for memory that was refused is `Memory`; the value that could not be stored is dropped.
+/// Converts a refused allocation to `Memory`, and drops the value that could not be stored.
 impl<T: Drop> From<AllocFailed<T>> for GrowError {
     ghost from_gives = { λ _ e. e ≡ Memory };
 
@@ -218,7 +219,7 @@ impl<T: Drop> From<AllocFailed<T>> for GrowError {
     }
 }
 
-/// A request for memory that was refused is `Memory`.
+/// Converts a refused allocation to `Memory`.
 impl From<AllocError> for EncodeError {
     ghost from_gives = { λ _ e. e ≡ EncodeMemory };
 

@@ -1,10 +1,10 @@
-//! The rows of a column, one after the other.
+//! An iterator over the rows of a column.
 ghost use Rattle.std.specs.Prelude.{◌≡◌, length, drop, Some, IfSome};
 ghost use Rattle.columnar_base.specs.Format.{IsSound};
 
 use crate::traits::{Column, Index, Item, Len};
 
-/// Gives the rows of a column in their order, from a place on.
+/// Iterates over the rows of a column in order, from an index on.
 #[derive(Drop)]
 pub struct IterOwn<S: Column> {
     index: usize,
@@ -15,8 +15,10 @@ pub struct IterOwn<S: Column> {
 impl<S: Column> IterOwn<S> {
     ghost use Rattle.columnar_base.specs.RowsLeft.{rows_left};
 
-    /// The rows of `slice` from row `index` on; none where it has no more rows than that. Asks that the column is well
-    /// formed.
+    /// Iterates over the rows of `slice` from row `index` on; over none if there are at most `index` rows.
+    ///
+    /// # Requires
+    /// A well-formed column.
     pub fn new(index: usize, slice: S) -> Self
         requires { IsSound S.format (S.content slice) }
         ensures { rows_left result ≡ drop index (S.format.rows (S.content slice)) }
@@ -36,7 +38,7 @@ impl<S: Index + Len + Drop> Iterator for IterOwn<S> {
 
     ghost remaining = { item_count rows_left };
 
-    /// The next row; `None` once all were given, and from then on.
+    /// Returns the next row, or `None` after the last one, at every further call.
     fn next(&mut self) -> Option<S::Ref> {
         if self.index >= self.slice.len() {
             return None;
@@ -46,7 +48,7 @@ impl<S: Index + Len + Drop> Iterator for IterOwn<S> {
         Some(row)
     }
 
-    /// How many are left, twice.
+    /// Returns the number of remaining rows as both bounds.
     fn size_hint(&self) -> (usize, Option<usize>)
         ensures lower { IsWithinCount result.0 (item_count rows_left self.now) }
         ensures upper { IfSome result.1 (UpTo (item_count rows_left self.now)) }
@@ -58,7 +60,7 @@ impl<S: Index + Len + Drop> Iterator for IterOwn<S> {
 }
 
 impl<S: Index + Len + Drop> ExactSizeIterator for IterOwn<S> {
-    /// How many are left.
+    /// Returns the number of remaining rows.
     fn len(&self) -> usize {
         self.slice.len().saturating_sub(self.index)
     }

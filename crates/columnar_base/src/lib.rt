@@ -1,5 +1,5 @@
-//! Columns: lists of rows that are stored in a few flat slices of bytes. The definitions, the faults, the traits that ask
-//! nothing of bytes, and views of elements.
+//! Columns: lists of rows stored in a few flat byte slices. Defines faults, views of elements, and the column traits
+//! that do not involve bytes.
 #![tactic(auto)]
 
 mod borrowed;

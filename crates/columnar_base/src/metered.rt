@@ -1,7 +1,7 @@
-//! Views of words that count what is read of them.
+//! Views of words that record what is read from them.
 //!
-//! A body that is generic in `L` and is handed metered views and a `Tally<L>` can read nothing uncounted: it has no
-//! other way to the words, and it can't make a tally of that name.
+//! A body that is generic in `L` and receives metered views and a `Tally<L>` can read nothing unrecorded: it has no
+//! other access to the words, and it cannot make a tally of that name.
 ghost use Rattle.std.specs.Prelude.{◌≡◌, ℕ, ◌<◌, ◌≤◌, ◌+◌, ◌^◌, List, [], ◌∷◌, ◌++◌, length, slice_index};
 ghost use Rattle.columnar_base.specs.WordViews.{bit_words, view_bytes, view_words};
 
@@ -10,7 +10,7 @@ use crate::view::View;
 use crate::words::{word_at, word_count};
 use std::marker::{Model, PhantomData};
 
-/// A list of counts. A read of one is noted as a count.
+/// A list of counts that records each read.
 #[derive(Drop)]
 pub struct MeteredCounts<'a, L> {
     counts: View<'a, u64>,
@@ -27,7 +27,7 @@ impl<'a, L> Model for MeteredCounts<'a, L> {
 }
 
 impl<'a, L> MeteredCounts<'a, L> {
-    /// The counts of the view.
+    /// Wraps the counts of the view.
     pub fn new(counts: View<'a, u64>) -> MeteredCounts<'a, L>
         ensures { result ≡ view_words counts.entry }
     {
@@ -37,7 +37,7 @@ impl<'a, L> MeteredCounts<'a, L> {
         }
     }
 
-    /// How many counts there are.
+    /// Returns the number of counts, always below 2^61.
     pub fn len(&self) -> usize
         ensures count { result ≡ length self.now }
         ensures short { result < 2 ^ 61 }
@@ -45,7 +45,10 @@ impl<'a, L> MeteredCounts<'a, L> {
         word_count(self.counts)
     }
 
-    /// Count `index`, noted in the tally.
+    /// Returns count `index`, and records the read in the tally.
+    ///
+    /// # Requires
+    /// `index` below the number of counts.
     pub fn read(&self, index: usize, tally: &mut Tally<L>) -> u64
         requires { index < length self.now }
         ensures value { result ≡ slice_index self.now index }
@@ -58,8 +61,7 @@ impl<'a, L> MeteredCounts<'a, L> {
     }
 }
 
-/// The words of bits: whole words, and after them the tail's first word. A read of one is noted as a word, with its
-/// number.
+/// The words of bits: whole words, then the first word of the tail. It records the number of each word that is read.
 #[derive(Drop)]
 pub struct MeteredWords<'a, L> {
     values: View<'a, u64>,
@@ -79,7 +81,10 @@ impl<'a, L> Model for MeteredWords<'a, L> {
 }
 
 impl<'a, L> MeteredWords<'a, L> {
-    /// The words of `values`, and after them the first of `tail`. Asks that the tail has one.
+    /// Wraps the words of `values`, followed by the first word of `tail`.
+    ///
+    /// # Requires
+    /// A tail of at least one word.
     pub fn new(values: View<'a, u64>, tail: View<'a, u64>) -> MeteredWords<'a, L>
         requires { 0 < length (view_words tail) }
         ensures { result ≡ bit_words (view_bytes values.entry) (view_bytes tail.entry) }
@@ -91,7 +96,7 @@ impl<'a, L> MeteredWords<'a, L> {
         }
     }
 
-    /// How many words there are, the tail's one too.
+    /// Returns the number of words, the tail's included, at most 2^61.
     pub fn len(&self) -> usize
         ensures count { result ≡ length self.now }
         ensures short { result ≤ 2 ^ 61 }
@@ -100,7 +105,10 @@ impl<'a, L> MeteredWords<'a, L> {
         word_count(values) + 1
     }
 
-    /// Word `index`, noted in the tally.
+    /// Returns word `index`, and records the read in the tally.
+    ///
+    /// # Requires
+    /// `index` below the number of words.
     pub fn read(&self, index: usize, tally: &mut Tally<L>) -> u64
         requires { index < length self.now }
         ensures value { result ≡ slice_index self.now index }
@@ -112,8 +120,10 @@ impl<'a, L> MeteredWords<'a, L> {
         word_or_tail(self.values, self.tail, index)
     }
 
-    /// Word `at`, which is one of the whole words and not the tail's, noted in the tally: as `read`, and does not ask
-    /// which of the two it is.
+    /// Returns the whole word `at`, and records the read in the tally. It skips the test of `read` for the tail's word.
+    ///
+    /// # Requires
+    /// `at` below the number of whole words.
     pub fn read_whole(&self, at: usize, tally: &mut Tally<L>) -> u64
         requires { at + 1 < length self.now }
         ensures value { result ≡ slice_index self.now at }
@@ -126,7 +136,10 @@ impl<'a, L> MeteredWords<'a, L> {
     }
 }
 
-/// Word `index` of whole words with the tail's first word after them.
+/// Returns word `index` of the whole words followed by the tail's first word.
+///
+/// # Requires
+/// A tail of at least one word, and `index` below the number of words.
 pub fn word_or_tail(values: View<'_, u64>, tail: View<'_, u64>, index: usize) -> u64
     requires tail { 0 < length (view_words tail) }
     requires in_range { index < length (bit_words (view_bytes values) (view_bytes tail)) }

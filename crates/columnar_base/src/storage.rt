@@ -1,4 +1,4 @@
-//! What an owned column does that names no view.
+//! Traits of owned columns that do not involve views.
 ghost use Rattle.std.specs.Prelude.{◌≡◌, ℕ, ◌≤◌, ◌<◌, ◌↔◌, length, [], IfOk, IfErr, IsNone, IfNone, OnSome};
 ghost use Rattle.columnar_base.specs.Format.{Content, Format, IsSound, IsLawful};
 ghost use Rattle.columnar_base.specs.Change.{Stayed, WasCut};
@@ -7,16 +7,23 @@ use crate::fault::GrowError;
 use crate::traits::{Clear, Column, Len};
 use std::alloc::Global;
 
-/// A column that can be cut to its first rows. It is all that a column over parts asks of a part to take back what
-/// that part had taken before another was refused.
+/// A column that can be cut to its first rows. A column of several parts requires only this trait to roll a part back
+/// after another part refuses.
 pub trait Truncate: Len {
-    /// Keeps the first `n` rows. Needs no memory.
+    /// Keeps the first `n` rows; allocates nothing.
+    ///
+    /// # Requires
+    /// A well-formed column of at least `n` rows.
     fn truncate(&mut self, n: usize)
         requires sound { IsSound Self.format (Self.content self.old) }
         requires in_range { n ≤ length (Self.format.rows (Self.content self.old)) }
         ensures { WasCut Self.format (Self.content self.old) (Self.content self.new) n };
 
-    /// Keeps the first `n` rows; None where there are not as many, and then nothing changes. Needs no memory.
+    /// Keeps the first `n` rows; allocates nothing. Returns `None` and changes nothing if there are fewer than `n`
+    /// rows.
+    ///
+    /// # Requires
+    /// A well-formed column.
     final fn truncate_checked(&mut self, n: usize) -> Option<()>
         requires { IsSound Self.format (Self.content self.old) }
         ensures none { IsNone result ↔ (length (Self.format.rows (Self.content self.old)) < n) }
@@ -33,28 +40,37 @@ pub trait Truncate: Len {
     ghost lawful: { IsLawful Self.format };
 }
 
-/// What an owned column does that names no view.
+/// What an owned column does without views.
 pub trait Storage: Truncate + Clear + Drop {
-    /// A column without rows.
+    /// Returns a column without rows.
     fn empty(alloc: Global) -> Self
         ensures sound { IsSound Self.format (Self.content result) }
         ensures rows { Self.format.rows (Self.content result) ≡ [] };
 
-    /// A column of the same rows and slices; want of memory alone refuses it.
+    /// Copies the column: the same rows in the same slices.
+    ///
+    /// # Errors
+    /// `Memory`, and no other error.
     fn duplicate(&self, alloc: Global) -> Result<Self, GrowError>
         ensures content { IfOk result (λ c. Self.content c ≡ Self.content self.now) }
         ensures memory { IfErr result (λ e. e ≡ GrowError.Memory) };
 }
 
-/// A column that makes room for rows to come.
+/// A column that can reserve capacity for rows.
 pub trait Reserve: Column {
-    /// How much room the slices of columns take together.
+    /// How much capacity the slices of columns need together.
     type Room: Copy;
 
-    /// Room for nothing.
+    /// Returns the capacity of no columns.
     fn no_room() -> Self::Room;
 
-    /// Makes room; the rows stay.
+    /// Reserves capacity. The rows and the lengths of all parts stay.
+    ///
+    /// # Requires
+    /// A well-formed column.
+    ///
+    /// # Errors
+    /// `Memory`, and no other error.
     fn reserve_room(&mut self, room: Self::Room) -> Result<(), GrowError>
         requires { IsSound Self.format (Self.content self.old) }
         ensures stayed { Stayed Self.format (Self.content self.old) (Self.content self.new) }

@@ -1,11 +1,11 @@
-//! A tally notes, for clauses alone, what a function has read and how many turns its loops have taken.
-//! Nothing here takes a byte or a step when it runs: a tally has no fields that are stored, and its methods do nothing.
+//! A tally records, for contracts only, what a function reads and how many steps its loops take. It costs nothing at
+//! run time: a tally stores no fields, and its methods do nothing.
 ghost use Rattle.std.specs.Prelude.{◌≡◌, ℕ, ◌+◌, List, [], ◌∷◌, ◌++◌};
 ghost use Rattle.std.specs.Borrow.{ftrue};
 
 use std::marker::{Model, PhantomData};
 
-// Numbers noted one after another, for proofs alone. It takes no bytes, and owns nothing.
+// A list of recorded numbers, for proofs only. It takes no bytes and owns nothing.
 #[derive(Drop)]
 struct Trail {
     ghost items: { List ℕ },
@@ -15,7 +15,7 @@ impl Model for Trail {
     ghost also_owns = { λ _. ftrue };
 }
 
-// A trail is bound to nothing in memory, so its clauses alone say what it holds. Their proofs are by hand.
+// Nothing in memory backs a trail, so only its clauses say what it holds. Their proofs are by hand.
 impl Trail {
     #[inline(always)]
     fn new() -> Trail
@@ -32,17 +32,20 @@ impl Trail {
     }
 }
 
-/// The name of a tally that anyone may make.
+/// The name of a tally that any function may make.
 #[derive(Clone, Copy, Drop)]
 pub struct Plain;
 
-/// What was read, and how many turns were taken, under the name `L`.
+/// The reads and the steps that are recorded under the name `L`. It takes no bytes at run time.
 ///
-/// Contracts see a tally as a `Reads`: how many counts were read, the numbers of the words that were read, in their order, and how many turns loops have taken.
-/// Only a `Tally<Plain>` can be made. So a body that is generic in `L` can neither make a second `Tally<L>` nor set the one that it was handed back.
-/// It could make a `Tally<Plain>` for a callee, or read past the metered views: no type forbids that, so `.ci/checks/tallied_bodies` looks for it in the code.
-/// That holds of bodies whose proof Rattle makes. Nothing in memory ties a tally to what it has noted, so a proof that is written by hand, as `Proof.antt`, can set it to anything. None but those of this file may be about a tally.
-/// It takes no bytes when it runs.
+/// Contracts see a tally as a `Reads`: the number of counts that were read, the numbers of the words that were read, in
+/// order, and the number of loop steps.
+/// Only a `Tally<Plain>` can be made. So a body that is generic in `L` can neither make a second `Tally<L>` nor reset
+/// the one that it receives.
+/// It could make a `Tally<Plain>` for a callee, or read past the metered views. No type forbids that, so
+/// `.ci/checks/tallied_bodies` searches the code for it.
+/// This holds for bodies that Rattle proves itself. Nothing in memory backs a tally, so a proof by hand (`Proof.antt`)
+/// can set it to anything. Only the proofs of this file may be by hand.
 #[derive(Drop)]
 pub struct Tally<L = Plain> {
     counts: Trail,
@@ -61,7 +64,7 @@ impl<L> Model for Tally<L> {
 }
 
 impl Tally<Plain> {
-    /// Answers a tally that has noted nothing: no count, no word and no turn. It does nothing when it runs.
+    /// Returns a tally without records: no counts, words or steps. Does nothing at run time.
     #[inline(always)]
     pub fn new() -> Tally<Plain>
         ensures { result ≡ record { counts = 0; words = []; turns = 0 } }
@@ -76,7 +79,7 @@ impl Tally<Plain> {
 }
 
 impl<L> Tally<L> {
-    /// Notes one turn of a loop, and keeps the counts and the words that were noted. It does nothing when it runs.
+    /// Records one step of a loop, and keeps the recorded counts and words. Does nothing at run time.
     #[inline(always)]
     pub fn tick(&mut self)
         ensures turns { self.new.turns ≡ self.old.turns + 1 }
@@ -86,9 +89,9 @@ impl<L> Tally<L> {
         self.turns = self.turns.with(0);
     }
 
-    /// Notes that one count was read, and keeps the words and the turns that were noted. It does nothing when it runs.
+    /// Records that one count was read, and keeps the recorded words and steps. Does nothing at run time.
     ///
-    /// For metered views alone: a view calls it where it reads a count, and the code that reads through a view never does.
+    /// Only a metered view calls it, when it reads a count. Code that reads through a view never calls it.
     #[inline(always)]
     pub fn count(&mut self)
         ensures counts { self.new.counts ≡ self.old.counts + 1 }
@@ -98,9 +101,10 @@ impl<L> Tally<L> {
         self.counts = self.counts.with(0);
     }
 
-    /// Notes that the word of number `index` was read, after the words that were noted, and keeps the counts and the turns. It does nothing when it runs.
+    /// Records that word `index` was read, after the recorded words, and keeps the counts and the steps. Does nothing
+    /// at run time.
     ///
-    /// For metered views alone: a view calls it where it reads a word, and the code that reads through a view never does.
+    /// Only a metered view calls it, when it reads a word. Code that reads through a view never calls it.
     #[inline(always)]
     pub fn word(&mut self, index: u64)
         ensures words { self.new.words ≡ self.old.words ++ index ∷ [] }

@@ -1,5 +1,5 @@
-//! The traits of columns that name no view. A column has a format, which its type determines, and a content; all that
-//! it means is read off these two.
+//! Column traits that do not involve views. The type of a column determines its format, and its value has a content;
+//! the two determine its meaning.
 ghost use Rattle.std.specs.Prelude.{◌≡◌, ◌+◌, ◌-◌, ◌<◌, ◌≤◌, ◌↔◌, length, map, List, [], ◌∷◌, slice_get, Some, All, OnOk, IfErr, IsTrue, IsNone, IfSome};
 ghost use Rattle.std.specs.Iterator.{IsFinite, HoldsAlong, Drains, Yields};
 ghost use Rattle.columnar_base.specs.Row.{Row};
@@ -10,16 +10,16 @@ use crate::fault::GrowError;
 use crate::iter::IterOwn;
 use crate::storage::Truncate;
 
-/// A value that is a row.
+/// A value that represents a row.
 pub trait Item {
-    // what it means
+    // the row
     ghost meaning: { Self → Row };
 
-    // what its reads ask: a view inside it is well formed
+    // what its reads require: a view inside it is well-formed
     ghost valid: { Self → Type 0 };
 }
 
-/// A list of rows, kept in a few slices.
+/// A list of rows, stored in a few slices.
 pub trait Column {
     // how the type is read
     ghost format: { Format };
@@ -30,12 +30,18 @@ pub trait Column {
 
 /// A column with a length.
 pub trait Len: Column {
-    /// The number of rows.
+    /// Returns the number of rows.
+    ///
+    /// # Requires
+    /// A well-formed column.
     fn len(&self) -> usize
         requires { IsSound Self.format (Self.content self.now) }
         ensures { result ≡ length (Self.format.rows (Self.content self.now)) };
 
-    /// Is there no row?
+    /// Returns whether the column has no rows.
+    ///
+    /// # Requires
+    /// A well-formed column.
     final fn is_empty(&self) -> bool
         requires { IsSound Self.format (Self.content self.now) }
         ensures { IsTrue result ↔ (Self.format.rows (Self.content self.now) ≡ []) }
@@ -46,7 +52,7 @@ pub trait Len: Column {
 
 /// A column that can be emptied.
 pub trait Clear: Column {
-    /// Takes all rows away; needs no memory.
+    /// Removes all rows and leaves a well-formed column; allocates nothing.
     fn clear(&mut self)
         ensures sound { IsSound Self.format (Self.content self.new) }
         ensures rows { Self.format.rows (Self.content self.new) ≡ [] };
@@ -54,15 +60,27 @@ pub trait Clear: Column {
 
 /// A column that takes items of type `T`.
 pub trait Push<T: Item>: Column {
-    /// Adds a row that is alike to the item. After a refusal the rows and the lengths of all parts are as before;
-    /// Length and Offset are answered only where the rows may not be held together.
+    /// Appends a row that represents `item`.
+    ///
+    /// # Requires
+    /// A well-formed column, and a valid item.
+    ///
+    /// # Errors
+    /// `Memory`; `Length` or `Offset` only if the column cannot hold the rows together. The rows and the lengths of all
+    /// parts stay.
     fn push(&mut self, item: T) -> Result<(), GrowError>
         requires sound { IsSound Self.format (Self.content self.old) }
         requires valid { T.valid item }
         ensures ok { OnOk result (Took Self.format (Self.content self.old) (Self.content self.new) (T.meaning item ∷ [])) }
         ensures err { IfErr result (λ e. Refused Self.format (Self.content self.old) (Self.content self.new) (T.meaning item ∷ []) e) };
 
-    /// Pushes the items in turn, up to the first refusal; the items before it stay.
+    /// Pushes the items in order.
+    ///
+    /// # Requires
+    /// A well-formed column; a finite iterator of valid items that can be called.
+    ///
+    /// # Errors
+    /// The first error of a push. The items before the refused one stay in the column.
     final fn extend<I: Iterator<Item = T> + Drop>(&mut self, items: I) -> Result<(), GrowError>
         requires sound { IsSound Self.format (Self.content self.old) }
         requires callable { I.can_next items }
@@ -78,11 +96,17 @@ pub trait Push<T: Item>: Column {
     }
 }
 
-/// An item that can be pushed into columns of type `C`: `Push`, seen from the item. A column over parts whose one impl of
-/// `Push` asks this of the item is found at once, however deep the parts are nested, also where the item's type is not
-/// yet known.
+/// An item that can be pushed to columns of type `C`: `Push` from the item's side.
+/// A column of parts has one impl of `Push`, over items of this trait. The compiler finds that impl at once at any
+/// depth of nesting, even if the item's type is not yet known.
 pub trait PushInto<C: Column>: Item {
-    /// Adds a row to the column that is alike to this item, or is refused, as `push`.
+    /// Appends a row that represents this item.
+    ///
+    /// # Requires
+    /// A well-formed column, and a valid item.
+    ///
+    /// # Errors
+    /// As `Push::push`.
     fn push_into(self, column: &mut C) -> Result<(), GrowError>
         requires sound { IsSound C.format (C.content column.old) }
         requires valid { Self.valid self }
@@ -90,17 +114,29 @@ pub trait PushInto<C: Column>: Item {
         ensures err { IfErr result (λ e. Refused C.format (C.content column.old) (C.content column.new) (Self.meaning self ∷ []) e) };
 }
 
-/// As a push of `&T`, where no lifetime can be named.
+/// Pushes items by reference, for callers that cannot name the lifetime in `Push<&T>`.
 pub trait PushRef<T: Item>: Column {
-    /// Adds a row that is alike to the item, or is refused, as a push of `&T`.
+    /// Appends a row that represents `item`, as a push of `&T` does.
+    ///
+    /// # Requires
+    /// A well-formed column, and a valid item.
+    ///
+    /// # Errors
+    /// As `Push::push`.
     fn push_ref(&mut self, item: &T) -> Result<(), GrowError>
         requires sound { IsSound Self.format (Self.content self.old) }
         requires valid { T.valid item.now }
         ensures ok { OnOk result (Took Self.format (Self.content self.old) (Self.content self.new) (T.meaning item.now ∷ [])) }
         ensures err { IfErr result (λ e. Refused Self.format (Self.content self.old) (Self.content self.new) (T.meaning item.now ∷ []) e) };
 
-    /// Adds rows that are alike to the items, one for one and in their order, or none of them. (As one item a slice is
-    /// one row, a list; so this is no push of a slice.)
+    /// Appends rows that represent the items, one each and in order, or none. In contrast, a push of a slice appends
+    /// one row, a list.
+    ///
+    /// # Requires
+    /// A well-formed column, and valid items.
+    ///
+    /// # Errors
+    /// As `Push::push`, for all items together. The rows and the lengths of all parts stay.
     fn push_slice(&mut self, items: &[T]) -> Result<(), GrowError>
     where
         Self: Truncate,
@@ -123,21 +159,27 @@ pub trait PushRef<T: Item>: Column {
     }
 }
 
-/// A column whose rows are read by their number.
+/// A column whose rows are read by their index.
 pub trait Index: Column {
     ghost use Rattle.columnar_base.specs.RowsLeft.{rows_left};
 
-    /// What stands for a row.
+    /// The type that represents a row.
     type Ref: Copy + Item;
 
-    /// Row `index`.
+    /// Returns row `index`.
+    ///
+    /// # Requires
+    /// A well-formed column, and `index` below its length.
     fn get(&self, index: usize) -> Self::Ref
         requires sound { IsSound Self.format (Self.content self.now) }
         requires in_range { index < length (Self.format.rows (Self.content self.now)) }
         ensures row { slice_get (Self.format.rows (Self.content self.now)) index ≡ Some (Self.Ref.meaning result) }
         ensures valid { Self.Ref.valid result };
 
-    /// Row `index`, None where there are not as many.
+    /// Returns row `index`, or `None` if there is no such row.
+    ///
+    /// # Requires
+    /// A well-formed column.
     final fn get_checked(&self, index: usize) -> Option<Self::Ref>
     where
         Self: Len,
@@ -153,7 +195,10 @@ pub trait Index: Column {
         }
     }
 
-    /// The rows in their order, read through a reference.
+    /// Iterates over the rows in order, through a reference to the column.
+    ///
+    /// # Requires
+    /// A well-formed column.
     final fn index_iter(&self) -> IterOwn<&Self>
     where
         Self: Sized,
@@ -163,7 +208,10 @@ pub trait Index: Column {
         IterOwn::<&Self>::new(0, self)
     }
 
-    /// The rows in their order.
+    /// Iterates over the rows in order, and takes the column.
+    ///
+    /// # Requires
+    /// A well-formed column.
     final fn into_index_iter(self) -> IterOwn<Self>
     where
         Self: Sized,
@@ -173,7 +221,10 @@ pub trait Index: Column {
         IterOwn::<Self>::new(0, self)
     }
 
-    /// The last row, None where there is none.
+    /// Returns the last row, or `None` if there are no rows.
+    ///
+    /// # Requires
+    /// A well-formed column.
     final fn last(&self) -> Option<Self::Ref>
     where
         Self: Len,
@@ -191,9 +242,12 @@ pub trait Index: Column {
     }
 }
 
-/// A row that can be turned into a `T` without memory.
+/// A row that converts to a `T` without an allocation.
 pub trait CopyAs<T: Item>: Copy + Item {
-    /// The same row.
+    /// Returns the same row as a `T`.
+    ///
+    /// # Requires
+    /// A valid row.
     fn copy_as(self) -> T
         requires { Self.valid self }
         ensures row { T.meaning result ≡ Self.meaning self }
@@ -212,16 +266,22 @@ impl<'x, T: Copy + Item> CopyAs<T> for &'x T {
     }
 }
 
-/// A column whose rows are read as `T`s.
+/// A column whose rows are read as values of type `T`.
 pub trait IndexAs<T: Item>: Column {
-    /// Row `index`.
+    /// Returns row `index`.
+    ///
+    /// # Requires
+    /// A well-formed column, and `index` below its length.
     fn index_as(&self, index: usize) -> T
         requires sound { IsSound Self.format (Self.content self.now) }
         requires in_range { index < length (Self.format.rows (Self.content self.now)) }
         ensures row { slice_get (Self.format.rows (Self.content self.now)) index ≡ Some (T.meaning result) }
         ensures valid { T.valid result };
 
-    /// The last row, None where there is none.
+    /// Returns the last row, or `None` if there are no rows.
+    ///
+    /// # Requires
+    /// A well-formed column.
     final fn last(&self) -> Option<T>
     where
         Self: Len,

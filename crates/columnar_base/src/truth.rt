@@ -1,4 +1,4 @@
-//! Truth values, options and results as rows.
+//! Booleans, options and results as rows.
 ghost use Rattle.std.specs.Prelude.{ℕ};
 ghost use Rattle.columnar_base.specs.Row.{truth};
 ghost use Rattle.columnar_base.specs.OptionRows.{option_row, option_valid};

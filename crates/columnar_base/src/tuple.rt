@@ -1,4 +1,4 @@
-//! Tuples of columns of one length, side by side: a column of tuples.
+//! Tuples of columns of equal length: columns of tuples.
 ghost use Rattle.std.specs.Prelude.{◌≡◌, ◌≤◌, length, List, [], ◌∷◌, Ok, OnOk, IfOk, IfErr};
 ghost use Rattle.columnar_base.specs.Row.{tuple};
 ghost use Rattle.columnar_base.specs.Format.{both, IsSound};
@@ -22,14 +22,14 @@ pub mod six;
 pub mod ten;
 pub mod three;
 
-/// As a row, it is the tuple of the rows of its parts.
+/// Its row is the tuple of its parts' rows.
 impl<S: Item, T: Item> Item for (S, T) {
     ghost meaning = { λ p. tuple (S.meaning p.0) (T.meaning p.1) };
 
     ghost valid = { λ p. S.valid p.0 × T.valid p.1 };
 }
 
-/// The slices of the first part, and then those of the second; a row is the tuple of their rows.
+/// The slices of the first part, then those of the second. Each row is the tuple of the parts' rows.
 impl<A: Column, B: Column> Column for (A, B) {
     ghost format = { pair_format A.format B.format };
 
@@ -52,7 +52,10 @@ impl<A: Index, B: Index> Index for (A, B) {
     }
 }
 
-/// The parts of a pair of columns, each well formed, as the pair is.
+/// Splits a pair of columns into its parts, both well-formed.
+///
+/// # Requires
+/// A well-formed pair.
 pub fn parts<A: Column, B: Column>(pair: (A, B)) -> (A, B)
     requires { IsSound (pair_format A.format B.format) (both (A.content pair.0) (B.content pair.1)) }
     ensures first { IsSound A.format (A.content result.0) }
@@ -62,7 +65,7 @@ pub fn parts<A: Column, B: Column>(pair: (A, B)) -> (A, B)
     pair
 }
 
-/// Rows are read through a reference as those of the parts are through one.
+/// Reads rows through a reference: each row is the tuple of the parts' rows, read through references.
 impl<'a, A, B> Index for &'a (A, B)
 where
     A: Column,
@@ -123,7 +126,7 @@ impl<A: Reserve, B: Reserve> Reserve for (A, B) {
     }
 }
 
-/// A pair takes what can be pushed into it: tuples of items of its parts, by value and by reference.
+/// Takes every item with `PushInto`: tuples of items of the parts, by value or by reference.
 impl<P: PushInto<(A, B)>, A: Column, B: Column> Push<P> for (A, B) {
     #[inline(always)]
     fn push(&mut self, item: P) -> Result<(), GrowError> {
@@ -131,15 +134,21 @@ impl<P: PushInto<(A, B)>, A: Column, B: Column> Push<P> for (A, B) {
     }
 }
 
-/// What is handed to one column, and how the column takes it.
+/// What one column receives, and how the column takes it.
 pub trait Enter<C: Column> {
-    // the rows that it adds
+    // the rows to append
     ghost entry: { Self → Entry };
 
-    // what it asks
+    // what it requires
     ghost valid: { Self → Type 0 };
 
-    /// Adds rows that are alike to those of the entry, one for one, or is refused and adds none, as `push`.
+    /// Appends rows that represent those of the entry, one each, or none.
+    ///
+    /// # Requires
+    /// A well-formed column, and a valid entry.
+    ///
+    /// # Errors
+    /// As `Push::push`. The rows and the lengths of all parts stay.
     fn enter(self, column: &mut C) -> Result<(), GrowError>
         requires sound { IsSound C.format (C.content column.old) }
         requires valid { Self.valid self }
@@ -147,7 +156,7 @@ pub trait Enter<C: Column> {
         ensures err { IfErr result (λ e. Refused C.format (C.content column.old) (C.content column.new) (Self.entry self).rows e) };
 }
 
-/// An item that is pushed.
+/// An item to push by value.
 #[derive(Drop)]
 pub struct ByValue<T>(pub T);
 
@@ -162,7 +171,7 @@ impl<T: Item, C: Push<T>> Enter<C> for ByValue<T> {
     }
 }
 
-/// An item that is lent.
+/// An item to push by reference.
 #[derive(Clone, Copy)]
 pub struct ByRef<'x, T>(pub &'x T);
 
@@ -177,7 +186,13 @@ impl<'x, T: Item, C: PushRef<T>> Enter<C> for ByRef<'x, T> {
     }
 }
 
-/// What was duplicated of the earlier parts, and one more part; unless an earlier one was refused it.
+/// Copies one more part, unless copying an earlier part failed.
+///
+/// # Requires
+/// No error except `Memory` in `earlier`.
+///
+/// # Errors
+/// The earlier error, or `Memory`.
 pub fn duplicate_after<E: Drop, A: Storage>(
     earlier: Result<E, GrowError>,
     part: &A,
@@ -193,7 +208,13 @@ pub fn duplicate_after<E: Drop, A: Storage>(
     Ok((earlier, copy))
 }
 
-/// Makes room in one more part, unless an earlier part was refused it; its rows stay.
+/// Reserves capacity in one more part, unless an earlier part failed. Its rows stay.
+///
+/// # Requires
+/// A well-formed part, and no error except `Memory` in `earlier`.
+///
+/// # Errors
+/// The earlier error, or `Memory`.
 pub fn reserve_after<A: Reserve>(
     earlier: Result<(), GrowError>,
     part: &mut A,
@@ -208,7 +229,10 @@ pub fn reserve_after<A: Reserve>(
     part.reserve_room(room)
 }
 
-/// Cuts a part to its first `rows` rows, since another part refused one; the error is given back.
+/// Cuts a part to its first `rows` rows after another part refused, and returns `error`.
+///
+/// # Requires
+/// A well-formed part of at least `rows` rows.
 #[cold]
 #[inline(never)]
 pub fn taken_back<A: Truncate>(part: &mut A, rows: usize, error: GrowError) -> GrowError
@@ -221,7 +245,13 @@ pub fn taken_back<A: Truncate>(part: &mut A, rows: usize, error: GrowError) -> G
     error
 }
 
-/// Each of two parts takes what is handed to it. Where one of them refuses it, neither has taken any.
+/// Enters `p` into the first part and `q` into the second. If one refuses, neither changes.
+///
+/// # Requires
+/// A well-formed pair, valid entries, and equally many rows for both parts, from the same start.
+///
+/// # Errors
+/// The error of the part that refuses.
 #[inline(always)]
 pub fn enter_two<A: Truncate, B: Column, P: Enter<A>, Q: Enter<B> + Drop>(
     first: &mut A,
@@ -243,7 +273,7 @@ pub fn enter_two<A: Truncate, B: Column, P: Enter<A>, Q: Enter<B> + Drop>(
     }
 }
 
-/// Each part takes its own of the item. Where one of them refuses it, neither has taken any.
+/// Pushes each field to its part. If one part refuses, neither changes.
 impl<S: Item, T: Item + Drop, A: Truncate + Push<S>, B: Push<T>> PushInto<(A, B)> for (S, T) {
     #[inline(always)]
     fn push_into(self, column: &mut (A, B)) -> Result<(), GrowError> {
@@ -257,7 +287,7 @@ impl<S: Item, T: Item + Drop, A: Truncate + Push<S>, B: Push<T>> PushInto<(A, B)
     }
 }
 
-/// The parts of the item are pushed by reference.
+/// Pushes the fields by reference.
 impl<'x, S: Item, T: Item, A: Truncate + PushRef<S>, B: PushRef<T>> PushInto<(A, B)>
     for &'x (S, T) {
     #[inline(always)]

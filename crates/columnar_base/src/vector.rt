@@ -1,4 +1,4 @@
-//! Columns of elements, in a `Vec`.
+//! Columns of elements in a `Vec`.
 ghost use Rattle.columnar_base.specs.Elements.{elements_format, elements};
 ghost use Rattle.columnar_base.specs.ElementLaws.{elements_lawful};
 

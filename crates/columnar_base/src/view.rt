@@ -1,4 +1,4 @@
-//! Views of elements: read in place, from a slice of them or from little-endian bytes.
+//! Views of elements, read in place from a slice of elements or from little-endian bytes.
 ghost use Rattle.std.specs.Prelude.{◌≡◌, ℕ, ◌+◌, ◌-◌, ◌*◌, ◌/◌, ◌<◌, ◌≤◌, length, refl, take, drop, slice_get, Some};
 ghost use Rattle.columnar_base.specs.Format.{slice, IsSound};
 ghost use Rattle.columnar_base.specs.Elements.{elements_format, elements_rows, elements};
@@ -9,16 +9,16 @@ ghost use Rattle.columnar_base.specs.Views.{items_content};
 use crate::element::Element;
 use crate::traits::{Clear, Column, Index, Len};
 
-/// Where the elements of a view stand.
+/// Where a view reads its elements.
 #[derive(Clone, Copy)]
 pub enum Items<'a, T> {
-    /// In a slice of them.
+    /// A slice of elements.
     Typed(&'a [T]),
-    /// In their little-endian bytes.
+    /// Their little-endian bytes.
     Bytes(&'a [u8]),
 }
 
-/// Elements in a slice of them or in little-endian bytes, read by value.
+/// Elements in a slice or in little-endian bytes, read by value.
 #[derive(Clone, Copy)]
 pub struct View<'a, T> {
     items: Items<'a, T>,
@@ -31,7 +31,7 @@ impl<'v, T: Element> Column for View<'v, T> {
 }
 
 impl<'a, T: Element> View<'a, T> {
-    /// The elements of a slice; it is well formed.
+    /// Views the elements of a slice; the view is well-formed.
     pub fn from_slice(items: &'a [T]) -> Self
         ensures content { ⟦<View<'a, T> as Column>⟧.content result ≡ elements T.le_bytes items.now }
         ensures sound { IsSound (elements_format T.size T.align T.row_of) (⟦<View<'a, T> as Column>⟧.content result) }
@@ -41,8 +41,8 @@ impl<'a, T: Element> View<'a, T> {
         }
     }
 
-    /// The elements that the bytes are, little-endian. It is well formed where their number is a multiple of the
-    /// element's size.
+    /// Views little-endian bytes as elements. The view is well-formed if the number of bytes is a multiple of the
+    /// element size.
     pub fn from_le_bytes(bytes: &'a [u8]) -> Self
         ensures { ⟦<View<'a, T> as Column>⟧.content result ≡ slice bytes.now }
     {
@@ -51,7 +51,10 @@ impl<'a, T: Element> View<'a, T> {
         }
     }
 
-    /// The elements lower..upper. Asks that `lower` is at most `upper`, and `upper` at most the view's length.
+    /// Returns the view of the elements `lower..upper`.
+    ///
+    /// # Requires
+    /// A well-formed view, and `lower <= upper <= len()`.
     pub fn part(&self, lower: usize, upper: usize) -> Self
         requires sound { IsSound (elements_format T.size T.align T.row_of) (⟦<View<'a, T> as Column>⟧.content self.now) }
         requires ordered { lower ≤ upper }
@@ -65,7 +68,7 @@ impl<'a, T: Element> View<'a, T> {
         }
     }
 
-    // Element `index`.
+    // Returns element `index`; requires that it exists.
     fn at(&self, index: usize) -> T
         requires { index < length (elements_rows T.size T.row_of (⟦<View<'a, T> as Column>⟧.content self.now)) }
         ensures { slice_get (elements_rows T.size T.row_of (⟦<View<'a, T> as Column>⟧.content self.now)) index ≡ Some (T.meaning result) }
@@ -76,7 +79,7 @@ impl<'a, T: Element> View<'a, T> {
         }
     }
 
-    /// Where the elements stand.
+    /// Returns where the view reads its elements.
     pub fn items(&self) -> Items<'a, T>
         ensures { items_content T.le_bytes result ≡ ⟦<View<'a, T> as Column>⟧.content self.now }
     {
@@ -95,7 +98,7 @@ impl<'v, T: Element> Len for View<'v, T> {
     }
 }
 
-/// How many elements the bytes hold.
+/// Returns the number of whole elements in the bytes.
 pub fn count_in<T: Element>(bytes: &[u8]) -> usize
     ensures { result ≡ length bytes.now / T.size }
 {
@@ -110,7 +113,10 @@ pub(crate) fn element_at<T: Element>(items: &[T], index: usize) -> T
     items[index]
 }
 
-/// Element `index` of the bytes. Asks that they have all of it.
+/// Returns element `index` of the bytes.
+///
+/// # Requires
+/// All bytes of that element.
 pub fn element_in<T: Element>(bytes: &[u8], index: usize) -> T
     requires { T.size * index + T.size ≤ length bytes.now }
     ensures { T.le_bytes result ≡ take T.size (drop (T.size * index) bytes.now) }
@@ -136,14 +142,14 @@ impl<'a, 'v, T: Element> Index for &'a View<'v, T> {
     }
 }
 
-/// Leaves the empty view; no element is touched.
+/// Leaves the empty view; no element changes.
 impl<'v, T: Element> Clear for View<'v, T> {
     fn clear(&mut self) {
         self.items = Items::Bytes(&[]);
     }
 }
 
-/// Are the rows equal, one for one? Where they stand makes no difference.
+/// Compares the rows in order. A slice of elements and the bytes of equal elements are equal.
 impl<'v, T: Element> PartialEq for View<'v, T> {
     ghost eq = { λ v w. same_rows (elements_rows T.size T.row_of (items_content T.le_bytes v.items)) (elements_rows T.size T.row_of (items_content T.le_bytes w.items)) };
 
@@ -163,7 +169,7 @@ impl<'v, T: Element> PartialEq for View<'v, T> {
     }
 }
 
-// The elements lower..upper of a slice.
+// Returns the elements `lower..upper` of a slice; requires that range.
 fn between<T>(items: &[T], lower: usize, upper: usize) -> &[T]
     requires ordered { lower ≤ upper }
     requires in_range { upper ≤ length items.now }
@@ -172,7 +178,7 @@ fn between<T>(items: &[T], lower: usize, upper: usize) -> &[T]
     &items[lower..upper]
 }
 
-// The bytes of the elements lower..upper.
+// Returns the bytes of the elements `lower..upper`; requires that range.
 fn bytes_between<T: Element>(bytes: &[u8], lower: usize, upper: usize) -> &[u8]
     requires ordered { lower ≤ upper }
     requires in_range { T.size * upper ≤ length bytes.now }

@@ -1,26 +1,29 @@
-//! Words of 64 bits, read by their number: one alone, those of an array or a `Vec`, or of a view of any of these.
+//! Words of 64 bits, read by index: a single word, an array, a `Vec`, or a view of one of these.
 ghost use Rattle.std.specs.Prelude.{◌≡◌, ℕ, ◌+◌, ◌*◌, ◌^◌, ◌<◌, ◌≤◌, List, [], ◌∷◌, length, slice_index};
 ghost use Rattle.columnar_base.specs.WordViews.{word, words_in, le_bytes, view_bytes, view_words};
 
 use crate::view::{Items, View, element_at, element_in};
 
-/// Words of 64 bits that can be viewed: one alone, two in an array, those of a `Vec`, or a view of any of these.
+/// Words of 64 bits that can be viewed: a single word, an array of two, a `Vec`, or a view of one of these.
 pub trait Words {
-    // the bytes of the words, each lowest first
+    // the bytes of the words, lowest first within a word
     ghost bytes: { Self → List ℕ };
 
-    /// The view of the words. Needs no memory.
+    /// Returns a view of the words; allocates nothing.
     fn words(&self) -> View<'_, u64>
         ensures { view_bytes result ≡ bytes self.now };
 
-    /// How many bytes the words have, those of a last broken word included.
+    /// Returns the number of bytes, including those of an incomplete last word.
     final fn size(&self) -> usize
         ensures { result ≡ length (bytes self.now) }
     {
         byte_count(self.words())
     }
 
-    /// Word `index`. Asks that it is there.
+    /// Returns word `index`.
+    ///
+    /// # Requires
+    /// A whole word at `index`.
     final fn word(&self, index: usize) -> u64
         requires { 8 * index + 8 ≤ length (bytes self.now) }
         ensures { result ≡ word (bytes self.now) index }
@@ -61,7 +64,7 @@ impl<'v> Words for View<'v, u64> {
     }
 }
 
-/// How many bytes the words of the view have, those of a last broken word included.
+/// Returns the number of bytes of the view, including those of an incomplete last word.
 pub fn byte_count(view: View<'_, u64>) -> usize
     ensures { result ≡ length (view_bytes view.entry) }
 {
@@ -71,7 +74,7 @@ pub fn byte_count(view: View<'_, u64>) -> usize
     }
 }
 
-/// How many words the view has, a last broken one not counted.
+/// Returns the number of whole words of the view, always below 2^61.
 pub fn word_count(view: View<'_, u64>) -> usize
     ensures count { result ≡ length (view_words view.entry) }
     ensures short { result < 2 ^ 61 }
@@ -82,7 +85,10 @@ pub fn word_count(view: View<'_, u64>) -> usize
     }
 }
 
-/// Word `index` of the view. Asks that the view has it.
+/// Returns word `index` of the view.
+///
+/// # Requires
+/// A whole word at `index`.
 pub fn word_at(view: View<'_, u64>, index: usize) -> u64
     requires { index < length (view_words view) }
     ensures { result ≡ slice_index (view_words view.entry) index }

@@ -1,4 +1,4 @@
--- What words of bits hold, place by place.
+-- The bits of words, by their index.
 use Rattle.std.proofs.Common.{◌≡◌, ℕ, zero, suc, ◌+◌, ◌-◌, ◌*◌, ◌/◌, ◌%◌, ◌^◌, ◌<◌, ◌≤◌, max, Bool, true, false, eqb, cond, List, [], ◌∷◌, ◌++◌, length, map, get_or, take, drop, refl, sym, ap, ◌∙◌, subst, ⊎_elim, lit<, arith, add-zero}
 use Rattle.std.proofs.Math.Path.{ap₂}
 use Rattle.std.proofs.Math.Seq.{take-add}
@@ -35,7 +35,7 @@ pub take-truths : (f : ℕ → Bool) (n k : ℕ) → k ≤ n → take k (truths 
 unfolding truths
 take-truths f n k h = take-map-range_with_len f 0 n k h
 
--- one more bit_in value, where the earlier ones are the same
+-- one more value, if the earlier ones are equal
 pub truths_grow : (f g : ℕ → Bool) (n : ℕ) (b : Bool) → ((k : ℕ) → k < n → g k ≡ f k) → g n ≡ b → truths g (n + 1) ≡ truths f n ++ b ∷ []
 truths_grow f g n b h e = truths_push g n ∙ ap₂ (λ (x : List Bool) (y : Bool). x ++ y ∷ []) (truths_same g f n h) e
 
@@ -66,7 +66,7 @@ pub get_or-bits_of : (ws : List ℕ) (t c i : ℕ) → i < 64 * length ws + c �
 unfolding bits_of
 get_or-bits_of ws t c i h = get_or-truths _ _ i false h
 
--- two tails that agree below c
+-- two tails with the same bits below c
 pub tail_apart : (ws : List ℕ) (t u c k : ℕ) → c ≤ 64 → k < 64 * length ws + c → ((j : ℕ) → j < c → bit u j ≡ bit t j) → bit_in (ws ++ u ∷ []) k ≡ bit_in (ws ++ t ∷ []) k
 tail_apart ws t u c k h l same =
     ⊎_elim (λ (p : k < 64 * length ws). bit_in_front ws u k p ∙ sym (bit_in_front ws t k p))
@@ -75,7 +75,7 @@ tail_apart ws t u c k h l same =
     bit_in_tail ws u j k (omega arith) e ∙ same j lj ∙ sym (bit_in_tail ws t j k (omega arith) e))
     (cases_lt k (64 * length ws))
 
--- a tail that keeps its first c bits, and has one more
+-- a tail that keeps its first c bits, and gets one more
 pub bits_of_grow : (ws : List ℕ) (t u c : ℕ) (b : Bool) → c < 64 → ((j : ℕ) → j < c → bit u j ≡ bit t j) → bit u c ≡ b → bits_of ws u (c + 1) ≡ bits_of ws t c ++ b ∷ []
 unfolding bits_of
 bits_of_grow ws t u c b h same last =
@@ -93,7 +93,7 @@ bits_of_carry ws t u =
     truths_same (bit_in (ws ++ t ∷ [] ++ u ∷ [])) (bit_in (ws ++ t ∷ [])) (64 * length ws + 64)
     (λ k l. bit_in_front (ws ++ t ∷ []) u k (omega (arith, length-append ws (t ∷ []))))
 
--- ---- one bit more
+-- ---- one more bit
 
 pub bit_set : (t c : ℕ) → c < 64 → bit (bit_or t (1 * 2 ^ c % 2 ^ 64)) c ≡ true
 unfolding bit
@@ -230,7 +230,7 @@ bits_of_more ws t u c g n m h e l same more =
     (λ k lk. tail_apart ws t u c k (omega arith) lk same)
     (λ j lj. bit_in_tail ws u (c + j) (64 * length ws + c + j) (omega arith) (omega arith) ∙ more j lj)
 
--- and a whole word of them
+-- and completes a word
 pub bits_of_spill : (ws : List ℕ) (t u r c g n m : ℕ) → c < 64 → n + 64 ≡ c + m → m ≤ 64 → ((j : ℕ) → j < c → bit u j ≡ bit t j) → ((j : ℕ) → c ≤ j → j < 64 → bit u j ≡ bit g (j - c)) → ((j : ℕ) → j < n → bit r j ≡ bit g (j + (64 - c))) → bits_of (ws ++ u ∷ []) r n ≡ bits_of ws t c ++ truths (bit g) m
 unfolding bits_of
 bits_of_spill ws t u r c g n m h e l same more rest =
@@ -247,7 +247,7 @@ bits_of_spill ws t u r c g n m h e l same more rest =
     bit_in_tail (ws ++ u ∷ []) r i (64 * length ws + c + j) (omega arith) (omega arith) ∙ rest i (omega arith) ∙ ap (bit g) d)
     (cases_lt (c + j) 64))
 
--- what is left of `bits` above its lowest 64 - c
+-- the bits of `bits` above its lowest 64 - c
 pub spill_bit : (g c j : ℕ) → 0 < c → c < 64 → bit (g / 2 ^ (64 - c)) j ≡ bit g (j + (64 - c))
 spill_bit g c j h l = let e : 64 - c + j ≡ j + (64 - c) = omega arith in bit_shr g (64 - c) j ∙ ap (bit g) e
 

@@ -32,7 +32,7 @@ fits_is w c l =
     rw (few, t, z) refl)
     (cases_lt w (2 ^ c))
 
--- the first broken rule, by the tests in turn
+-- the first broken rule, in the order of the tests
 pub bad_size : (a b : List ℕ) (o : ℕ) → (length a % 8 ≡ 0 → ⊥) → Some (fault 8 o) ≡ first (moved o (bools_broken (both (slice a) (slice b))))
 bad_size a b o h =
     let e : nat_eq (length a % 8) 0 ≡ false = ne_eqb _ _ h in
@@ -82,7 +82,7 @@ two_read bs w c l p q =
     let d : take 8 (drop 8 bs) ≡ drop 8 bs = take_all 8 (drop 8 bs) (omega (arith, length-drop 8 bs)) in
     ap₂ (λ (x y : List ℕ). x ++ (y ++ [])) p (q ∙ d) ∙ (rw append-nil (take-append-drop 8 bs))
 
--- what a column of these two slices holds
+-- the content of a column of these two slices
 pub loaded_at : (ss : List (List ℕ)) (o : ℕ) (xs tail b : List ℕ) → o + 2 ≤ length ss → slice (le_bytes xs) ≡ first_slice (drop o ss) → le_bytes tail ≡ b → b ≡ slice_index_or ss (o + 1) [] → both (slice (le_bytes xs)) (slice (le_bytes tail)) ≡ bools_format.build (drop o ss)
 loaded_at ss o xs tail b l p q r =
     let e = drop_at ss (o + 1) b (omega arith) r in

@@ -1,4 +1,4 @@
--- Columns of truth values: whole words, and a tail of two words, the last bits and how many of them count.
+-- Columns of booleans: whole words and a tail of two words, the last bits and their number.
 use Rattle.std.specs.Prelude.{ℕ, Bool, List, [], ◌∷◌, ◌++◌, ◌+◌, ◌*◌, ◌/◌, ◌^◌, ◌&&◌, length, map, drop, nat_eq, nat_lt, slice_index, Vec}
 use Rattle.std.specs.Global.{Global}
 use Rattle.columnar_core.specs.Row.{truth, row_eq}
@@ -11,18 +11,18 @@ use Rattle.columnar_core.specs.declared.fault.GrowError.TheVariants.{Memory, Len
 use Rattle.columnar_bits.specs.declared.bools.Bools.{Bools}
 use Rattle.std.proofs.Common.{◌≡◌, ℕ, ◌-◌, ◌%◌, ◌^◌, ◌<◌, List, length}
 
--- the last bits that a tail holds, and how many of them count
+-- the last bits of a tail; their number
 abbrev pub last_word : List ℕ → ℕ
 last_word tail = slice_index (words_in tail) 0
 
 abbrev pub last_count : List ℕ → ℕ
 last_count tail = slice_index (words_in tail) 1
 
--- how many bits whole words and a tail hold
+-- the number of bits of whole words and a tail
 abbrev pub bit_count : List ℕ → List ℕ → ℕ
 bit_count values tail = 64 * length (words_in values) + last_count tail
 
--- the bits of whole words and of a tail
+-- the bits of whole words and a tail
 abbrev pub bits_in : List ℕ → List ℕ → List Bool
 bits_in values tail = bits_of (words_in values) (last_word tail) (last_count tail)
 
@@ -30,14 +30,14 @@ bits_in values tail = bits_of (words_in values) (last_word tail) (last_count tai
 abbrev pub is_tail : ℕ → ℕ → Bool
 is_tail word count = nat_lt count 64 && nat_lt word (2 ^ count)
 
--- a tail is just two words
+-- a tail has exactly two words
 abbrev pub tail_broken : Content → List Fault
 tail_broken (slice bs) = unless (nat_eq (length bs) 16) (fault 9 0)
 tail_broken (both x y) = misfit
 tail_broken (part l u x) = misfit
 tail_broken (plain rs) = misfit
 
--- the rules of both slices, then that the tail is one, then that all the bits can be counted in 64 bits
+-- the rules of both slices, then the rule of a tail, then that 64 bits can count all bits
 abbrev pub bools_broken : Content → List Fault
 bools_broken (both x y) = elements_broken 8 x ++ (moved 1 (tail_broken y) ++ (unless (is_tail (last_word (bytes_of y)) (last_count (bytes_of y))) (fault 13 0) ++ unless (nat_lt (bit_count (bytes_of x) (bytes_of y)) (2 ^ 64)) (fault 19 0)))
 bools_broken (slice bs) = misfit
@@ -51,7 +51,7 @@ bools_bits (slice bs) = []
 bools_bits (part l u x) = []
 bools_bits (plain rs) = []
 
--- bits, each a truth value
+-- bits, each of them a boolean
 abbrev pub bools_format : Format
 bools_format = record {
   count = 2;
@@ -67,7 +67,7 @@ bools_format = record {
   refuses = λ e c n rs. past_count e (n + length rs);
 }
 
--- what a column of bits holds
+-- the content of a column of bits
 abbrev pub bools_content : {V T : Type 0} → (V → List ℕ) → (T → List ℕ) → Bools V T → Content
 bools_content values tail b = both (slice (values b.values)) (slice (tail b.tail))
 
@@ -75,7 +75,7 @@ bools_content values tail b = both (slice (values b.values)) (slice (tail b.tail
 abbrev pub bits_held : {V T : Type 0} → (V → List ℕ) → (T → List ℕ) → Bools V T → List Bool
 bits_held values tail b = bits_in (values b.values) (tail b.tail)
 
--- these for a column that owns its words
+-- the same for a column that owns its words
 abbrev pub Owned : Type 0
 Owned = Bools (Vec ℕ Global) (List ℕ)
 
@@ -85,14 +85,14 @@ owned_content b = bools_content (λ (v : Vec ℕ Global). le_bytes v.items) le_b
 abbrev pub owned_bits : Owned → List Bool
 owned_bits b = bits_held (λ (v : Vec ℕ Global). le_bytes v.items) le_bytes b
 
--- the two errors of growth
+-- the errors of growth
 abbrev pub IsOfGrowth : GrowError → Type 0
 IsOfGrowth Memory = Unit {0}
 IsOfGrowth Length = Unit {0}
 IsOfGrowth Offset = ⊥
 IsOfGrowth FormatError = ⊥
 
--- what the soundness of a column of bits is made of
+-- the soundness of a column of bits
 pub record SoundBools (values tail : List ℕ) : Type 0 where
   pub whole : length values % 8 ≡ 0
   pub two : length tail ≡ 16
@@ -100,7 +100,7 @@ pub record SoundBools (values tail : List ℕ) : Type 0 where
   pub clear : last_word tail < 2 ^ last_count tail
   pub short : bit_count values tail < 2 ^ 64
 
--- a sound content is of two slices
+-- a sound content has two slices
 pub record TwoSlices (c : Content) : Type 0 where
   pub values : List ℕ
   pub tail : List ℕ

@@ -113,7 +113,7 @@ bools_storable = record {
 
 -- changes
 
--- the bits cs came after those of a and b
+-- the bits cs follow those of a and b
 pub record Added (a b a' b' : List ℕ) (cs : List Bool) : Type 0 where
   pub sound : SoundBools a' b'
   pub bits : bits_in a' b' ≡ bits_in a b ++ cs
@@ -155,11 +155,11 @@ bools_cut {a} {b} {a'} {b'} {n} s e l =
       kept = bools_keeps (both (slice a) (slice b)) (both (slice a') (slice b')) n;
     }
 
--- more bits than can be counted
+-- more bits than 64 bits can count
 pub bools_past : (a b : List ℕ) (rs : List Row) → 2 ^ 64 ≤ length (bits_in a b) + length rs → past_count too_many (length (map truth (bits_in a b)) + length rs) ≡ true
 bools_past a b rs l = lt-ltb (2 ^ 64 - 1) (length (map truth (bits_in a b)) + length rs) (omega (arith, l, length-map (bits_in a b) truth))
 
--- rows are what the bits are
+-- the rows determine the bits
 pub bits_from_rows : (xs ys : List Bool) → map truth xs ≡ map truth ys → xs ≡ ys
 bits_from_rows [] [] h = refl
 bits_from_rows [] (y ∷ ys) h = cc
@@ -185,7 +185,7 @@ tail_more {a} {b} {b'} {w} {c} {u} {n} g m s t t' e l clear same more =
           (λ j k. let d : c + j - c ≡ j = omega arith in more (c + j) (omega arith) (omega arith) ∙ ap (bit g) d));
     }
 
--- a whole word more, and what is left of the bits in the tail
+-- one more whole word, with the remaining bits in the tail
 pub word_more : {a b a' b' : List ℕ} {w c r n : ℕ} (u g m : ℕ) → SoundBools a b → Tail b w c → Tail b' r n → words_in a' ≡ words_in a ++ u ∷ [] → length a' ≡ 8 + length a → length (words_in a) + 1 < 2 ^ 58 → n + 64 ≡ c + m → m ≤ 64 → r < 2 ^ n → ((j : ℕ) → j < c → bit u j ≡ bit w j) → ((j : ℕ) → c ≤ j → j < 64 → bit u j ≡ bit g (j - c)) → ((j : ℕ) → j < n → bit r j ≡ bit g (j + (64 - c))) → Added a b a' b' (truths (bit g) m)
 word_more {a} {b} {a'} {b'} {w} {c} {r} {n} u g m s t t' ea la room e l clear same more rest =
     let p = s.few in let q = s.whole in
@@ -216,14 +216,14 @@ tail_cut {a} {b} {a'} {b'} {u} {n} s t ea la l clear same =
 pub two_words : {a b : List ℕ} → SoundBools a b → length (words_in b) ≡ 2
 two_words {a} {b} s = omega (arith, s.two, length-words_in b)
 
--- the word of a bit is there, and also that of the place after the last
+-- the word of a bit exists, also that of the index after the last bit
 pub word_there : {a b : List ℕ} (i : ℕ) → SoundBools a b → i ≤ length (bits_in a b) → i / 64 < length (bit_words a b)
 word_there {a} {b} i s l = omega (arith, s.few, bits_length a b, length_push (words_in a) (last_word b))
 
 pub next_there : {a b : List ℕ} (i n : ℕ) → SoundBools a b → i + n ≤ length (bits_in a b) → 64 < i % 64 + n → n ≤ 64 → i / 64 + 1 < length (bit_words a b)
 next_there {a} {b} i n s l h m = omega (arith, s.few, bits_length a b, length_push (words_in a) (last_word b))
 
--- a bit is one of its word's
+-- a bit is a bit of its word
 pub bit_of_word : (a b : List ℕ) (i q r : ℕ) → i < length (bits_in a b) → r < 64 → 64 * q + r ≡ i → slice_index_or (bits_in a b) i false ≡ bit (slice_index (bit_words a b) q) r
 bit_of_word a b i q r h l e =
     get_or-bits_of (words_in a) (last_word b) (last_count b) i (omega (arith, bits_length a b)) ∙
@@ -252,7 +252,7 @@ tail_made w c h k = record {
 pub tail_read : {v b : List ℕ} {w c : ℕ} → v ≡ b → length b ≡ 16 → w ≡ last_word v → c ≡ last_count v → Tail b w c
 tail_read {v} {b} e l p q = record { two = l; word = sym (rw e at p); count = sym (rw e at q) }
 
--- what an owned column of bits is known by
+-- the bits of an owned column
 pub record OwnedBits (xs tail : List ℕ) (w c : ℕ) : Type 0 where
   pub sound : SoundBools (le_bytes xs) (le_bytes tail)
   pub tail_is : Tail (le_bytes tail) w c
@@ -281,7 +281,7 @@ owned_bits_of {xs} {tail} {v} {w} {c} h e p q =
       short = omega (arith, t.count);
     }
 
--- one word more
+-- one more word
 pub words_grown : (xs ys : List ℕ) (u : ℕ) → ys ≡ xs ++ u ∷ [] → u < 2 ^ 64 → (words_in (le_bytes ys) ≡ words_in (le_bytes xs) ++ u ∷ []) × (length (le_bytes ys) ≡ 8 + length (le_bytes xs))
 words_grown xs ys u e h = (rw e (words_pushed xs u h), omega (arith, length-le_bytes ys, length-le_bytes xs, ap length e, length_push xs u))
 
@@ -317,7 +317,7 @@ owned_cut xs ys tail tail' {u} {n} h e t l clear same =
     let c = tail_cut s t (rw e (words_cut xs (n / 64))) (length-le_bytes ys ∙ (rw y refl)) k clear same in
     bools_cut c.0 c.1 k
 
--- a refusal, by its two causes
+-- a refusal, by its causes
 pub bools_refused : {a b a' b' : List ℕ} (rs : List Row) (e : GrowError) → Stayed bools_format (both (slice a) (slice b)) (both (slice a') (slice b')) → IsOfGrowth e → (e ≡ Length → 2 ^ 64 ≤ length (bits_in a b) + length rs) → Refused bools_format (both (slice a) (slice b)) (both (slice a') (slice b')) rs e
 bools_refused {a} {b} rs Memory s k h = record { stayed = s; cause = tt }
 bools_refused {a} {b} rs Length s k h = record { stayed = s; cause = bools_past a b rs (h refl) }
@@ -328,7 +328,7 @@ bools_refused {a} {b} rs FormatError s k h = absurd k
 pub bools_same : {a b : List ℕ} {d : Content} → IsSound bools_format (both (slice a) (slice b)) → d ≡ both (slice a) (slice b) → Stayed bools_format (both (slice a) (slice b)) d
 bools_same {a} {b} {d} s e = rw e (unchanged s)
 
--- a range of the rows is that of the bits
+-- a range of the rows is the same range of the bits
 pub rows_between : (xs : List Bool) (i j : ℕ) → map truth (slice_range xs i j) ≡ take (j - i) (drop i (map truth xs))
 rows_between xs i j = rw (map_drop truth i xs) (sym (take-map truth (j - i) (drop i xs)))
 

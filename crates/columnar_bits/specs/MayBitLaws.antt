@@ -1,4 +1,4 @@
--- Of truth values nothing but their number is denied.
+-- Booleans are denied only if there are too many.
 use Rattle.std.proofs.Common.{refl}
 use Rattle.columnar_core.specs.May.{IsLimited, count_limit}
 use Rattle.columnar_core.specs.MayLaws.{count_limited}

@@ -1,4 +1,4 @@
-//! Truth values, packed as bits.
+//! Booleans, packed as bits.
 ghost use Rattle.std.specs.Prelude.{◌≡◌, ℕ, ◌+◌, ◌-◌, ◌*◌, ◌/◌, ◌%◌, ◌^◌, ◌<◌, ◌≤◌, [], ◌∷◌, ◌++◌, length, vec_len, vec_capacity, slice_index_or, slice_range, false, OnOk, OnErr, IfErr, IsOk, refl};
 ghost use Rattle.columnar_core.specs.Row.{truth};
 ghost use Rattle.columnar_core.specs.Format.{IsSound};
@@ -24,12 +24,12 @@ mod bytes;
 
 pub use bytes::judged;
 
-/// Truth values, packed as bits, the lowest first.
+/// Booleans, packed as bits, lowest first.
 #[derive(Clone, Copy, PartialEq, Drop)]
 pub struct Bools<VC = Vec<u64>, TC = [u64; 2]> {
     /// Whole words of 64 bits.
     pub values: VC,
-    /// Two words: the last bits, and how many of them count. That is below 64, and no bit from there on is set.
+    /// Two words: the last bits, and their number, which is below 64. No bit from that number on is set.
     pub tail: TC,
 }
 
@@ -39,7 +39,10 @@ impl<VC: Words, TC: Words> Column for Bools<VC, TC> {
     ghost content = { bools_content VC.bytes TC.bytes };
 }
 
-/// How many bits whole words and a tail hold.
+/// Returns the number of bits of whole words and a tail.
+///
+/// # Requires
+/// Well-formed words and tail.
 pub fn count_bits(values: View<'_, u64>, tail: View<'_, u64>) -> usize
     requires { SoundBools (view_bytes values) (view_bytes tail) }
     ensures { result ≡ length (bits_in (view_bytes values.entry) (view_bytes tail.entry)) }
@@ -47,7 +50,10 @@ pub fn count_bits(values: View<'_, u64>, tail: View<'_, u64>) -> usize
     64 * word_count(values) + word_at(tail, 1) as usize
 }
 
-/// Bit `index` of whole words and a tail.
+/// Returns bit `index` of whole words and a tail.
+///
+/// # Requires
+/// Well-formed words and tail, and `index` below their number of bits.
 pub fn bit_at(values: View<'_, u64>, tail: View<'_, u64>, index: usize) -> bool
     requires sound { SoundBools (view_bytes values) (view_bytes tail) }
     requires in_range { index < length (bits_in (view_bytes values) (view_bytes tail)) }
@@ -70,7 +76,7 @@ impl<VC: Words, TC: Words> Index for Bools<VC, TC> {
     }
 }
 
-// The lowest `count` bits of the word, and zero above.
+// Returns the lowest `count` bits of the word, and zeros above.
 #[tactic(auto, using(crate::specs::BitLaws::bit_low, crate::specs::BitLaws::low_below))]
 fn low_bits(word: u64, count: u64) -> u64
     requires { count < 64 }
@@ -80,7 +86,7 @@ fn low_bits(word: u64, count: u64) -> u64
     word & ((1 << count) - 1)
 }
 
-// `low`, and above its lowest `at` bits those of `high`.
+// Returns the lowest `at` bits of `low`, with the bits of `high` above.
 #[tactic(auto, using(crate::specs::BitLaws::join_low, crate::specs::BitLaws::join_high, crate::specs::BitLaws::join_below))]
 fn joined(low: u64, high: u64, at: u64) -> u64
     requires within { at < 64 }
@@ -92,7 +98,7 @@ fn joined(low: u64, high: u64, at: u64) -> u64
     low | high << at
 }
 
-// What of `bits`, of which there are `count`, does not go into a word that has `at` bits already.
+// Returns the upper bits of `bits`, of `count` bits, that do not fit into a word that has `at` bits already.
 #[tactic(auto, using(crate::specs::BitLaws::spill_bit, crate::specs::BitLaws::spill_below))]
 fn spilled(bits: u64, at: u64, count: u64) -> u64
     requires within { (at < 64) × (count ≤ 64) }
@@ -104,7 +110,7 @@ fn spilled(bits: u64, at: u64, count: u64) -> u64
     if at == 0 { 0 } else { bits >> (64 - at) }
 }
 
-// A word whose lowest `count` bits are those from `index` on.
+// Returns a word whose lowest `count` bits are those from `index` on.
 #[tactic(auto, using(crate::specs::BitLaws::bit_shr, crate::specs::BitLaws::high_part, crate::specs::BoolLaws::bits_length))]
 fn window(values: View<'_, u64>, tail: View<'_, u64>, index: usize, count: usize) -> u64
     requires sound { SoundBools (view_bytes values) (view_bytes tail) }
@@ -121,7 +127,7 @@ fn window(values: View<'_, u64>, tail: View<'_, u64>, index: usize, count: usize
     }
 }
 
-// The number of the `count` bits from `index` on.
+// Returns the `count` bits from `index` on as a number.
 #[tactic(auto, using(crate::specs::BitLaws::range_truths))]
 fn taken(values: View<'_, u64>, tail: View<'_, u64>, index: usize, count: usize) -> u64
     requires sound { SoundBools (view_bytes values) (view_bytes tail) }
@@ -142,8 +148,10 @@ fn taken(values: View<'_, u64>, tail: View<'_, u64>, index: usize, count: usize)
 }
 
 impl<VC: Words, TC: Words> Bools<VC, TC> {
-    /// The number whose lowest bits are the `count` bits from `index` on, the first lowest. Asks that there are as
-    /// many, and at most 64.
+    /// Returns the `count` bits from `index` on as a number, the first bit lowest.
+    ///
+    /// # Requires
+    /// A well-formed column with these bits, and at most 64 of them.
     #[tactic(auto, using(crate::specs::BitLaws::bits_number))]
     pub fn bits_at(&self, index: usize, count: usize) -> u64
         requires sound { IsSound bools_format (bools_content VC.bytes TC.bytes self.now) }
@@ -157,7 +165,7 @@ impl<VC: Words, TC: Words> Bools<VC, TC> {
     }
 }
 
-// The last bits that a tail holds, and how many of them count.
+// Returns the last bits of a tail, and their number.
 pub(crate) fn tail_parts(tail: View<'_, u64>) -> (u64, u64)
     requires { length (view_bytes tail) ≡ 16 }
     ensures word { result.0 ≡ last_word (view_bytes tail.entry) }
@@ -166,14 +174,14 @@ pub(crate) fn tail_parts(tail: View<'_, u64>) -> (u64, u64)
     (word_at(tail, 0), word_at(tail, 1))
 }
 
-// The tail of these two words.
+// Returns the tail of these two words.
 pub(crate) fn tail_of(word: u64, count: u64) -> [u64; 2]
     ensures { Tail (le_bytes result) word count }
 {
     [word, count]
 }
 
-// The number of one bit.
+// Returns one bit as a number.
 #[tactic(auto, using(crate::specs::BoolLaws::bit_one, crate::specs::BoolLaws::bit_zero))]
 fn one_bit(bit: bool) -> u64
     ensures bits { truths (bit_of result) 1 ≡ bit ∷ [] }
@@ -182,7 +190,7 @@ fn one_bit(bit: bool) -> u64
     if bit { 1 } else { 0 }
 }
 
-// A column without bits.
+// Returns a column without bits.
 fn no_bits(alloc: Global) -> Bools<Vec<u64>, [u64; 2]>
     ensures sound { IsSound bools_format (owned_content result) }
     ensures bits { owned_bits result ≡ [] }
@@ -193,8 +201,9 @@ fn no_bits(alloc: Global) -> Bools<Vec<u64>, [u64; 2]>
     }
 }
 
-// The column with the bits of `count` words, from bit `start` on, after its own; there is room for them. It is taken by value,
-// since the compiler then knows that what is written changes neither its length nor its place. One turn for each.
+// Returns the column followed by the bits of `count` words, from bit `start` on; the capacity suffices. It takes the
+// column by value: then the compiler knows that the writes change neither its length nor its address. Takes a step for
+// each word.
 #[inline]
 fn with_words<L>(
     column: Bools<Vec<u64>, [u64; 2]>,
@@ -222,9 +231,14 @@ fn with_words<L>(
 }
 
 impl Bools<Vec<u64>, [u64; 2]> {
-    /// Appends the lowest `count` bits of the number, the lowest first; all or none. Asks for at most 64, and that no
-    /// bit of the number is set from there on. Where they fill no word, they need no memory. It answers Length
-    /// exactly where there would be more than 2^64 - 1 bits.
+    /// Appends the lowest `count` bits of `bits`, lowest first, or none. Succeeds without memory if they complete no
+    /// word.
+    ///
+    /// # Requires
+    /// A well-formed column; at most 64 bits, and no bit of `bits` set from `count` on.
+    ///
+    /// # Errors
+    /// `Length` if and only if there would be more than 2^64 - 1 bits, or `Memory`. The column stays.
     #[inline(always)]
     pub fn push_bits(&mut self, bits: u64, count: usize) -> Result<(), GrowError>
         requires sound { IsSound bools_format (owned_content self.old) }
@@ -254,7 +268,7 @@ impl Bools<Vec<u64>, [u64; 2]> {
         Ok(())
     }
 
-    // Appends the bits of a word, the lowest first; there is room for it.
+    // Appends the bits of a word, lowest first; the capacity suffices.
     #[inline(always)]
     fn append_word(&mut self, bits: u64)
         requires sound { IsSound bools_format (owned_content self.old) }
@@ -270,7 +284,13 @@ impl Bools<Vec<u64>, [u64; 2]> {
         self.tail = tail_of(spilled(bits, have, 64), have);
     }
 
-    /// Appends one bit, and is refused as `push_bits` of one.
+    /// Appends one bit. Succeeds without memory if it completes no word.
+    ///
+    /// # Requires
+    /// A well-formed column.
+    ///
+    /// # Errors
+    /// As `push_bits`.
     #[inline(always)]
     pub fn push_bit(&mut self, bit: bool) -> Result<(), GrowError>
         requires { IsSound bools_format (owned_content self.old) }
@@ -290,9 +310,14 @@ impl Bools<Vec<u64>, [u64; 2]> {
         self.push_bits(one_bit(bit), 1)
     }
 
-    /// Appends the bits of the range of `other`, up to 64 at a time: all of them or none. After a refusal the bits are
-    /// as before. It answers Length exactly where there would be more than 2^64 - 1 bits. The turns that it takes are
-    /// added to the tally: at most one for each 64 bits, and one.
+    /// Appends the bits of the range of `other`, up to 64 at a time, or none. Counts its steps in the tally: at most
+    /// one for each 64 bits, and one more.
+    ///
+    /// # Requires
+    /// Well-formed columns, and a range of the bits of `other`.
+    ///
+    /// # Errors
+    /// `Length` if and only if there would be more than 2^64 - 1 bits, or `Memory`. The bits stay.
     pub fn extend_bits_from_tallied<V: Words, T: Words, L>(
         &mut self,
         other: &Bools<V, T>,
@@ -316,7 +341,7 @@ impl Bools<Vec<u64>, [u64; 2]> {
         if count > usize::MAX - start {
             return Err(GrowError::Length);
         }
-        // (the words that are filled at least, asked for at once)
+        // (capacity for at least the words that are completed, reserved at once)
         let words = count / 64;
         self.values.reserve(words)?;
         let empty = no_bits(*self.values.allocator());
@@ -335,8 +360,13 @@ impl Bools<Vec<u64>, [u64; 2]> {
         Ok(())
     }
 
-    /// Appends the bits of the range of `other`, up to 64 at a time: all of them or none. After a refusal the bits are
-    /// as before. It answers Length exactly where there would be more than 2^64 - 1 bits.
+    /// Appends the bits of the range of `other`, up to 64 at a time, or none.
+    ///
+    /// # Requires
+    /// Well-formed columns, and a range of the bits of `other`.
+    ///
+    /// # Errors
+    /// `Length` if and only if there would be more than 2^64 - 1 bits, or `Memory`. The bits stay.
     pub fn extend_bits_from<V: Words, T: Words>(
         &mut self,
         other: &Bools<V, T>,
@@ -406,7 +436,13 @@ impl Reserve for Bools<Vec<u64>, [u64; 2]> {
 }
 
 impl Push<bool> for Bools<Vec<u64>, [u64; 2]> {
-    /// A bit that fills no word needs no memory.
+    /// Appends one bit. Succeeds without memory if it completes no word.
+    ///
+    /// # Requires
+    /// A well-formed column.
+    ///
+    /// # Errors
+    /// As `Push::push`.
     fn push(&mut self, item: bool) -> Result<(), GrowError>
         requires sound { IsSound bools_format (owned_content self.old) }
         ensures ok { OnOk result (Took bools_format (owned_content self.old) (owned_content self.new) (truth item ∷ [])) }
@@ -418,7 +454,13 @@ impl Push<bool> for Bools<Vec<u64>, [u64; 2]> {
 }
 
 impl<'x> Push<&'x bool> for Bools<Vec<u64>, [u64; 2]> {
-    /// A bit that fills no word needs no memory.
+    /// Appends one bit. Succeeds without memory if it completes no word.
+    ///
+    /// # Requires
+    /// A well-formed column.
+    ///
+    /// # Errors
+    /// As `Push::push`.
     fn push(&mut self, item: &'x bool) -> Result<(), GrowError>
         requires sound { IsSound bools_format (owned_content self.old) }
         ensures ok { OnOk result (Took bools_format (owned_content self.old) (owned_content self.new) (truth item.now ∷ [])) }
@@ -430,7 +472,13 @@ impl<'x> Push<&'x bool> for Bools<Vec<u64>, [u64; 2]> {
 }
 
 impl PushRef<bool> for Bools<Vec<u64>, [u64; 2]> {
-    /// A bit that fills no word needs no memory.
+    /// Appends one bit. Succeeds without memory if it completes no word.
+    ///
+    /// # Requires
+    /// A well-formed column.
+    ///
+    /// # Errors
+    /// As `Push::push`.
     fn push_ref(&mut self, item: &bool) -> Result<(), GrowError>
         requires sound { IsSound bools_format (owned_content self.old) }
         ensures ok { OnOk result (Took bools_format (owned_content self.old) (owned_content self.new) (truth item.now ∷ [])) }

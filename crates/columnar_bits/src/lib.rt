@@ -1,4 +1,4 @@
-//! Columns of bits: truth values by the words that hold them.
+//! Columns of bits: booleans in 64-bit words.
 #![tactic(auto)]
 
 pub mod bools;

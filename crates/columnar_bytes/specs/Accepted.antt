@@ -14,12 +14,12 @@ pub record Accepts (f : Format) (bytes : List ℕ) : Type 0 where
   pub count : length slices ≡ f.count
   pub sound : IsSound f (f.build slices)
 
--- the same, of the only slices that the bytes can frame
+-- the same for the only slices that the bytes can frame
 pub record Accepted (f : Format) (bytes : List ℕ) : Type 0 where
   pub store : IsStore bytes
   pub count : length (framed_slices bytes) ≡ f.count
   pub sound : IsSound f (f.build (framed_slices bytes))
 
--- The fault names the first broken rule: of the structure, or, where that is legal, of the column in its slices.
+-- The fault is the first broken rule: of the structure, or, if that is legal, of the column in its slices.
 abbrev pub IsFirstFault : Format → List ℕ → StoreFault → Type 0
 IsFirstFault f bytes fault = IsFirstBroken bytes f.count fault ⊎ (IsLegal bytes f.count × (Some (fault_of fault) ≡ first (f.broken (f.build (framed_slices bytes)))))

@@ -41,14 +41,14 @@ fault_found f ss x e h = h ∙ ap first (faults_all f ss e)
 pub sound_found : (f : Format) (ss : List (List ℕ)) → length ss ≡ f.count → None ≡ first (faults_at f 0 ss) → IsSound f (f.build ss)
 sound_found f ss e h = record { accepted = first_none (f.broken (f.build ss)) (sym (h ∙ ap first (faults_all f ss e))) }
 
--- a found fault refuses
+-- bytes with a fault are not accepted
 pub refused_by : (f : Format) (bytes : List ℕ) (x : Fault) → Some x ≡ first (f.broken (f.build (framed_slices bytes))) → Accepts f bytes → ⊥
 refused_by f bytes x h a =
     let s = (accepted_from f bytes a).sound.accepted in
     let k : Some x ≡ None = h ∙ ap first s in
     cc
 
--- what the test of the slices of a store answers, it answers of the bytes
+-- the result of validating the slices of a store is that of its bytes
 pub judged_accepted : (f : Format) (bytes : List ℕ) (r : Result (Unit {0}) StoreFault) → IsStore bytes → length (framed_slices bytes) ≡ f.count → verdict r ≡ first (faults_at f 0 (framed_slices bytes)) → OnOk r (Accepted f bytes)
 judged_accepted f bytes (Ok u) s n h = record { store = s; count = n; sound = sound_found f (framed_slices bytes) n h }
 judged_accepted f bytes (Err x) s n h = tt

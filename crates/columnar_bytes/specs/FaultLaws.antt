@@ -7,7 +7,6 @@ use Rattle.columnar_bytes.specs.StructureFaults.{IsBroken}
 use Rattle.columnar_core.specs.declared.fault.StoreFault.{StoreFault}
 use Rattle.columnar_core.specs.declared.fault.StoreFault.TheVariants.{NotWords, Empty, FirstOffset, Table, SliceCount, PastEnd, Backwards, ElementSize, HeadSize, Parts, Bounds, Counts, TailBits, Value, Lookback, Stride, Variant, Tree, Length}
 
--- a store with a broken rule is not legal
 pub broken_refused : (bytes : List ℕ) (n : ℕ) (fault : StoreFault) → IsBroken bytes n fault → IsLegal bytes n → ⊥
 broken_refused bytes n (NotWords i) b h = b.1 h.whole
 broken_refused bytes n (Empty i) b h = let t = table_of bytes n h in omega arith

@@ -8,7 +8,7 @@ use Rattle.columnar_core.specs.declared.traits.Column.{Ghosts as ColumnOf}
 use Rattle.columnar_bytes.specs.declared.stash.framed.Framed.{Framed}
 use Rattle.columnar_bytes.specs.FramedContent.{framed_content, byte_format}
 
--- it has just these slices
+-- it has exactly these slices
 pub framed_slices_are : (f : Format) (ss : List (List ℕ)) → IsStorable f → length ss ≡ f.count → slices_of (f.build ss) ≡ ss
 framed_slices_are f ss law n = law.built ss (omega (arith, n)) ∙ (rw (← n) (take-length ss))
 
@@ -37,7 +37,7 @@ byte_storable f s = record {
 pub byte_fits : (f : Format) (at : ℕ) (ss : List (List ℕ)) → Fits (byte_format f) at ss → Fits f at ss
 byte_fits f at ss h = record { room = h.room; sound = record { accepted = h.sound.accepted } }
 
--- slice i, read by its number
+-- slice i, read by its index
 pub got_at : (ss : List (List ℕ)) (i : ℕ) (bs : List ℕ) → i < length ss → bs ≡ slice_index_or ss i [] → slice_get ss i ≡ Some bs
 got_at [] i bs l h = absurd (omega arith)
 got_at (s ∷ ss) zero bs l h = ap Some (sym h)

@@ -13,7 +13,13 @@ pub mod FramedContentLaws
 pub mod StashLaws
 pub mod StashLends
 pub mod Either
-pub mod EitherLaws
 pub mod Machine
 pub mod States
 pub mod MachineLaws
+pub mod Streams
+pub mod StreamLaws
+pub mod StreamFaults
+pub mod StreamFaultLaws
+pub mod StoresLeft
+pub mod Exact
+pub mod ExactLaws

@@ -1,4 +1,4 @@
--- The list machine: what commands mean, and what replies say of them.
+-- The list machine: the meaning of commands, and what replies state about them.
 use Rattle.std.specs.Prelude.{ℕ, Bool, true, false, List, [], ◌∷◌, ◌++◌, take, drop, ◌-◌, ◌*◌, ◌^◌, ◌<◌, ◌≤◌, ◌≡◌, ◌≢◌, length, ◌&&◌, nat_le}
 use Rattle.columnar_core.specs.Row.{Row}
 use Rattle.columnar_core.specs.Format.{Format, Content, IsSound, all_alike, slices_of}
@@ -16,7 +16,7 @@ use Rattle.columnar_bytes.specs.declared.stash.commands.Reply.{Reply}
 use Rattle.columnar_bytes.specs.declared.stash.commands.Reply.TheVariants.{Done, Refused}
 use Rattle.columnar_bytes.specs.Stashes.{Variant, typed, bytes, aligned}
 
--- what is pushed is valid
+-- a pushed item is valid
 abbrev pub IsValid : {T : Type 0} → (T → Type 0) → Command T → Type 0
 IsValid valid (Push t) = valid t
 IsValid valid Clear = Unit {0}
@@ -26,7 +26,7 @@ IsValid valid MakeTyped = Unit {0}
 IsValid valid MakeAligned = Unit {0}
 IsValid valid Reopen = Unit {0}
 
--- a command, with the row that a pushed item means
+-- a command, with the row of a pushed item
 pub data Order : Type 0 where
   push : Row → Order
   clear : Order
@@ -45,20 +45,20 @@ order_of meaning MakeTyped = make_typed
 order_of meaning MakeAligned = make_aligned
 order_of meaning Reopen = reopen
 
--- A copy is in range where it begins before its end, and its end is within the source; a cut where there are as many
--- rows.
+-- A copy is in range if its start is at most its end, and its end is within the source; a cut if there are at least as
+-- many rows.
 abbrev pub in_range : ℕ → ℕ → Order → Bool
 in_range source rows (copy from to) = nat_le from to && nat_le to source
 in_range source rows (truncate n) = nat_le n rows
 in_range source rows _ = true
 
--- the rows that an order adds
+-- the rows that an order appends
 abbrev pub added : List Row → Order → List Row
 added source (push r) = r ∷ []
 added source (copy from to) = take (to - from) (drop from source)
 added source _ = []
 
--- the rows that an order makes of rows
+-- the rows after an order
 abbrev pub act : List Row → List Row → Order → List Row
 act source rows (push r) = rows ++ r ∷ []
 act source rows clear = []
@@ -66,13 +66,14 @@ act source rows (copy from to) = rows ++ take (to - from) (drop from source)
 act source rows (truncate n) = take n rows
 act source rows _ = rows
 
--- the variant that an order leaves once it is done
+-- the variant after an order
 abbrev pub variant_after : Order → Variant
 variant_after make_aligned = aligned
 variant_after reopen = bytes
 variant_after _ = typed
 
--- May the order be refused for want of room? Never a clear, nor on a column a cut or a conversion to a column.
+-- Whether the order can be refused as growth. A clear cannot; at a column, neither can a cut nor a conversion to a
+-- column.
 abbrev pub can_refuse : Variant → Order → Bool
 can_refuse v (push r) = true
 can_refuse v clear = false
@@ -86,13 +87,13 @@ can_refuse aligned make_typed = true
 can_refuse v make_aligned = false
 can_refuse v reopen = false
 
--- the order adds rows of its own
+-- the order appends rows
 abbrev pub adds : Order → Bool
 adds (push r) = true
 adds (copy from to) = true
 adds _ = false
 
--- the order makes an encoding; aligned bytes are one already
+-- the order makes an encoding; aligned bytes already are one
 abbrev pub encodes : Variant → Order → Bool
 encodes v reopen = true
 encodes typed make_aligned = true
@@ -100,19 +101,20 @@ encodes bytes make_aligned = true
 encodes aligned make_aligned = false
 encodes v _ = false
 
--- what a stash holds, as which variant, and the bytes that it writes
+-- the variant of a stash, its content, and the bytes that it writes
 pub record State : Type 0 where
   pub variant : Variant
   pub content : Content
   pub written : List ℕ
 
--- A well-formed column is held. Bytes hold what their slices make; all but bytes as they came write the encoding.
+-- The stash holds a sound content. The content of bytes is that of their slices; a column and aligned bytes write the
+-- encoding.
 pub record IsHeld (f : Format) (s : State) : Type 0 where
   pub sound : IsSound f s.content
   pub framed : s.variant ≢ typed → s.content ≡ f.build (framed_slices s.written)
   pub encoded : s.variant ≢ bytes → s.written ≡ store_bytes (slices_of s.content)
 
--- how a content becomes another by an order
+-- how an order changes a content
 abbrev pub IsChange : Format → List Row → Content → Content → Order → Type 0
 IsChange f source old new (push r) = Took f old new (r ∷ [])
 IsChange f source old new clear = f.rows new ≡ []
@@ -120,12 +122,12 @@ IsChange f source old new (copy from to) = Copied f old new from (take (to - fro
 IsChange f source old new (truncate n) = WasCut f old new n
 IsChange f source old new _ = new ≡ old
 
--- The bytes of the content's encoding can be counted in 64 bits.
+-- 64 bits can count the bytes of the content's encoding.
 abbrev pub CanBeCounted : Content → Type 0
 CanBeCounted c = 8 * length (words (slices_of c)) < 2 ^ 64
 
--- The order was in range, and the machine's step was taken: the rows are the machine's up to alike, the content is
--- what the order makes of it, the variant is the order's, and what is then written is the encoding.
+-- The order was in range and carried out. The rows represent those of the machine, the content changed by the order,
+-- the variant is the order's, and the bytes to write are the encoding.
 pub record IsStep (f : Format) (source : List Row) (old new : State) (order : Order) : Type 0 where
   pub within : in_range (length source) (length (f.rows old.content)) order ≡ true
   pub alike : all_alike f.alike (f.rows new.content) (act source (f.rows old.content) order) ≡ true
@@ -134,14 +136,14 @@ pub record IsStep (f : Format) (source : List Row) (old new : State) (order : Or
   pub written : new.written ≡ store_bytes (slices_of new.content)
   pub counted : encodes old.variant order ≡ true → CanBeCounted old.content
 
--- Rows, lengths of all parts and variant are as before; bytes stay wholly as they were.
+-- The rows, the lengths of all parts and the variant stay; bytes are unchanged.
 pub record IsUnchanged (f : Format) (old new : State) : Type 0 where
   pub stayed : Stayed f old.content new.content
   pub variant : new.variant ≡ old.variant
   pub bytes : old.variant ≢ typed → new ≡ old
 
--- The order was in range, it is one that grows or loads a column, and the error is true of the rows. An order that adds
--- none is refused for want of memory alone, and all is as it was.
+-- The order was in range, it grows or loads a column, and the error has a true cause. An order that appends no rows is
+-- refused only with Memory, and nothing changed.
 pub record IsRefusedGrowth (f : Format) (source : List Row) (old new : State) (order : Order) (error : GrowError) : Type 0 where
   pub within : in_range (length source) (length (f.rows old.content)) order ≡ true
   pub unchanged : IsUnchanged f old new
@@ -149,30 +151,30 @@ pub record IsRefusedGrowth (f : Format) (source : List Row) (old new : State) (o
   pub cause : IsTrueOf error f old.content (added source order)
   pub loads : adds order ≡ false → (error ≡ Memory) × (new ≡ old)
 
--- Length stands for an encoding whose bytes pass 2^64 - 1, Memory for one that can be counted.
+-- Length means that the encoding exceeds 2^64 - 1 bytes, Memory that 64 bits can count it.
 abbrev pub IsCauseOf : EncodeError → Content → Type 0
 IsCauseOf NoMemory c = CanBeCounted c
 IsCauseOf TooLong c = 2 ^ 64 ≤ 8 * length (words (slices_of c))
 
--- The order makes an encoding, the error is true of it, and all is as it was.
+-- The order makes an encoding, the error has a true cause, and nothing changed.
 pub record IsRefusedEncoding (f : Format) (old new : State) (order : Order) (error : EncodeError) : Type 0 where
   pub same : new ≡ old
   pub can : encodes old.variant order ≡ true
   pub cause : IsCauseOf error old.content
 
--- The order was out of range, and all is as it was.
+-- The order was out of range, and nothing changed.
 pub record IsOutOfRange (f : Format) (source : List Row) (old new : State) (order : Order) : Type 0 where
   pub without : in_range (length source) (length (f.rows old.content)) order ≡ false
   pub same : new ≡ old
 
--- what a reply says of an order
+-- what a reply states about an order
 abbrev pub Answers : Format → List Row → State → State → Order → Reply → Type 0
 Answers f source old new order Done = IsStep f source old new order
 Answers f source old new order (Refused (Grow e)) = IsRefusedGrowth f source old new order e
 Answers f source old new order (Refused Range) = IsOutOfRange f source old new order
 Answers f source old new order (Refused (Encode e)) = IsRefusedEncoding f old new order e
 
--- One reply for each order, one after the other, each true of the well-formed column that was held then.
+-- One reply for each order, in order, each true of the sound column at that time.
 abbrev pub Ran : Format → List Row → State → List Order → List Reply → State → Type 0
 Ran f source old [] [] new = new ≡ old
 Ran f source old (o ∷ os) (r ∷ rs) new = (mid : State) × (IsHeld f mid × Answers f source old mid o r × Ran f source mid os rs new)

@@ -1,4 +1,4 @@
--- The steps of what is written, slice by slice.
+-- The steps of writing, slice by slice.
 use Rattle.std.proofs.Common.{ℕ, List, [], ◌∷◌, ◌++◌, ◌≡◌, ◌<◌, ◌≤◌, ◌+◌, ◌*◌, ◌/◌, ◌^◌, length, map, get_or, take, drop, refl, sym, ◌∙◌, ap, arith, length-append, append-nil, Some, None, cond, ltb, true, false}
 use Rattle.std.specs.List.{flat_map, range_with_len}
 use Rattle.std.proofs.lemmas.List.{drop_more, drop_all, ext_get_or, get_or-take, get_or-drop, length-take-le, length-drop, take-append-drop, drop-drop}
@@ -8,7 +8,7 @@ use Rattle.columnar_core.specs.Words.{slice_ends, table_words, slice_words, word
 use Rattle.columnar_core.specs.WordLaws.{length-slice_words, word-le_bytes}
 use Rattle.columnar_core.specs.WordViewLaws.{length-le_bytes}
 
--- how many words the slices from i on take
+-- the number of words of the slices from i on
 pub words_rest : (slices : List (List ℕ)) (i : ℕ) → i < length slices → length (flat_map slice_words (drop i slices)) ≡ (length (get_or slices i []) + 7) / 8 + length (flat_map slice_words (drop (i + 1) slices))
 words_rest slices i l =
     ap (λ t. length (flat_map slice_words t)) (drop_more slices i [] l)
@@ -40,7 +40,7 @@ word_count_some slices n p l =
     let e : ltb (8 * length (words slices)) (2 ^ 64) ≡ true = grind arith in
     ap Some p ∙ sym (ap (λ b. cond b (Some (length (words slices))) None) e)
 
--- the next words of those that are left
+-- the next of the remaining words
 pub block_rest : (s : List ℕ) (at n : ℕ) (ws : List ℕ) → at + n ≤ (length s + 7) / 8 → ws ≡ map (word s) (range_with_len at n) → drop at (slice_words s) ≡ ws ++ drop (at + n) (slice_words s)
 block_rest s at n ws l e =
     let xs = slice_words s in
@@ -58,7 +58,7 @@ block_rest s at n ws l e =
 pub words_out : (s : List ℕ) (i : ℕ) → (length s + 7) / 8 ≤ i → drop i (slice_words s) ≡ []
 words_out s i l = drop_all i (slice_words s) (omega (arith, length-slice_words s))
 
--- one slice on in the table
+-- one slice further in the table
 pub ends_step : (start : ℕ) (slices : List (List ℕ)) (i end next : ℕ) → i < length slices → end ≡ start + length (get_or slices i []) → next ≡ rounded end → slice_ends start (drop i slices) ≡ (end ∷ []) ++ slice_ends next (drop (i + 1) slices)
 ends_step start slices i end next l p q = rw (q, p) (ends_rest start slices i l)
 

@@ -1,4 +1,4 @@
--- What is written is accepted.
+-- Written bytes are accepted.
 use Rattle.std.proofs.Common.{◌≡◌, ◌≢◌, ℕ, ◌*◌, ◌^◌, ◌<◌, List, [], length, append-nil, refl, sym, ap, ◌∙◌, arith}
 use Rattle.std.specs.Prelude.{Option, Result, OnOk, IfErr}
 use Rattle.std.proofs.lemmas.Result.{on_ok_weaker, IfErr-weaker}
@@ -21,7 +21,7 @@ use Rattle.columnar_bytes.specs.declared.stash.ByteStore.{Ghosts as BytesOf}
 use Rattle.columnar_bytes.specs.declared.stash.Stash.{Stash}
 use Rattle.columnar_bytes.specs.declared.stash.Stash.TheVariants.{Typed, Bytes, Align}
 
--- the slices of a sound content make it again
+-- the slices of a sound content build it again
 pub built_again : (f : Format) (c : Content) → IsStorable f → IsSound f c → f.build (slices_of c) ≡ c
 built_again f c law s = rw (append-nil (slices_of c)) at (law.rebuilt c [] s)
 
@@ -31,7 +31,7 @@ written_accepted f c law n l s =
     let e = slices-store_bytes (slices_of c) l in
     accepts_from f (store_bytes (slices_of c)) (record { store = store-store_bytes (slices_of c) l; count = rw e n; sound = rw (e, built_again f c law s) s })
 
--- and they mean the same
+-- and they have the same content
 pub written_again : (f : Format) (c : Content) → IsStorable f → 8 * length (words (slices_of c)) < 2 ^ 64 → IsSound f c → f.build (framed_slices (store_bytes (slices_of c))) ≡ c
 written_again f c law l s = rw (slices-store_bytes (slices_of c) l) (built_again f c law s)
 
@@ -39,7 +39,7 @@ pub left_by : {E : Type 0} (old new : Option (List ℕ)) (slices : List (List �
 left_by old new slices Length h = (rw (length-store_bytes slices) h.0, h.1)
 left_by old new slices (Writer e) h = (rw (length-store_bytes slices) h.0, h.1)
 
--- the same of what a writing answers
+-- the same for the result of a write
 pub counted_on_ok : {T E : Type 0} (r : Result T E) (slices : List (List ℕ)) → OnOk r (8 * length (words slices) < 2 ^ 64) → OnOk r (length (store_bytes slices) < 2 ^ 64)
 counted_on_ok r slices h = on_ok_weaker {P = 8 * length (words slices) < 2 ^ 64} {Q = length (store_bytes slices) < 2 ^ 64} r (λ l. rw (length-store_bytes slices) l) h
 
@@ -58,7 +58,7 @@ stash_counted {C} {B} {column} {store} law counted (Typed c) = counted c
 stash_counted {C} {B} {column} {store} law counted (Bytes k) = rw (framed_slices_are column.format (framed_slices (checked_bytes k)) law k.accepted.count) k.accepted.count
 stash_counted {C} {B} {column} {store} law counted (Align k) = rw (framed_slices_are column.format (framed_slices (checked_bytes k)) law k.accepted.count) k.accepted.count
 
--- the bytes of the words, where they are these
+-- the bytes of the words, if they are these
 pub encoding_accepted : (f : Format) (c : Content) (bs : List ℕ) → IsStorable f → length (slices_of c) ≡ f.count → 8 * length (words (slices_of c)) < 2 ^ 64 → IsSound f c → bs ≡ store_bytes (slices_of c) → Accepted f bs
 encoding_accepted f c bs law n l s e =
     let d = slices-store_bytes (slices_of c) l in
@@ -67,13 +67,13 @@ encoding_accepted f c bs law n l s e =
 pub encoding_again : (f : Format) (c : Content) (bs : List ℕ) → IsStorable f → 8 * length (words (slices_of c)) < 2 ^ 64 → IsSound f c → bs ≡ store_bytes (slices_of c) → f.build (framed_slices bs) ≡ c
 encoding_again f c bs law l s e = rw e (written_again f c law l s)
 
--- all but bytes as they came are the encoding
+-- a column and aligned bytes write the encoding
 pub stash_encoded : {C B : Type 0} {column : ColumnOf C} {store : BytesOf B} → IsStorable column.format → (s : Stash C B column store) → variant_of s ≢ bytes → written_bytes s ≡ store_bytes (slices_of (stash_content s))
 stash_encoded {C} {B} {column} {store} law (Typed c) n = refl
 stash_encoded {C} {B} {column} {store} law (Bytes k) n = absurd (n refl)
 stash_encoded {C} {B} {column} {store} law (Align k) n = rw (framed_slices_are column.format (framed_slices (checked_bytes k)) law k.accepted.count) k.store.tight
 
--- aligned bytes can be counted
+-- 64 bits can count aligned bytes
 pub stash_counts : {C B : Type 0} {column : ColumnOf C} {store : BytesOf B} → IsStorable column.format → (s : Stash C B column store) → variant_of s ≡ aligned → 8 * length (words (slices_of (stash_content s))) < 2 ^ 64
 stash_counts {C} {B} {column} {store} law (Typed c) e = cc
 stash_counts {C} {B} {column} {store} law (Bytes k) e = cc
@@ -82,20 +82,20 @@ stash_counts {C} {B} {column} {store} law (Align k) e =
     let l : length (checked_bytes k) ≡ 8 * length (words ss) = ap length k.store.tight ∙ length-store_bytes ss in
     rw (framed_slices_are column.format ss law k.accepted.count) (omega (arith, l, k.store.counted))
 
--- what a stash holds, it holds as its variant says
+-- a sound stash holds its content as its variant says
 pub stash_held : {C B : Type 0} {column : ColumnOf C} {store : BytesOf B} → IsStorable column.format → (s : Stash C B column store) → IsSound column.format (stash_content s) → IsHeld column.format (state_of s)
 stash_held {C} {B} {column} {store} law (Typed c) h = record { sound = h; framed = λ n. absurd (n refl); encoded = stash_encoded {column = column} {store = store} law (Typed c) }
 stash_held {C} {B} {column} {store} law (Bytes k) h = record { sound = h; framed = λ _. refl; encoded = stash_encoded {column = column} {store = store} law (Bytes k) }
 stash_held {C} {B} {column} {store} law (Align k) h = record { sound = h; framed = λ _. refl; encoded = stash_encoded {column = column} {store = store} law (Align k) }
 
--- the bytes of the words are those of the slices that they frame, and can be counted
+-- the bytes of the words are those of the slices that they frame, and 64 bits can count them
 pub encoding_tight : (slices : List (List ℕ)) (bs : List ℕ) → 8 * length (words slices) < 2 ^ 64 → bs ≡ store_bytes slices → bs ≡ store_bytes (framed_slices bs)
 encoding_tight slices bs l e = e ∙ ap store_bytes (sym (ap framed_slices e ∙ slices-store_bytes slices l))
 
 pub encoding_short : (slices : List (List ℕ)) (bs : List ℕ) → 8 * length (words slices) < 2 ^ 64 → bs ≡ store_bytes slices → length bs < 2 ^ 64
 encoding_short slices bs l e = rw (e, length-store_bytes slices) l
 
--- the bytes that a stash holds are those that it writes
+-- the bytes of a stash are those that it writes
 pub holds_written : {C B : Type 0} {column : ColumnOf C} {store : BytesOf B} (s : Stash C B column store) (bs : List ℕ) → HoldsBytes s bs → written_bytes s ≡ bs
 holds_written (Typed c) bs h = absurd h
 holds_written (Bytes k) bs h = h

@@ -1,4 +1,4 @@
--- What a stash is to the machine.
+-- A stash as a state of the machine.
 use Rattle.columnar_core.specs.declared.traits.Column.{Ghosts as ColumnOf}
 use Rattle.columnar_bytes.specs.declared.stash.ByteStore.{Ghosts as BytesOf}
 use Rattle.columnar_bytes.specs.declared.stash.Stash.{Stash}

@@ -19,7 +19,7 @@ after : (slices : List (List ℕ)) → 8 * length (words slices) < 2 ^ 64 → le
 after slices b =
     omega (arith, length-store_bytes slices, length-words slices, length-flat_padded slices, from_all (8 * (length slices + 1)) slices (omega arith), start_word slices (length slices) b (omega arith))
 
--- what is written frames the slices tightly
+-- written bytes frame the slices tightly
 pub tight_words : (slices : List (List ℕ)) → 8 * length (words slices) < 2 ^ 64 → FramesTightly (store_bytes slices) slices
 tight_words slices b = record {
   framed = framed_words slices b;
@@ -27,7 +27,7 @@ tight_words slices b = record {
   nothing_after = after slices b;
 }
 
--- where a slice ends, by its length
+-- the end of a slice, from its length
 end_is : (bytes : List ℕ) (slices : List (List ℕ)) (i : ℕ) → Frame bytes slices → i < length slices → end_of bytes i ≡ start_of bytes i + length (get_or slices i [])
 end_is bytes slices i f l =
     let p = f.table.placed i l in
@@ -92,7 +92,7 @@ same_below a b slices (suc i) j p q f g l h =
     (cases_lt j (end_of a i)))
     (cases_lt j (start_of a i))
 
--- there is one store that frames the slices tightly
+-- only one store frames the slices tightly
 pub tight_once : (a b : List ℕ) (slices : List (List ℕ)) → AreBytes a → AreBytes b → FramesTightly a slices → FramesTightly b slices → a ≡ b
 tight_once a b slices p q f g =
     ext_get_or 0 a b (f.nothing_after ∙ same_start a b slices (length slices) f.framed g.framed (omega arith) ∙ sym g.nothing_after)

@@ -1,4 +1,4 @@
-//! Columns in bytes: stores that frame slices, how they are tested, read, encoded and written.
+//! Columns in bytes: stores that frame slices, and how they are validated, read, encoded and written.
 #![tactic(auto)]
 
 pub mod indexed;

@@ -1,4 +1,4 @@
-//! A column, or bytes that were accepted for one.
+//! A column, or bytes that were accepted as one.
 ghost use Rattle.std.specs.Prelude.{◌≡◌, ℕ, length, List, IfOk, IsTrue};
 ghost use Rattle.columnar_core.specs.Format.{representable};
 ghost use Rattle.columnar_core.specs.Frame.{framed_slices};
@@ -9,6 +9,7 @@ mod clone;
 mod commands;
 mod convert;
 mod either;
+mod exact;
 mod framed;
 mod grow;
 mod read;
@@ -18,21 +19,25 @@ use columnar_core::bytes::Stored;
 use columnar_core::store::DecodedStore;
 use columnar_core::traits::{Column, Len};
 pub use commands::{Command, Refusal, Reply, run};
+pub use exact::ExactFault;
 use std::alloc::{AllocError, Global};
 use std::marker::PhantomData;
 use std::ops::DerefSlice;
 use std::rc::RcSlice;
 
-/// A value that holds bytes, the same at each look.
+/// A value that holds bytes, equal at each access.
 pub trait ByteStore: Drop {
     // the bytes
     ghost bytes: { Self → List ℕ };
 
-    /// The bytes.
+    /// Returns the bytes.
     fn as_slice(&self) -> &[u8]
         ensures { result.now ≡ bytes self.now };
 
-    /// A value that holds the same bytes; want of memory alone refuses it.
+    /// Copies the value: the copy holds the same bytes.
+    ///
+    /// # Errors
+    /// `AllocError` if an allocation fails.
     fn clone_store(&self) -> Result<Self, AllocError>
         ensures { IfOk result (λ s. bytes s ≡ bytes self.now) };
 }
@@ -75,7 +80,7 @@ impl ByteStore for RcSlice<u8> {
     }
 }
 
-/// Bytes that were accepted for columns of type `C`. Only a `Stash` makes it.
+/// Bytes that were accepted for columns of type `C`. Only a `Stash` makes them.
 #[derive(Drop)]
 pub struct Checked<C: Stored, B: ByteStore> {
     alloc: Global,
@@ -88,14 +93,14 @@ pub struct Checked<C: Stored, B: ByteStore> {
 impl<C: Stored, B: ByteStore> Checked<C, B> {
     ghost use Rattle.columnar_bytes.specs.Stashes.{checked_bytes};
 
-    /// The bytes.
+    /// Returns the bytes.
     pub fn bytes(&self) -> &[u8]
         ensures { result.now ≡ checked_bytes self.now }
     {
         self.store.as_slice()
     }
 
-    // How many rows the bytes have.
+    // Returns the number of rows of the bytes.
     fn rows(&self) -> usize
         ensures { result ≡ length (C.format.rows (C.format.build (framed_slices (checked_bytes self.now)))) }
     {
@@ -103,12 +108,12 @@ impl<C: Stored, B: ByteStore> Checked<C, B> {
     }
 }
 
-/// A column, or bytes that were accepted for one.
+/// A column, or bytes that were accepted as one.
 #[derive(Drop)]
 pub enum Stash<C: Stored, B: ByteStore> {
     /// A column.
     Typed(C),
-    /// Bytes that were accepted.
+    /// Accepted bytes.
     Bytes(Checked<C, B>),
     /// The bytes of an encoding: zeros between the slices, and nothing after them.
     Align(Checked<C, AlignedBytes>),

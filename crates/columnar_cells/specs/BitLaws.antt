@@ -1,4 +1,4 @@
--- A write to a bit.
+-- Writes of a bit.
 use Rattle.std.proofs.Common.{ℕ, ◌≡◌, ◌<◌, ◌≤◌, ◌+◌, ◌*◌, ◌/◌, ◌%◌, ◌^◌, ◌-◌, Bool, true, false, eqb, List, [], ◌∷◌, ◌++◌, length, map, get_or, refl, ap, sym, ◌∙◌, ⊎_elim, arith}
 use Rattle.std.specs.Prelude.{slice_set, slice_index, bit_or, bit_and}
 use Rattle.std.proofs.lemmas.Nat.{one_shl, or_lt, pow_below}
@@ -28,7 +28,7 @@ set_false w k h = (ap (λ (x : ℕ). eqb x 1) (bit_at_clear_same w64 w k h), λ 
 pub set_below : (w k n : ℕ) → k < 64 → w < 2 ^ n → k < n → bit_or w (1 * 2 ^ k % 2 ^ 64) < 2 ^ n
 set_below w k n h l m = rw (one_shl k 64 h) (or_lt n w (2 ^ k) l (pow_below k n m))
 
--- bit i of words, where u is the word that has it
+-- bit k after bit i was written, if u is the word that has bit i
 bit_after : (ws : List ℕ) (i u : ℕ) (v : Bool) (n k : ℕ) → i / 64 < length ws → i < n → k < n → HasBit u (slice_index ws (i / 64)) (i % 64) v → get_or (slice_set (truths (bit_in ws) n) i v) k false ≡ bit_in (slice_set ws (i / 64) u) k
 bit_after ws i u v n k l m h s = ⊎_elim (λ e. same e) (λ e. other e) (cases_eq k i)
   where
@@ -54,7 +54,7 @@ bits_set : (a b a' b' : List ℕ) (i u : ℕ) (v : Bool) → length (words_in a'
 unfolding bits_of
 bits_set a b a' b' i u v n c e m k h = rw (n, c, e) (truths_set (bit_words a b) i u v (64 * length (words_in a) + last_count b) m k h)
 
--- One of the words, the last one among them, is u.
+-- One of the words, possibly the last one, is u.
 bit_wrote : {a b a' b' : List ℕ} (i u : ℕ) (v : Bool) → SoundBools a b → i < length (bits_in a b) → length a' ≡ length a → length b' ≡ length b → bit_words a' b' ≡ slice_set (bit_words a b) (i / 64) u → last_count b' ≡ last_count b → last_word b' < 2 ^ last_count b → HasBit u (slice_index (bit_words a b) (i / 64)) (i % 64) v → Wrote bools_format (both (slice a) (slice b)) (both (slice a') (slice b')) i (truth v)
 bit_wrote {a} {b} {a'} {b'} i u v s l la lb e c clear h =
     let n : length (words_in a') ≡ length (words_in a) = omega (arith, la, length-words_in a, length-words_in a') in
@@ -68,14 +68,14 @@ bit_wrote {a} {b} {a'} {b'} i u v s l la lb e c clear h =
       lengths_same = rw (la, lb) refl;
     }
 
--- the words of words, with u for word q
+-- the words after word q was set to u
 words_set : (xs : List ℕ) (q u : ℕ) → u < 2 ^ 64 → words_in (le_bytes (slice_set xs q u)) ≡ slice_set (words_in (le_bytes xs)) q u
 words_set xs q u h = words_back (slice_set xs q u) ∙ (map-set (λ n. from_le_bytes w64 (to_le_bytes w64 n)) xs q u ∙ (rw (words_back xs, word_back u h) refl))
 
 length_set : (xs : List ℕ) (q u : ℕ) → length (le_bytes (slice_set xs q u)) ≡ length (le_bytes xs)
 length_set xs q u = length-le_bytes (slice_set xs q u) ∙ (ap (λ n. 8 * n) (length-set xs q u) ∙ sym (length-le_bytes xs))
 
--- a bit of a whole word
+-- a write to a bit of a whole word
 pub whole_bit : (xs tail : List ℕ) (i w u : ℕ) (v : Bool) → IsSound bools_format (both (slice (le_bytes xs)) (slice (le_bytes tail))) → i < length (map truth (bits_in (le_bytes xs) (le_bytes tail))) → i / 64 < length xs → w ≡ slice_index xs (i / 64) → w < 2 ^ 64 → u < 2 ^ 64 → HasBit u w (i % 64) v → Wrote bools_format (both (slice (le_bytes xs)) (slice (le_bytes tail))) (both (slice (le_bytes (slice_set xs (i / 64) u))) (slice (le_bytes tail))) i (truth v)
 whole_bit xs tail i w u v s l m e lw lu h =
     let p = bools_parts s in
@@ -85,7 +85,7 @@ whole_bit xs tail i w u v s l m e lw lu h =
     bit_wrote i u v p (omega (arith, l, length-bools (le_bytes xs) (le_bytes tail), bits_length (le_bytes xs) (le_bytes tail))) (length_set xs (i / 64) u) refl
     (ap (λ ws. ws ++ z ∷ []) (words_set xs (i / 64) u lu) ∙ sym (set-append_left (words_in (le_bytes xs)) (z ∷ []) (i / 64) u n)) refl p.clear (rw f h)
 
--- a bit of the last word
+-- a write to a bit of the last word
 pub tail_bit : (xs tail : List ℕ) (i w u : ℕ) (v : Bool) → IsSound bools_format (both (slice (le_bytes xs)) (slice (le_bytes tail))) → i < length (map truth (bits_in (le_bytes xs) (le_bytes tail))) → length xs ≤ i / 64 → w ≡ slice_index tail 0 → w < 2 ^ 64 → u < 2 ^ 64 → HasBit u w (i % 64) v → ((n : ℕ) → w < 2 ^ n → i % 64 < n → n ≤ 64 → u < 2 ^ n) → Wrote bools_format (both (slice (le_bytes xs)) (slice (le_bytes tail))) (both (slice (le_bytes xs)) (slice (le_bytes (slice_set tail 0 u)))) i (truth v)
 tail_bit xs tail i w u v s l m e lw lu h below =
     let p = bools_parts s in

@@ -1,4 +1,4 @@
--- A write to an item of a list.
+-- Writes of an item of a list.
 use Rattle.std.proofs.Common.{ℕ, zero, suc, ◌≡◌, ◌<◌, Bool, true, false, List, [], ◌∷◌, ◌++◌, length, map, ap, sym, ◌∙◌, refl, ◌+◌, ◌-◌, ◌≤◌, take, drop, arith, length-take, length-drop}
 use Rattle.std.specs.Prelude.{slice_set, slice_get, Some, nat_le, IsTrue, ◌↔◌}
 use Rattle.std.proofs.lemmas.List.{length-set, drop-set-add, drop-set-lt, take-set-le}
@@ -25,7 +25,7 @@ rises_at from e (suc i) l (n ∷ ns) h p =
     let c = rises_at n e i l ns a.1 p in
     omega (arith, b, c)
 
--- lists after the written item
+-- lists after the written item stay the same
 cut_same : (from e : ℕ) (ns : List ℕ) (vs : List Row) (j : ℕ) (r : Row) → j < from → rises from ns e ≡ true → cut from ns (slice_set vs j r) ≡ cut from ns vs
 cut_same from e [] vs j r l h = refl
 cut_same from e (n ∷ ns) vs j r l h =
@@ -50,11 +50,11 @@ cut_set from e (suc i) (n ∷ ns) vs l u k r h p q b =
     let t : take (n - from) (slice_set (drop from vs) (l + k - from) r) ≡ take (n - from) (drop from vs) = take-set-le (n - from) (drop from vs) (l + k - from) r (omega (arith, f, m)) in
     rw (d, t, cut_set n e i ns vs l u k r a.1 p q b) refl
 
--- List i, which begins at l and ends at u.
+-- List i, which starts at l and ends at u.
 pub list_row : (b t : Format) (x y : Content) (i l u : ℕ) → slice_get (0 ∷ numbers (b.rows x)) i ≡ Some l → slice_get (b.rows x) i ≡ Some (number u) → row_at (cut 0 (numbers (b.rows x)) (t.rows y)) i ≡ list (take (u - l) (drop l (t.rows y)))
 list_row b t x y i l u p q = row_at_get _ i _ (cut_get i 0 (numbers (b.rows x)) (t.rows y) l u p (number_get (b.rows x) i u q))
 
--- its items, and how many there are
+-- its items
 pub list_items : (b t : Format) (x y : Content) (i l u : ℕ) → slice_get (0 ∷ numbers (b.rows x)) i ≡ Some l → slice_get (b.rows x) i ≡ Some (number u) → items_of (row_at (cut 0 (numbers (b.rows x)) (t.rows y)) i) ≡ take (u - l) (drop l (t.rows y))
 list_items b t x y i l u p q = ap items_of (list_row b t x y i l u p q) ∙ items_of-list (take (u - l) (drop l (t.rows y)))
 
@@ -67,7 +67,7 @@ list_count b t {x} {y} i l u s p q =
 pub list_item : (b t : Format) (x y : Content) (i l u k : ℕ) → slice_get (0 ∷ numbers (b.rows x)) i ≡ Some l → slice_get (b.rows x) i ≡ Some (number u) → l + k < u → row_at (items_of (row_at (cut 0 (numbers (b.rows x)) (t.rows y)) i)) k ≡ row_at (t.rows y) (l + k)
 list_item b t x y i l u k p q m = ap (λ rs. row_at rs k) (list_items b t x y i l u p q) ∙ (row_at-take (u - l) (drop l (t.rows y)) k (omega (arith, m)) ∙ row_at-drop l (t.rows y) k)
 
--- what an item that is there says of its place
+-- an existing item implies that its list's bounds rise
 pub list_rises : (b t : Format) {x y : Content} (i l u : ℕ) → IsSound (lists_format b t) (both x y) → slice_get (0 ∷ numbers (b.rows x)) i ≡ Some l → slice_get (b.rows x) i ≡ Some (number u) → l ≤ u
 list_rises b t {x} {y} i l u s p q = (rises_get i 0 (numbers (b.rows x)) (length (t.rows y)) l u (lists_parts b t s).rise p (number_get (b.rows x) i u q)).0
 
@@ -89,7 +89,7 @@ item_before b t {x} {y} i l u k s p q m =
     let w = (piece_parts t (piece_sound b t i s p q)).within in
     omega (arith, m, w)
 
--- what a test of it answers
+-- the answer of a test of an item
 pub item_tested : {T : Type 0} (fits : Row → T → Type 0) (b t : Format) {x y : Content} (i l u k : ℕ) (v : T) (answer : Bool) → IsSound (lists_format b t) (both x y) → slice_get (0 ∷ numbers (b.rows x)) i ≡ Some l → slice_get (b.rows x) i ≡ Some (number u) → k < u - l → (IsTrue answer ↔ fits (row_at (t.rows y) (l + k)) v) → IsTrue answer ↔ item_fits fits (row_at (cut 0 (numbers (b.rows x)) (t.rows y)) i) k v
 item_tested fits b t {x} {y} i l u k v answer s p q m h =
     let n = list_count b t i l u s p q in

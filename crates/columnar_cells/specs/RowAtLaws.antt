@@ -1,4 +1,4 @@
--- Row i of a column, by the rows of its parts.
+-- Row i of a column, from the rows of its parts.
 use Rattle.std.proofs.Common.{ℕ, zero, suc, ◌≡◌, ◌<◌, ◌+◌, ◌&&◌, ◌∙◌, sym, Bool, true, false, List, [], ◌∷◌, length, map, refl, ap, arith, take, drop}
 use Rattle.std.specs.Prelude.{slice_get, Some, None, IsTrue, ◌↔◌}
 use Rattle.columnar_base.specs.Row.{Row, unit, tuple, solo}
@@ -9,7 +9,7 @@ use Rattle.columnar_base.specs.LongTuples.{nested, tuple_format, PartOf, Parts}
 use Rattle.columnar_base.specs.LongTupleLaws.{tuple_parts, within}
 use Rattle.columnar_cells.specs.Wrote.{row_in, row_at}
 
--- A row that is there is read.
+-- A row that exists is read.
 pub get_row_at : (rs : List Row) (i : ℕ) → i < length rs → slice_get rs i ≡ Some (row_at rs i)
 get_row_at [] i l = absurd (omega arith)
 get_row_at (r ∷ rs) zero l = refl
@@ -18,7 +18,7 @@ get_row_at (r ∷ rs) (suc i) l = get_row_at rs i (omega arith)
 pub row_at_get : (rs : List Row) (i : ℕ) (r : Row) → slice_get rs i ≡ Some r → row_at rs i ≡ r
 row_at_get rs i r h = ap row_in h
 
--- of a tuple: those of its parts
+-- row i of a tuple has row i of each part
 pub row_at-tuples : (i : ℕ) (xs ys : List Row) → length xs ≡ length ys → i < length xs → row_at (tuples xs ys) i ≡ tuple (row_at xs i) (row_at ys i)
 row_at-tuples i [] ys e l = absurd (omega arith)
 row_at-tuples i (x ∷ xs) [] e l = cc
@@ -33,7 +33,7 @@ row_at-map f (r ∷ rs) (suc i) l = row_at-map f rs i (omega (arith, l))
 pub pair_row : (a b : Format) {x y : Content} (i : ℕ) → IsSound (pair_format a b) (both x y) → i < length (tuples (a.rows x) (b.rows y)) → row_at (tuples (a.rows x) (b.rows y)) i ≡ tuple (row_at (a.rows x) i) (row_at (b.rows y) i)
 pair_row a b {x} {y} i s l = row_at-tuples i (a.rows x) (b.rows y) (pair_parts a b s).level (pair_within a b i s l).0
 
--- the rows of all parts, as a nest
+-- row i of all parts, as nested pairs
 abbrev pub parts_row : Format → List Format → Content → ℕ → Row
 parts_row a [] c i = row_at (a.rows c) i
 parts_row a (b ∷ fs) (both x y) i = tuple (row_at (a.rows x) i) (parts_row b fs y i)
@@ -56,11 +56,11 @@ nested_row a (b ∷ fs) (slice bs) n i p l = absurd p
 nested_row a (b ∷ fs) (part m u x) n i p l = absurd p
 nested_row a (b ∷ fs) (plain rs) n i p l = absurd p
 
--- of any width
+-- row i of a tuple of any width
 pub tuple_row : (a b : Format) (fs : List Format) {x y : Content} (i : ℕ) → IsSound (tuple_format a b fs) (both x y) → i < length (tuples (a.rows x) ((nested b fs).rows y)) → row_at (tuples (a.rows x) ((nested b fs).rows y)) i ≡ parts_row a (b ∷ fs) (both x y) i
 tuple_row a b fs {x} {y} i s l = nested_row a (b ∷ fs) (both x y) _ i (tuple_parts a b fs s) l
 
--- what a test answers: false, and of two parts
+-- the answers of tests: false, and the conjunction of two
 pub never : {P : Type 0} → (P → ⊥) → IsTrue false ↔ P
 never {P} f = (λ h. cc, λ p. absurd (f p))
 

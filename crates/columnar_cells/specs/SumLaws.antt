@@ -1,4 +1,4 @@
--- A write to a row that may be absent, and to one that is of one of two kinds.
+-- Writes of a row of options and of results.
 use Rattle.std.proofs.Common.{ℕ, zero, suc, ◌≡◌, ◌<◌, ◌≤◌, Bool, true, false, not, List, [], ◌∷◌, ◌++◌, length, map, ap, sym, ◌∙◌, refl, ◌+◌, ◌-◌, arith}
 use Rattle.std.specs.Prelude.{slice_set, slice_get, Some, None, Ok, Err, IsTrue, ◌↔◌}
 use Rattle.std.proofs.lemmas.List.{length-set}
@@ -43,7 +43,7 @@ options_wrote t {x} {y} {y'} i r s h l w =
       lengths_same = ap (λ ns. lengths x ++ ns) w.lengths_same;
     }
 
--- Row i, by its bit.
+-- Row i, from its bit.
 
 pub some_row : (t : Format) {x y : Content} (i : ℕ) → IsSound (options_format t) (both x y) → slice_get (map truth (ranks_bits x)) i ≡ Some (truth true) → row_at (weave (ranks_bits x) (t.rows y)) i ≡ some (row_at (t.rows y) (ones (ranks_bits x) i))
 some_row t {x} {y} i s h = row_at_get _ i _ (options_some t x y i _ h (get_row_at (t.rows y) (ones (ranks_bits x) i) (options_value t i s h)))
@@ -55,7 +55,7 @@ some_fits_at : {T : Type 0} (fits : Row → T → Type 0) (t : Format) {x y : Co
 some_fits_at fits t {x} {y} i v true s e f = (e, rw (some_row t i s (map_get truth _ i true e)) at f)
 some_fits_at fits t {x} {y} i v false s e f = let g : ⊥ = rw (none_row t x y i (map_get truth _ i false e)) at f in absurd g
 
--- A value fits just a row that has one, and takes the place of its value.
+-- Some fits only a row that has a value, and replaces that value.
 pub some_fits : {T : Type 0} (fits : Row → T → Type 0) (t : Format) {x y : Content} (i : ℕ) (v : T) → IsSound (options_format t) (both x y) → i < length (weave (ranks_bits x) (t.rows y)) → option_fits fits (row_at (weave (ranks_bits x) (t.rows y)) i) (Some v) → (slice_get (ranks_bits x) i ≡ Some true) × fits (row_at (t.rows y) (ones (ranks_bits x) i)) v
 some_fits fits t {x} {y} i v s l f =
     let p = slice_get_some (ranks_bits x) i (omega (arith, length-options t x y, l)) in
@@ -65,7 +65,7 @@ none_fits_at : {T : Type 0} (fits : Row → T → Type 0) (t : Format) {x y : Co
 none_fits_at fits t {x} {y} i true s e f = let g : ⊥ = rw (some_row t i s (map_get truth _ i true e)) at f in absurd g
 none_fits_at fits t {x} {y} i false s e f = e
 
--- None fits just a row that has no value.
+-- None fits only a row that has no value.
 pub none_fits : {T : Type 0} (fits : Row → T → Type 0) (t : Format) {x y : Content} (i : ℕ) → IsSound (options_format t) (both x y) → i < length (weave (ranks_bits x) (t.rows y)) → option_fits fits (row_at (weave (ranks_bits x) (t.rows y)) i) None → slice_get (ranks_bits x) i ≡ Some false
 none_fits fits t {x} {y} i s l f =
     let p = slice_get_some (ranks_bits x) i (omega (arith, length-options t x y, l)) in
@@ -75,7 +75,7 @@ pub none_tested : {T : Type 0} (fits : Row → T → Type 0) (t : Format) {x y :
 none_tested fits t {x} {y} i true s h = rw (some_row t i s h) (never (λ p. p))
 none_tested fits t {x} {y} i false s h = rw (none_row t x y i h) (λ p. tt, λ p. refl)
 
--- The same of results.
+-- The same for results.
 
 pub ok_row : (a b : Format) {x y z : Content} (i : ℕ) → IsSound (results_format a b) (both x (both y z)) → slice_get (map truth (ranks_bits x)) i ≡ Some (truth true) → row_at (weave_results (ranks_bits x) (a.rows y) (b.rows z)) i ≡ ok (row_at (a.rows y) (ones (ranks_bits x) i))
 ok_row a b {x} {y} {z} i s h = row_at_get _ i _ (results_ok a b x y z i _ h (get_row_at (a.rows y) (ones (ranks_bits x) i) (results_ok_value a b i s h)))

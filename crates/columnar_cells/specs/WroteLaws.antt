@@ -1,4 +1,4 @@
--- A write to a row, column by column.
+-- Writes to a row, for each column type.
 use Rattle.std.proofs.Common.{ℕ, zero, suc, ◌≡◌, ◌<◌, Bool, true, false, List, [], ◌∷◌, ◌++◌, length, map, ap, sym, ◌∙◌, refl, ◌+◌, ◌-◌, ◌*◌, ◌≤◌, take, drop, arith, length-take}
 use Rattle.std.specs.Prelude.{slice_set, slice_get, Some}
 use Rattle.std.specs.List.{flat_map}
@@ -34,7 +34,7 @@ pass_set test i [] r p h = p
 pass_set test zero (s ∷ rs) r p h = and_from _ _ h (and_parts (test s) (all_pass test rs) p).1
 pass_set test (suc i) (s ∷ rs) r p h = let q = and_parts (test s) (all_pass test rs) p in and_from _ _ q.0 (pass_set test i rs r q.1 h)
 
--- A code that is that of a value.
+-- Writing a code writes the value with that code.
 pub mapped_wrote : (f : Format) (to : Row → Row) (test : Row → Bool) {c d : Content} (i : ℕ) (r : Row) → IsSound (mapped_format f to test) c → test r ≡ true → Wrote f c d i r → Wrote (mapped_format f to test) c d i (to r)
 mapped_wrote f to test {c} {d} i r s h w = record {
   sound = mapped_sound f to test w.sound (rw w.rows (pass_set test i (f.rows c) r (mapped_parts f to test s).pass h));
@@ -65,7 +65,7 @@ under_wrote {broken} {f} {x} {y} e w = record { sound = e.there y w.sound; rows 
 pub durations_wrote : (a b : Format) {x x' y y' : Content} (i : ℕ) (r s : Row) → IsSound (durations_format a b) (both x y) → is_part_second s ≡ true → Wrote a x x' i r → Wrote b y y' i s → Wrote (durations_format a b) (both x y) (both x' y') i (duration (number_of r) (number_of s))
 durations_wrote a b i r s h p v w = mapped_wrote (pair_format a b) as_duration is_duration i (tuple r s) h p (pair_wrote a b i r s (mapped_parts (pair_format a b) as_duration is_duration h).values v w)
 
--- the first part and the others, nested, and a tuple of any width
+-- a write to the first part and to the others, nested, for a tuple of any width
 pub nested_wrote : (a b : Format) (fs : List Format) {x x' y y' : Content} (i : ℕ) (r s : Row) → IsSound (nested a (b ∷ fs)) (both x y) → Wrote a x x' i r → (IsSound (nested b fs) y → Wrote (nested b fs) y y' i s) → Wrote (nested a (b ∷ fs)) (both x y) (both x' y') i (tuple r s)
 nested_wrote a b fs i r s h v w = pair_wrote a (nested b fs) i r s h v (w (pair_parts a (nested b fs) h).right)
 
@@ -80,7 +80,7 @@ get_row i [] r h = refl
 get_row zero (s ∷ rs) r h = cc
 get_row (suc i) (s ∷ rs) r h = ap (λ ss. s ∷ ss) (get_row i rs r h)
 
--- What is there already.
+-- Writing the row that is already there.
 pub wrote_same : (f : Format) {c : Content} (i : ℕ) (r : Row) → IsSound f c → slice_get (f.rows c) i ≡ Some r → Wrote f c c i r
 wrote_same f {c} i r s h = record { sound = s; rows = get_row i (f.rows c) r h; lengths_same = refl }
 

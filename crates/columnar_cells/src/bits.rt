@@ -1,11 +1,11 @@
-//! Columns of truth values, of which one bit is written.
+//! Writes of one bit in columns of truth values.
 ghost use Rattle.std.specs.Prelude.{⊤, ◌≡◌, ◌<◌, ◌≤◌, ◌^◌, ℕ};
 ghost use Rattle.columnar_cells.specs.Wrote.{HasBit};
 
 use crate::set::{SetAny, SetRow};
 use columnar_bits::bools::Bools;
 
-// The word, with this truth value for bit `at`.
+// Returns the word with bit `at` set to `item`.
 fn with_bit(word: u64, at: u64, item: bool) -> u64
     requires { at < 64 }
     ensures bit { HasBit result word at item }

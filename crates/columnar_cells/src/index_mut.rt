@@ -1,4 +1,4 @@
-//! Rows that are lent for writing: each column lends its row as a `&mut`, or as a `RowMut`.
+//! Mutable access to rows: each column gives its row as a `&mut` or as a `RowMut`.
 ghost use Rattle.std.specs.Prelude.{◌≡◌, ◌<◌, ◌-◌, ◌↔◌, ℕ, [], length, slice_get, Some, IfSome, IsNone};
 ghost use Rattle.std.specs.Borrow.{sem, MutBor, Lends, LendsIf};
 ghost use Rattle.columnar_base.specs.Format.{IsSound};
@@ -12,28 +12,34 @@ use columnar_lists::vector::Vecs;
 use columnar_sums::option::Options;
 use columnar_sums::result::Results;
 
-/// A column whose rows are lent for writing.
+/// A column whose rows can be borrowed for writing.
 pub trait IndexMut<'a>: Len {
-    /// What is lent of a row: a `&mut`, or a `RowMut`.
+    /// The borrowed row: a `&mut`, or a `RowMut`.
     type IndexMut;
 
-    // it is that of row `index` of the column
+    // the loan is that of row `index` of the column
     ghost lent: { MutBor Self → ℕ → Self.IndexMut → Type 0 };
 
-    /// Lends row `index`.
+    /// Borrows row `index` for writing.
+    ///
+    /// # Requires
+    /// The column is well-formed, and `index` is less than its length.
     fn get_mut(&'a mut self, index: usize) -> Self::IndexMut
         requires sound { IsSound Self.format (Self.content self.old) }
         requires in_range { index < length (Self.format.rows (Self.content self.old)) }
         ensures lent { lent self.entry index result };
 
-    /// Lends the last row, None where there is none.
+    /// Borrows the last row for writing; `None` if there are no rows.
+    ///
+    /// # Requires
+    /// The column is well-formed.
     fn last_mut(&'a mut self) -> Option<Self::IndexMut>
         requires sound { IsSound Self.format (Self.content self.old) }
         ensures none { IsNone result ↔ (Self.format.rows (Self.content self.old) ≡ []) }
         ensures lent { IfSome result (lent self.entry (length (Self.format.rows (Self.content self.old)) - 1)) };
 }
 
-/// A column that keeps each row in one value lends that.
+/// A column that stores each row as one value gives a `&mut` to that value.
 impl<'a, C: ValueMut> IndexMut<'a> for C
 where
     C::Value: 'a,

@@ -1,4 +1,4 @@
-//! Columns of lists of which an item is written in place.
+//! Writes of one item of a list, or of one field of a tuple.
 ghost use Rattle.std.specs.Prelude.{◌≡◌, ◌<◌, ◌+◌, ◌↔◌, ℕ, length, Some, IsTrue, false};
 ghost use Rattle.columnar_base.specs.Row.{Row, items_of};
 ghost use Rattle.columnar_base.specs.Format.{IsSound};
@@ -12,28 +12,35 @@ use columnar_lists::parts::range_of;
 use columnar_lists::vector::Vecs;
 use columnar_sums::option::Options;
 
-/// The place of field N of a tuple, from 0 on.
+/// The position of field N of a tuple, from 0.
 #[derive(Clone, Copy)]
 pub struct Field<const N: usize>;
 
-/// A column whose rows have items, each at a place, of which one can be written: the item of a list at its number, and
-/// that of a list of lists at the number of its list and its place in that.
+/// A column whose rows have items that can be written by position. The position in a list is a number; in a list of
+/// lists it is the number of the inner list and a position in that list.
 pub trait SetItem<P, T: Item>: Len {
-    // is there an item at the place, and may the new one take its place
+    // the row has an item at the position, and the new one may replace it
     ghost fits: { Row → P → T → Type 0 };
 
-    // the row with another row in the place
+    // the row with another row at the position
     ghost put: { Row → P → Row → Row };
 
-    /// Has row `index` an item at the place, and may this one take its place?
+    /// Tests whether row `index` has an item at the position that `item` may replace.
+    ///
+    /// # Requires
+    /// The column is well-formed, `index` is less than its length, and `item` is valid.
     fn may_set_item(&self, index: usize, at: P, item: &T) -> bool
         requires sound { IsSound Self.format (Self.content self.now) }
         requires in_range { index < length (Self.format.rows (Self.content self.now)) }
         requires valid { T.valid item.now }
         ensures { IsTrue result ↔ fits (row_at (Self.format.rows (Self.content self.now)) index) at item.now };
 
-    /// Writes the item of row `index` at the place. Asks that there is one. All other items and rows and the lengths of
-    /// all parts stay; needs no memory.
+    /// Writes the item of row `index` at the position. All other items, rows and slice lengths stay the same. Allocates
+    /// nothing.
+    ///
+    /// # Requires
+    /// The column is well-formed, row `index` exists and has an item there that `item` may replace, and `item` is
+    /// valid.
     fn set_item(&mut self, index: usize, at: P, item: T)
         requires sound { IsSound Self.format (Self.content self.old) }
         requires in_range { index < length (Self.format.rows (Self.content self.old)) }
@@ -41,8 +48,11 @@ pub trait SetItem<P, T: Item>: Len {
         requires fits { fits (row_at (Self.format.rows (Self.content self.old)) index) at item }
         ensures { Wrote Self.format (Self.content self.old) (Self.content self.new) index (put (row_at (Self.format.rows (Self.content self.old)) index) at (T.meaning item)) };
 
-    /// Writes the item of row `index` at the place, or answers false and changes nothing: exactly where there is no such
-    /// row, it has no such item, or the item is of another variant.
+    /// Writes the item of row `index` at the position and returns true; otherwise returns false and changes nothing. It
+    /// returns false if and only if there is no such row, the row has no such item, or the item has another variant.
+    ///
+    /// # Requires
+    /// The column is well-formed, and `item` is valid.
     final fn set_item_checked(&mut self, index: usize, at: P, item: T) -> bool
     where
         Self: Sized,
@@ -63,7 +73,7 @@ pub trait SetItem<P, T: Item>: Len {
     }
 }
 
-// The value where item `at` of the list stands that begins at `lower` and ends at `upper`.
+// Returns the number of the value of item `at` of a list that starts at `lower` and ends at `upper`.
 fn place_in(lower: usize, upper: usize, at: usize) -> usize
     requires { lower + at < upper }
     ensures { result ≡ lower + at }
@@ -71,7 +81,7 @@ fn place_in(lower: usize, upper: usize, at: usize) -> usize
     lower + at
 }
 
-/// Item `at` of a list.
+/// Writes item `at` of a list.
 impl<T: Item, TC: SetRow<T>, BC: Offsets> SetItem<usize, T> for Vecs<TC, BC> {
     ghost fits = { λ r at item. item_fits TC.fits r at item };
 
@@ -93,7 +103,7 @@ impl<T: Item, TC: SetRow<T>, BC: Offsets> SetItem<usize, T> for Vecs<TC, BC> {
     }
 }
 
-/// Of a list of lists: the number of the inner list, and a place in that.
+/// Writes an item of a list of lists: the position is the number of the inner list and a position in that list.
 impl<P: Copy, T: Item, TC: SetItem<P, T>, BC: Offsets> SetItem<(usize, P), T> for Vecs<TC, BC> {
     ghost fits = { λ r at item. item_fits (λ s t. TC.fits s at.1 t) r at.0 item };
 
@@ -116,7 +126,7 @@ impl<P: Copy, T: Item, TC: SetItem<P, T>, BC: Offsets> SetItem<(usize, P), T> fo
     }
 }
 
-/// A place in the value of a row that has one.
+/// Writes an item of the value of a row that has one.
 impl<P: Copy, T: Item, TC: SetItem<P, T>, CC: Words, VC: Words, WC: Words> SetItem<P, T>
     for Options<TC, CC, VC, WC> {
     ghost fits = { λ r at item. option_fits (λ s t. TC.fits s at t) r (Some item) };

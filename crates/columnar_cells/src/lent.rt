@@ -1,4 +1,4 @@
-//! Rows that are lent for writing.
+//! Columns whose rows are borrowed for writing.
 ghost use Rattle.std.specs.Prelude.{◌≡◌, ◌<◌, ◌-◌, ◌↔◌, ℕ, [], length, slice_get, Some, IfSome, IsNone, IsTrue, true, false, refl};
 ghost use Rattle.std.specs.Borrow.{sem, MutBor, Lends, LendsIf};
 ghost use Rattle.std.specs.Vec.{with_item};
@@ -14,21 +14,24 @@ use columnar_primitive::codes::{Coded, Codes};
 use columnar_primitive::count::Count;
 use columnar_primitive::empties::Empties;
 
-/// A column that keeps each row in one value, which can be lent.
+/// A column that stores each row as one value, so that a `&mut` to it can be given.
 pub trait ValueMut: Len {
     /// The value.
     type Value;
 
-    // the column with w for the value of row i
+    // the column with value w in row i
     ghost with: { Self → ℕ → Self.Value → Self };
 
-    // the row that a value is
+    // the row that a value represents
     ghost shown: { Self.Value → Row };
 
-    // it is the value of row i
+    // w is the value of row i
     ghost holds: { Self → ℕ → Self.Value → Type 0 };
 
-    /// The value of row `index`. Whatever is written to it, that row alone changes.
+    /// Returns a reference to the value of row `index`. Whatever is written to it, no other row changes.
+    ///
+    /// # Requires
+    /// The column is well-formed, and `index` is less than its length.
     fn value_mut(&mut self, index: usize) -> &mut Self::Value
         requires sound { IsSound Self.format (Self.content self.old) }
         requires in_range { index < length (Self.format.rows (Self.content self.old)) }
@@ -52,7 +55,7 @@ impl<T: Element> ValueMut for Vec<T> {
     }
 }
 
-/// Values of which each number of the width is the code of one: no write to a lent code breaks the column.
+/// Values for which every code is valid: no write to a code can break the column.
 pub trait EveryCode: Coded {
     ghost every: { (r : Row) → Self.is_code r ≡ true };
 }
@@ -73,7 +76,15 @@ impl EveryCode for i128 {
     ghost every = { λ r. refl };
 }
 
-/// Lends the code.
+impl EveryCode for f32 {
+    ghost every = { λ r. refl };
+}
+
+impl EveryCode for f64 {
+    ghost every = { λ r. refl };
+}
+
+/// Gives a reference to the code.
 impl<T: EveryCode, CV: ValueMut> ValueMut for Codes<CV, T> {
     type Value = CV::Value;
 
@@ -88,7 +99,7 @@ impl<T: EveryCode, CV: ValueMut> ValueMut for Codes<CV, T> {
     }
 }
 
-/// Lends the one unit.
+/// Gives a reference to the unit.
 impl<CC: Count> ValueMut for Empties<CC> {
     type Value = ();
 
@@ -103,7 +114,7 @@ impl<CC: Count> ValueMut for Empties<CC> {
     }
 }
 
-/// Lends what the inner column does.
+/// Gives the reference of the inner column.
 impl<C: ValueMut> ValueMut for Boxed<C> {
     type Value = C::Value;
 
@@ -118,7 +129,7 @@ impl<C: ValueMut> ValueMut for Boxed<C> {
     }
 }
 
-/// Lends what the column does.
+/// Gives the reference of the column.
 impl<'b, C: ValueMut> ValueMut for &'b mut C {
     type Value = C::Value;
 
@@ -133,15 +144,15 @@ impl<'b, C: ValueMut> ValueMut for &'b mut C {
     }
 }
 
-/// A column that is lent for writing: its rows can be written, and it can't be grown or cut. What `set` and
-/// `set_checked` write is known of the column after the loan, too.
+/// A mutable loan of a column: rows can be written, but the column cannot grow or shrink. The contracts of `set` and
+/// `set_checked` still hold for the column after the loan.
 #[derive(Drop)]
 pub struct Lent<'a, C> {
     column: &'a mut C,
 }
 
 impl<'a, C> Lent<'a, C> {
-    /// The column, lent.
+    /// Borrows the column.
     pub fn new(column: &'a mut C) -> Lent<'a, C>
         ensures same_reference { result.column.ghost_name ≡ column.entry.ghost_name }
         ensures column { result.column.now ≡ column.old }
@@ -177,7 +188,10 @@ impl<'b, C: ValueMut> ValueMut for Lent<'b, C> {
 }
 
 impl<'b, C: Len> Lent<'b, C> {
-    /// Writes row `index`, as `set_row`, and the same column stays lent.
+    /// Writes row `index` as `set_row` does. The loan is still of the same column.
+    ///
+    /// # Requires
+    /// As `set_row`.
     pub fn set<T: Item>(&mut self, index: usize, item: T)
     where
         C: SetRow<T>,
@@ -191,7 +205,10 @@ impl<'b, C: Len> Lent<'b, C> {
         self.column.set_row(index, item);
     }
 
-    /// Writes row `index`, or answers false and changes nothing, as `set_row_checked`; the same column stays lent.
+    /// Writes row `index` as `set_row_checked` does, or returns false. The loan is still of the same column.
+    ///
+    /// # Requires
+    /// The column is well-formed, and `item` is valid.
     pub fn set_checked<T: Item + Drop>(&mut self, index: usize, item: T) -> bool
     where
         C: SetRow<T>,

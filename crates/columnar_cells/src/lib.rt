@@ -1,4 +1,4 @@
-//! Rows and cells that are written in place: a write changes one row and no other, whatever it writes, and needs no memory.
+//! In-place writes of rows and cells: a write changes one row and no other, and allocates nothing.
 #![tactic(auto)]
 
 pub mod bits;

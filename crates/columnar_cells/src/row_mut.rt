@@ -1,4 +1,4 @@
-//! A row that is lent, by its column and its number.
+//! A row borrowed for writing: a column and the row's number.
 ghost use Rattle.std.specs.Prelude.{◌≡◌, ◌<◌, ◌↔◌, ℕ, length, slice_get, Some, IsTrue, false};
 ghost use Rattle.columnar_base.specs.Format.{IsSound};
 ghost use Rattle.columnar_cells.specs.Wrote.{Wrote, row_at};
@@ -7,7 +7,7 @@ use crate::items::SetItem;
 use crate::set::SetRow;
 use columnar_core::traits::{Index, Item, Len};
 
-/// A row of a column that is lent for writing. The column can't be grown or cut while it is lent.
+/// A row borrowed for writing. The column cannot grow or shrink during the loan.
 #[derive(Drop)]
 pub struct RowMut<'a, C> {
     column: &'a mut C,
@@ -15,7 +15,7 @@ pub struct RowMut<'a, C> {
 }
 
 impl<'a, C> RowMut<'a, C> {
-    /// Row `index` of the column.
+    /// Borrows row `index` of the column.
     pub fn new(column: &'a mut C, index: usize) -> RowMut<'a, C>
         ensures same_reference { result.column.ghost_name ≡ column.entry.ghost_name }
         ensures column { result.column.now ≡ column.old }
@@ -26,7 +26,10 @@ impl<'a, C> RowMut<'a, C> {
 }
 
 impl<'b, C: Index> RowMut<'b, C> {
-    /// What the row is.
+    /// Reads the row.
+    ///
+    /// # Requires
+    /// The column is well-formed, and has this row.
     pub fn get(&self) -> C::Ref
         requires sound { IsSound C.format (C.content self.now.column.now) }
         requires in_range { self.now.index < length (C.format.rows (C.content self.now.column.now)) }
@@ -38,7 +41,10 @@ impl<'b, C: Index> RowMut<'b, C> {
 }
 
 impl<'b, C: Len> RowMut<'b, C> {
-    /// Writes the row, as `set_row`.
+    /// Writes the row as `set_row` does.
+    ///
+    /// # Requires
+    /// As `set_row`.
     pub fn set<T: Item>(&mut self, item: T)
     where
         C: SetRow<T>,
@@ -54,7 +60,10 @@ impl<'b, C: Len> RowMut<'b, C> {
         self.column.set_row(at, item);
     }
 
-    /// Writes the row, or answers false and changes nothing, as `set_row_checked`.
+    /// Writes the row as `set_row_checked` does, or returns false.
+    ///
+    /// # Requires
+    /// The column is well-formed, and `item` is valid.
     pub fn set_checked<T: Item + Drop>(&mut self, item: T) -> bool
     where
         C: SetRow<T>,
@@ -70,7 +79,10 @@ impl<'b, C: Len> RowMut<'b, C> {
         self.column.set_row_checked(at, item)
     }
 
-    /// Writes the item at a place of the row, as `set_item`.
+    /// Writes the item at a position of the row, as `set_item` does.
+    ///
+    /// # Requires
+    /// As `set_item`.
     pub fn set_item<P: Copy, T: Item>(&mut self, at: P, item: T)
     where
         C: SetItem<P, T>,
@@ -85,7 +97,10 @@ impl<'b, C: Len> RowMut<'b, C> {
         let index = self.index;
         self.column.set_item(index, at, item);
     }
-    /// Writes the item at a place of the row, or answers false and changes nothing, as `set_item_checked`.
+    /// Writes the item at a position of the row as `set_item_checked` does, or returns false.
+    ///
+    /// # Requires
+    /// The column is well-formed, and `item` is valid.
     pub fn set_item_checked<P: Copy, T: Item + Drop>(&mut self, at: P, item: T) -> bool
     where
         C: SetItem<P, T>,

@@ -1,4 +1,4 @@
-//! Columns of which a row is written in place.
+//! In-place writes of rows.
 ghost use Rattle.std.specs.Prelude.{◌≡◌, ◌<◌, ◌↔◌, ℕ, length, IsTrue, false};
 ghost use Rattle.columnar_base.specs.Row.{Row};
 ghost use Rattle.columnar_base.specs.Format.{IsSound};
@@ -6,20 +6,25 @@ ghost use Rattle.columnar_cells.specs.Wrote.{Wrote, row_at};
 
 use columnar_core::traits::{Item, Len};
 
-/// A column in which an item can take the place of a row.
+/// A column in which an item can replace a row.
 pub trait SetRow<T: Item>: Len {
-    // may the item take the place of the row: it is of the row's variant, if that has variants, at any depth
+    // the item may replace the row: if rows have variants, both have the same one, at every depth
     ghost fits: { Row → T → Type 0 };
 
-    /// May the item take the place of row `index`?
+    /// Tests whether the item may replace row `index`.
+    ///
+    /// # Requires
+    /// The column is well-formed, `index` is less than its length, and `item` is valid.
     fn may_set(&self, index: usize, item: &T) -> bool
         requires sound { IsSound Self.format (Self.content self.now) }
         requires in_range { index < length (Self.format.rows (Self.content self.now)) }
         requires valid { T.valid item.now }
         ensures { IsTrue result ↔ fits (row_at (Self.format.rows (Self.content self.now)) index) item.now };
 
-    /// Writes row `index`. The item is of the row's variant, and all other rows and the lengths of all parts stay; needs no
-    /// memory.
+    /// Writes row `index`. All other rows and all slice lengths stay the same. Allocates nothing.
+    ///
+    /// # Requires
+    /// The column is well-formed, row `index` exists, and `item` is valid and has that row's variant.
     fn set_row(&mut self, index: usize, item: T)
         requires sound { IsSound Self.format (Self.content self.old) }
         requires in_range { index < length (Self.format.rows (Self.content self.old)) }
@@ -27,8 +32,11 @@ pub trait SetRow<T: Item>: Len {
         requires fits { fits (row_at (Self.format.rows (Self.content self.old)) index) item }
         ensures { Wrote Self.format (Self.content self.old) (Self.content self.new) index (T.meaning item) };
 
-    /// Writes row `index`, or answers false and changes nothing: exactly where there is no such row, or the item is of
-    /// another variant.
+    /// Writes row `index` and returns true; otherwise returns false and changes nothing. It returns false if and only
+    /// if there is no such row, or the item has another variant.
+    ///
+    /// # Requires
+    /// The column is well-formed, and `item` is valid.
     final fn set_row_checked(&mut self, index: usize, item: T) -> bool
     where
         Self: Sized,
@@ -48,7 +56,7 @@ pub trait SetRow<T: Item>: Len {
     }
 }
 
-/// A column in which each item can take the place of each row.
+/// A column in which every item can replace every row.
 pub trait SetAny<T: Item>: SetRow<T> {
     ghost any: { (r : Row) (item : T) → Self.fits r item };
 }

@@ -1,4 +1,4 @@
-//! Rows that may be absent, and rows of one of two kinds: an item takes the place of a row of its own variant.
+//! In-place writes of options and results: an item replaces a row of its own variant.
 ghost use Rattle.columnar_cells.specs.Wrote.{option_fits, result_fits};
 
 use crate::set::SetRow;
@@ -7,7 +7,7 @@ use columnar_core::words::Words;
 use columnar_sums::option::Options;
 use columnar_sums::result::Results;
 
-/// Some is written where the row has a value, None where it has none, which changes nothing.
+/// `Some` replaces a row that has a value. `None` replaces a row that has none, and changes nothing.
 impl<T: Item, TC: SetRow<T>, CC: Words, VC: Words, WC: Words> SetRow<Option<T>>
     for Options<TC, CC, VC, WC> {
     ghost fits = { λ r item. option_fits TC.fits r item };
@@ -36,7 +36,7 @@ impl<T: Item, TC: SetRow<T>, CC: Words, VC: Words, WC: Words> SetRow<Option<T>>
     }
 }
 
-/// Ok is written where the row is Ok, Err where it is Err.
+/// `Ok` replaces an `Ok` row, `Err` an `Err` row.
 impl<S: Item, T: Item, SC: SetRow<S>, TC: SetRow<T>, CC: Words, VC: Words, WC: Words> SetRow<
     Result<S, T>,
 > for Results<SC, TC, CC, VC, WC> {

@@ -1,9 +1,9 @@
-//! Columns that stand for another: a write to a row goes through to it.
+//! Columns that wrap another column: writes go to the inner column.
 use crate::set::{SetAny, SetRow};
 use columnar_core::boxed::Boxed;
 use columnar_core::traits::Item;
 
-/// Writes what the box holds.
+/// Writes the content of the box.
 impl<T: Item, C: SetRow<T>> SetRow<Boxed<T>> for Boxed<C> {
     ghost fits = { λ r item. C.fits r item.0 };
 

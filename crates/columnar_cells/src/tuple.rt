@@ -1,4 +1,4 @@
-//! Tuples of columns: a row is written in each part.
+//! In-place writes of tuples: each part writes its field.
 ghost use Rattle.columnar_base.specs.Row.{first_of, second_of, tuple};
 ghost use Rattle.columnar_base.specs.Solos.{only_of};
 
@@ -15,7 +15,7 @@ pub mod six;
 pub mod ten;
 pub mod three;
 
-/// Each part writes its own of the item.
+/// Each part writes its field of the item.
 impl<S: Item, T: Item, A: SetRow<S>, B: SetRow<T>> SetRow<(S, T)> for (A, B) {
     ghost fits = { λ r p. A.fits (first_of r) p.0 × B.fits (second_of r) p.1 };
 
@@ -35,7 +35,7 @@ impl<S: Item, T: Item, A: SetAny<S>, B: SetAny<T>> SetAny<(S, T)> for (A, B) {
     ghost any = { λ r p. (A.any (first_of r) p.0, B.any (second_of r) p.1) };
 }
 
-/// The part writes its own of the item.
+/// The part writes its field of the item.
 impl<S: Item, A: SetRow<S>> SetRow<(S,)> for (A,) {
     ghost fits = { λ r p. A.fits (only_of r) p.0 };
 
@@ -52,7 +52,7 @@ impl<S: Item, A: SetAny<S>> SetAny<(S,)> for (A,) {
     ghost any = { λ r p. A.any (only_of r) p.0 };
 }
 
-/// One field of the row.
+/// Writes the first field of the row.
 impl<T: Item, A: SetRow<T>, B: Len> SetItem<Field<0>, T> for (A, B) {
     ghost fits = { λ r at item. A.fits (first_of r) item };
 
@@ -67,7 +67,7 @@ impl<T: Item, A: SetRow<T>, B: Len> SetItem<Field<0>, T> for (A, B) {
     }
 }
 
-/// One field of the row.
+/// Writes the second field of the row.
 impl<T: Item, A: Len, B: SetRow<T>> SetItem<Field<1>, T> for (A, B) {
     ghost fits = { λ r at item. B.fits (second_of r) item };
 

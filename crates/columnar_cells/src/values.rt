@@ -1,4 +1,4 @@
-//! Columns of numbers, of values by their codes, of durations and of units.
+//! In-place writes of numbers, of values stored as codes, of durations and of units.
 ghost use Rattle.std.specs.Prelude.{⊤, ◌≡◌};
 
 use crate::set::{SetAny, SetRow};
@@ -25,6 +25,23 @@ impl<T: Element> SetAny<T> for Vec<T> {
     ghost any = { λ r item. tt };
 }
 
+/// Also accepts the item type of a view of bytes.
+impl<'x> SetRow<&'x u8> for Vec<u8> {
+    ghost fits = { λ r item. ⊤ };
+
+    fn may_set(&self, _index: usize, _item: &&'x u8) -> bool {
+        true
+    }
+
+    fn set_row(&mut self, index: usize, item: &'x u8) {
+        <Vec<u8> as SetRow<u8>>::set_row(self, index, *item);
+    }
+}
+
+impl<'x> SetAny<&'x u8> for Vec<u8> {
+    ghost any = { λ r item. tt };
+}
+
 /// Writes the code of the value.
 impl<T: Coded, CV: SetAny<T::Code>> SetRow<T> for Codes<CV, T> {
     ghost fits = { λ r item. ⊤ };
@@ -42,7 +59,7 @@ impl<T: Coded, CV: SetAny<T::Code>> SetAny<T> for Codes<CV, T> {
     ghost any = { λ r item. tt };
 }
 
-/// Writes the whole seconds, and the nanoseconds besides.
+/// Writes the seconds and the nanoseconds.
 impl<SC: SetAny<u64>, NC: SetAny<u32>> SetRow<Duration> for Durations<SC, NC> {
     ghost fits = { λ r item. ⊤ };
 
@@ -60,7 +77,7 @@ impl<SC: SetAny<u64>, NC: SetAny<u32>> SetAny<Duration> for Durations<SC, NC> {
     ghost any = { λ r item. tt };
 }
 
-/// There is one unit, so that nothing is written.
+/// There is only one unit, so nothing is written.
 impl<CC: Count> SetRow<()> for Empties<CC> {
     ghost fits = { λ r item. ⊤ };
 

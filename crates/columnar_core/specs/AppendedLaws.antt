@@ -1,4 +1,4 @@
--- Elements are read from bytes one after the other, and all of them at the end.
+-- Elements are read from bytes one after the other, in the end all of them.
 use Rattle.std.proofs.Common.{◌≡◌, ℕ, suc, ◌+◌, ◌*◌, List, [], ◌∷◌, ◌++◌, take, drop, map, zero, refl, sym, ◌∙◌, arith, append-nil, append_assoc}
 use Rattle.std.specs.List.{flat_map}
 use Rattle.std.proofs.lemmas.List.{take-map}
@@ -23,7 +23,7 @@ appended_more {T} {bytes} {old} size i x bs h a e =
       same = read_more bytes size i a.fresh (a.fresh ++ x ∷ []) x bs a.same h refl;
     }
 
--- all bytes are read, and none stood before
+-- all bytes are read into an empty `Vec`
 pub appended_all : {T : Type 0} {bytes : T → List ℕ} {old new : List T} {bs : List ℕ} → old ≡ [] → Appended bytes old new bs → flat_map bytes new ≡ bs
 appended_all {T} {bytes} e a = rw (a.items, e) a.same
 

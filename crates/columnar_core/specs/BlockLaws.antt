@@ -1,4 +1,4 @@
--- Words that are put into a block one after the other, and the bytes of a block.
+-- Words that are put into a block in order, and the bytes of a block.
 use Rattle.std.proofs.Common.{ℕ, List, [], ◌∷◌, ◌++◌, ◌≡◌, ◌<◌, ◌≤◌, ◌+◌, ◌-◌, ◌*◌, ◌/◌, length, map, take, drop, replicate, refl, sym, ◌∙◌, ap, arith, ⊎_elim}
 use Rattle.std.proofs.Math.Path.{fun_ext}
 use Rattle.std.specs.Prelude.{slice_set}
@@ -11,13 +11,13 @@ use Rattle.columnar_core.specs.Words.{padded}
 use Rattle.columnar_core.specs.WordLaws.{length-padded}
 use Rattle.columnar_core.specs.ByteLaws.{bytes-padded, word-padded, bytes-words}
 
--- one more
+-- one more word
 pub put_more : (f : ℕ → ℕ) (from i : ℕ) (xs : List ℕ) (w : ℕ) → i < length xs → w ≡ f (from + i) → take i xs ≡ map f (range_with_len from i) → take (i + 1) (slice_set xs i w) ≡ map f (range_with_len from (i + 1))
 put_more f from i xs w l e h =
     take_more_set xs i w l ∙ ap (λ t. t ++ w ∷ []) h ∙ ap (λ v. map f (range_with_len from i) ++ v ∷ []) e
     ∙ sym (map-range_with_len_more f from i (from + i) refl)
 
--- the k bytes of the next n words, which are all that are left or fill these words
+-- the k bytes of the next n words: all that remain, or all of these words
 pub filled_out : (s : List ℕ) (at n k : ℕ) (bs p : List ℕ) → AreBytes s → 8 * at ≤ length s → at + n ≤ (length s + 7) / 8 → k ≤ 8 * n → 8 * at + k ≤ length s → (8 * (at + n) ≤ length s → k ≡ 8 * n) → (length s < 8 * (at + n) → 8 * at + k ≡ length s) → bs ≡ le_bytes (map (word s) (range_with_len at n)) → p ≡ take k bs → drop (8 * at) s ≡ p ++ drop (8 * (at + n)) s
 filled_out s at n k bs p h a l m z full last e q =
     let zeros : List ℕ = replicate (rounded (length s) - length s) 0 in

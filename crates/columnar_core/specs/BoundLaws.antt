@@ -24,7 +24,7 @@ words_numbers (plain rs) = refl
 pub words_bounds : IsBounds words_format
 words_bounds = record { exact = row_eq_exact; swift = omega arith; are_numbers = λ c s. words_numbers c }
 
--- a number of 64 bits, as a row
+-- the row of a 64-bit number
 pub word_is : (n : ℕ) → n < 2 ^ 64 → word_row n ≡ number n
 word_is n l = let e : n % 2 ^ 64 ≡ n = omega arith in ap number e
 
@@ -53,14 +53,14 @@ rises_falls rs i last n end all p h w l =
     let k = lt-leb last n l in
     sym (p ∙ (rw k at q))
 
--- it is not
+-- the offset that was read is not below the last one
 pub rises_on : (rs : List Row) (i last n end : ℕ) (all : Bool) → all ≡ rises last (drop i (numbers rs)) end → slice_get rs i ≡ Some (word_row n) → n < 2 ^ 64 → last ≤ n → all ≡ rises n (drop (i + 1) (numbers rs)) end
 rises_on rs i last n end all p h w l =
     let q = rises_step (numbers rs) i last n end (number_at rs i n h w) in
     let k = le-leb last n l in
     p ∙ (rw k at q)
 
--- ---- offsets by their places
+-- ---- offsets by their index
 
 pub number_get : (rs : List Row) (i n : ℕ) → slice_get rs i ≡ Some (number n) → slice_get (numbers rs) i ≡ Some n
 number_get rs i n h = rw (slice_get-map, h) refl
@@ -75,7 +75,7 @@ number_after rs i n h = let e : i + 1 ≡ suc i = omega arith in rw e (number_ge
 pub shifted_get : (lower start : ℕ) (rs : List Row) (i n : ℕ) → slice_get rs i ≡ Some (number n) → slice_get (shifted lower start (numbers rs)) i ≡ Some (number (start + (n - lower)))
 shifted_get lower start rs i n h = rw (slice_get-map, number_get rs i n h) refl
 
--- offset n - 1 is the last of the first n
+-- the last of the first n offsets is offset n - 1
 pub last_at : (n from : ℕ) (ns : List ℕ) (e : ℕ) → slice_get (from ∷ ns) n ≡ Some e → last_or from (take n ns) ≡ e
 last_at zero from ns e p = cc
 last_at (suc n) from [] e p = cc

@@ -1,23 +1,23 @@
--- Columns of offsets, and the lists that they cut out of values.
+-- Columns of offsets, and the lists into which they divide values.
 use Rattle.std.specs.Prelude.{ℕ, Bool, List, [], ◌∷◌, ◌≡◌, ◌≤◌, ◌+◌, ◌-◌, ◌&&◌, nat_eq, nat_le, map}
 use Rattle.columnar_base.specs.Row.{Row, number, number_of}
 use Rattle.columnar_base.specs.Format.{Format, Content, IsExact, IsSound}
 
--- the numbers that rows are
+-- the numbers of rows
 abbrev pub numbers : List Row → List ℕ
 numbers rs = map number_of rs
 
--- the offsets never fall, from `from` on, and end at `end`
+-- the offsets never decrease, from `from` on, and end at `end`
 abbrev pub rises : ℕ → List ℕ → ℕ → Bool
 rises from [] end = nat_eq from end
 rises from (n ∷ ns) end = nat_le from n && rises n ns end
 
--- the last offset, or `from` where there is none
+-- the last offset, or `from` if there is none
 abbrev pub last_or : ℕ → List ℕ → ℕ
 last_or from [] = from
 last_or from (n ∷ ns) = last_or n ns
 
--- offsets that are moved from `lower` to `start`, as rows
+-- offsets shifted from `lower` to `start`, as rows
 abbrev pub shifted : ℕ → ℕ → List ℕ → List Row
 shifted lower start ns = map (λ n. number (start + (n - lower))) ns
 
@@ -25,8 +25,8 @@ shifted lower start ns = map (λ n. number (start + (n - lower))) ns
 abbrev pub AreNumbers : Format → Type 0
 AreNumbers b = (c : Content) → IsSound b c → b.rows c ≡ map number (numbers (b.rows c))
 
--- What a format of offsets keeps to besides: its rows are numbers and are kept as they are pushed, and its test leaves
--- half of the turns to `rises_to`.
+-- The laws of a format of offsets: its rows are numbers, stored as they are pushed, and its own validation leaves half
+-- of the steps to `rises_to`.
 pub record IsBounds (b : Format) : Type 0 where
   pub exact : IsExact b.alike
   pub swift : b.turns ≤ 8

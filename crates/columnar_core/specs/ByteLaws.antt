@@ -14,7 +14,7 @@ use Rattle.columnar_core.specs.Frame.{IsStore, framed_slices}
 use Rattle.columnar_core.specs.FrameLaws.{are_framed_slices, store_of}
 use Rattle.columnar_core.specs.WordLaws.{zeros_read, length-padded, framed_words, legal_words}
 
--- a word depends on its eight bytes alone
+-- a word depends only on its eight bytes
 same_number : (a b : List ℕ) → ((k : ℕ) → k < 8 → get_or a k 0 ≡ get_or b k 0) → from_le_bytes w64 a ≡ from_le_bytes w64 b
 same_number a b h =
     let e0 = h 0 (omega arith) in
@@ -77,7 +77,7 @@ flat_padded (s ∷ ss) h =
     ∙ ap (λ t. t ++ le_bytes (flat_map slice_words ss)) (le_bytes-slice_words s (h 0))
     ∙ ap (λ t. padded s ++ t) (flat_padded ss (λ i. h (suc i)))
 
--- the words and the bytes that are written are the same
+-- the words and the bytes that are written are equal
 pub le_bytes-words : (slices : List (List ℕ)) → ((i : ℕ) → AreBytes (get_or slices i [])) → le_bytes (words slices) ≡ store_bytes slices
 unfolding word_bytes
 le_bytes-words slices h =
@@ -112,7 +112,7 @@ unfolding word_bytes
 bytes-le_bytes [] i = omega arith
 bytes-le_bytes (x ∷ xs) i = bytes_of_both (word_bytes x) (le_bytes xs) (bytes_of_word x) (bytes-le_bytes xs) i
 
--- each slice holds bytes, where those below n do, of which there are at least as many
+-- each slice holds bytes, if the first n do and there are no more than n
 pub hold_bytes : (slices : List (List ℕ)) (n : ℕ) → length slices ≤ n → ((i : ℕ) → i < n → AreBytes (get_or slices i [])) → (i : ℕ) → AreBytes (get_or slices i [])
 hold_bytes slices n l h i =
     ⊎_elim (λ (p : i < n). h i p)
@@ -120,7 +120,7 @@ hold_bytes slices n l h i =
     let q : get_or (get_or slices i []) k 0 ≡ 0 = ap (λ (t : List ℕ). get_or t k 0) e in omega (arith, q))
     (cases_lt i n)
 
--- the bytes of the next words of those that are left
+-- the bytes of the next of the remaining words
 pub block_out : (xs : List ℕ) (at next : ℕ) (bs : List ℕ) → at ≤ next → bs ≡ le_bytes (take (next - at) (drop at xs)) → le_bytes (drop at xs) ≡ bs ++ le_bytes (drop next xs)
 block_out xs at next bs l e =
     let ys = drop at xs in

@@ -1,4 +1,4 @@
--- Earlier forms of tuples, made of those of their parts.
+-- Earlier forms of tuples, built from those of their parts.
 use Rattle.std.proofs.Common.{◌≡◌, ℕ, ◌+◌, ◌<◌, ◌≤◌, List, [], ◌∷◌, length, refl, sym, ◌∙◌, ap, arith, ⊎_elim, inl, inr}
 use Rattle.std.specs.Prelude.{◌⊎◌}
 use Rattle.std.proofs.lemmas.List.{nil_from_length}
@@ -22,7 +22,8 @@ earlier_same f = inr refl
 pub earlier_le : (a' a : Format) → IsEarlier a' a → a'.count ≤ a.count
 earlier_le a' a h = ⊎_elim (λ (l : a'.count < a.count). omega arith) (λ (e : a' ≡ a). let k : a'.count ≡ a.count = ap (λ (f : Format). f.count) e in omega arith) h
 
--- Of two parts: fewer slices in one and no more in the other are fewer, and else both are equal.
+-- If one of two parts has fewer slices and the other has no more, the whole has fewer; otherwise both parts are the
+-- same formats.
 pub earlier_two : (a' a b' b f' f : Format) → f'.count ≡ a'.count + b'.count → f.count ≡ a.count + b.count → (a' ≡ a → b' ≡ b → f' ≡ f) → IsEarlier a' a → IsEarlier b' b → IsEarlier f' f
 earlier_two a' a b' b f' f p q same g h =
     let m = earlier_le a' a g in
@@ -90,7 +91,7 @@ no_pairs a b {x} {y} s e =
     let n : length (a.rows x) ≡ 0 = sym (length-pair a b s) ∙ ap length e in
     (nil_from_length (a.rows x) n, nil_from_length (b.rows y) (sym (pair_parts a b s).level ∙ n))
 
--- a cause that is true of a part is true of the pair
+-- a true cause at a part is a true cause at the pair
 pub pair_not_left : (a' a b' b : Format) {x' y' : Content} (error : GrowError) → IsSound (pair_format a' b') (both x' y') → IsTrueOfNew error a (a'.rows x') → IsTrueOfNew error (pair_format a b) (tuples (a'.rows x') (b'.rows y'))
 pair_not_left a' a b' b {x'} {y'} error s h = λ c t e.
     let w = two_form (pair_two a b) c t in
@@ -109,7 +110,7 @@ pair_not_right a' a b' b {x'} {y'} error s h = λ c t e.
     (λ k v. pair_refuses_right a b (a'.rows x') (b'.rows y') u (pair_parts a' b' s).level k v)
     (h w.right (pair_parts a b u).right n.1))
 
--- a tuple, as its nest
+-- a tuple, built as its nest
 pub tuple_made : (a' a b' b : Format) (fs' fs : List Format) {c d : Content} → IsMadeOf (nested a' (b' ∷ fs')) (nested a (b ∷ fs)) c d → IsMadeOf (tuple_format a' b' fs') (tuple_format a b fs) c d
 tuple_made a' a b' b fs' fs {c} {d} g = record { sound = (tuple_same a b fs).there d g.sound; rows = g.rows }
 

@@ -1,4 +1,4 @@
--- What it means that a store frames slices.
+-- Framing: how a store holds slices.
 use Rattle.std.specs.Prelude.{ℕ, zero, suc, List, [], ◌≡◌, ◌<◌, ◌≤◌, ◌+◌, ◌-◌, ◌*◌, ◌/◌, ◌%◌, length, map, slice_index_or, slice_range}
 use Rattle.std.specs.List.{range_with_len}
 use Rattle.columnar_core.specs.Bytes.{word, rounded}
@@ -7,7 +7,8 @@ use Rattle.columnar_core.specs.Bytes.{word, rounded}
 abbrev pub end_of : List ℕ → ℕ → ℕ
 end_of bytes i = word bytes (i + 1)
 
--- where slice i starts: the first after the table, each later one at the end before it, rounded up to a multiple of eight
+-- where slice i starts: the first after the table, each later one at the previous end, rounded up to a multiple of
+-- eight
 abbrev pub start_of : List ℕ → ℕ → ℕ
 start_of bytes zero = word bytes 0
 start_of bytes (suc i) = rounded (end_of bytes i)
@@ -16,18 +17,18 @@ start_of bytes (suc i) = rounded (end_of bytes i)
 abbrev pub slice_of : List ℕ → ℕ → List ℕ
 slice_of bytes i = slice_range bytes (start_of bytes i) (end_of bytes i)
 
--- slice i does not end before its start, nor past the bytes
+-- slice i does not end before its start or past the bytes
 pub record IsPlaced (bytes : List ℕ) (i : ℕ) : Type 0 where
   pub ordered : start_of bytes i ≤ end_of bytes i
   pub within : end_of bytes i ≤ length bytes
 
--- the bytes begin with the table of n slices, and each slice lies in the bytes
+-- the bytes begin with a table of n slices, and each slice lies in the bytes
 pub record IsTable (bytes : List ℕ) (n : ℕ) : Type 0 where
   pub first : word bytes 0 ≡ 8 * (n + 1)
   pub fits : 8 * (n + 1) ≤ length bytes
   pub placed : (i : ℕ) → i < n → IsPlaced bytes i
 
--- the bytes frame the slices: there is a table of as many, and each is the bytes from its start to its end
+-- the bytes frame the slices: the table has their number, and each is the bytes from its start to its end
 pub record Frame (bytes : List ℕ) (slices : List (List ℕ)) : Type 0 where
   pub table : IsTable bytes (length slices)
   pub each : (i : ℕ) → i < length slices → slice_index_or slices i [] ≡ slice_of bytes i
@@ -37,11 +38,11 @@ pub record IsLegal (bytes : List ℕ) (n : ℕ) : Type 0 where
   pub whole : length bytes % 8 ≡ 0
   pub framed : (slices : List (List ℕ)) × (Frame bytes slices × (length slices ≡ n))
 
--- how many slices the table is for
+-- the number of slices in the table
 abbrev pub slice_count : List ℕ → ℕ
 slice_count bytes = word bytes 0 / 8 - 1
 
--- the slices of a store that frames any
+-- the slices of a store
 abbrev pub framed_slices : List ℕ → List (List ℕ)
 framed_slices bytes = map (slice_of bytes) (range_with_len 0 (slice_count bytes))
 

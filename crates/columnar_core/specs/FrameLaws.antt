@@ -1,4 +1,4 @@
--- What follows from the definitions of a frame.
+-- Consequences of the definition of a frame.
 use Rattle.std.proofs.Common.{ℕ, zero, suc, List, [], ◌≡◌, ◌<◌, ◌≤◌, ◌+◌, ◌-◌, ◌*◌, ◌%◌, length, get_or, take, drop, sym, ◌∙◌, ap, arith}
 use Rattle.std.proofs.lemmas.List.{ext_get_or}
 use Rattle.std.proofs.lemmas.List.FromFn.{length-map-range_with_len, get_or-map-range_with_len}
@@ -60,7 +60,7 @@ store_of bytes n h = record { whole = h.whole; framed = framed_by_table bytes n 
 pub count_of : (bytes : List ℕ) (n : ℕ) → IsLegal bytes n → length (framed_slices bytes) ≡ n
 count_of bytes n h = length-framed_slices bytes ∙ count_is bytes n (table_of bytes n h)
 
--- a legal store of n slices is a store whose slices are n
+-- a store of n slices is legal for n
 pub legal_of : (bytes : List ℕ) (n : ℕ) → IsStore bytes → length (framed_slices bytes) ≡ n → IsLegal bytes n
 legal_of bytes n s e = record { whole = s.whole; framed = (framed_slices bytes, (s.framed, e)) }
 
@@ -69,7 +69,7 @@ pub start_is : (bytes : List ℕ) (n i : ℕ) → IsTable bytes n → start_of b
 start_is bytes n zero t = let e = t.first in omega arith
 start_is bytes n (suc i) t = ap (λ k. rounded (word bytes k)) (omega arith)
 
--- slice i of a store, by the words of its table
+-- slice i of a store, read from the words of its table
 pub record IsRead (bytes : List ℕ) (i : ℕ) : Type 0 where
   pub table : 8 * i + 16 ≤ length bytes
   pub ordered : rounded (word bytes i) ≤ word bytes (i + 1)

@@ -1,4 +1,4 @@
--- A view has the content of its column, and its format.
+-- A view has the content and the format of its column.
 use Rattle.std.proofs.Common.{◌≡◌, refl}
 use Rattle.columnar_base.specs.Format.{Format, Content, both, IsSound}
 

@@ -32,7 +32,7 @@ pub all_are_bytes : {T : Type 0} (bytes : T → List ℕ) → ((x : T) → AreBy
 all_are_bytes bytes h [] i = omega arith
 all_are_bytes bytes h (x ∷ xs) i = bytes_of_both (bytes x) (flat_map bytes xs) (h x) (all_are_bytes bytes h xs) i
 
--- the bytes of numbers, which a slice is made of
+-- the bytes of the numbers of a slice
 pub are_counted : {T : Type 0} (w : Width) (number : T → ℕ) (xs : List T) (count : ℕ) → count ≡ byte_len w * length xs → IsCounted count (flat_map (λ x. to_le_bytes w (number x)) xs)
 are_counted w number xs count e = record {
   number = e ∙ sym (length-flat (byte_len w) (λ x. to_le_bytes w (number x)) (λ x. length-number w (number x)) xs);
@@ -51,7 +51,7 @@ counted_wrapping_unsigned w xs count e = are_counted w (λ x. x.0) xs count e
 pub counted_wrapping_signed : (w : Width) (xs : List (Wrapping ℤ)) (count : ℕ) → count ≡ byte_len w * length xs → IsCounted count (flat_map (inside (signed_bytes w)) xs)
 counted_wrapping_signed w xs count e = are_counted w (λ x. cast_unsigned w x.0) xs count e
 
--- byte k of element i among the bytes of elements
+-- byte k of element i in the bytes of elements
 pub byte_in : {T : Type 0} (size : ℕ) (bytes : T → List ℕ) → ((x : T) → length (bytes x) ≡ size) → (xs : List T) (i k : ℕ) (x : T) → i < length xs → x ≡ get_or xs i x → k < size → slice_index (flat_map bytes xs) (size * i + k) ≡ slice_index (bytes x) k
 byte_in size bytes h [] i k x n e l = absurd (omega arith)
 byte_in size bytes h (y ∷ xs) zero k x n e l =
@@ -82,7 +82,7 @@ no_byte_of {T} {size} {bytes} e xs at s a q l =
     let m : size * length xs ≤ size * (at / size) = mul-le-mul_left size (rw r at l) in
     sym (no_byte size bytes e.sized xs at (omega (arith, d, m)))
 
--- the byte form of bytes is the bytes
+-- bytes, encoded as bytes, stay
 pub bytes_are : (bs : List ℕ) → AreBytes bs → bs ≡ flat_map (to_le_bytes w8) bs
 bytes_are [] h = refl
 bytes_are (b ∷ bs) h =

@@ -1,4 +1,4 @@
--- The steps of what goes out to a writer, or into a list.
+-- The steps of writing to a writer, or to a list.
 use Rattle.std.proofs.Common.{ℕ, List, [], ◌++◌, ◌≡◌, ◌+◌, length, length-append, arith, refl, sym, ◌∙◌, ap, append_assoc, subst, ◌<◌, Option, Some, None}
 use Rattle.std.proofs.lemmas.List.{append-nil}
 use Rattle.std.specs.Io.KnownBytes.{Appends, Keeps}
@@ -33,7 +33,7 @@ sent_more o m n rest bs after all w e p = record {
 pub sent_all : (o n : Option (List ℕ)) (rest all : List ℕ) → WentOut o n rest all → rest ≡ [] → Appends o n all
 sent_all o n rest all w e = subst (λ (t : List ℕ). Appends o n t) (sym (w.split ∙ ap (λ t. w.front ++ t) e ∙ append-nil w.front)) w.appended
 
--- a writer that failed on bs, of which `after` was to follow
+-- the writer failed at bs, before `after`
 pub sent_part : (o m n : Option (List ℕ)) (rest bs after all : List ℕ) → WentOut o m rest all → rest ≡ bs ++ after → AppendsBeginning m n bs → AppendsBeginning o n all
 sent_part o m n rest bs after all w e p = (
   p.0 ++ after,
@@ -44,11 +44,11 @@ sent_part o m n rest bs after all w e p = (
   ),
 )
 
--- a writer that kept what it held, where some bytes were to follow
+-- the writer kept its bytes, while some remained to be written
 pub sent_kept : (o m n : Option (List ℕ)) (rest all : List ℕ) → WentOut o m rest all → 0 < length rest → Keeps m n → AppendsBeginning o n all
 sent_kept o m n rest all w l k = (rest, (l, record { front = w.front; split = w.split; appended = appends_kept o m n w.front w.appended k }))
 
--- what is there and what is to follow are as long as what was there and all
+-- the written and the remaining bytes are as many as the earlier ones and all
 pub sent_length : (xs ys rest all : List ℕ) → WentOut (Some xs) (Some ys) rest all → length ys + length rest ≡ length xs + length all
 sent_length xs ys rest all w =
     let p : length ys ≡ length (xs ++ w.front) = ap length w.appended in

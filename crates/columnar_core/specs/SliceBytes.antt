@@ -12,7 +12,7 @@ use Rattle.columnar_core.specs.declared.byte_slice.Elements.TheVariants.{Bytes, 
 abbrev pub inside : {T : Type 0} → (T → List ℕ) → Wrapping T → List ℕ
 inside bytes x = bytes x.0
 
--- the bytes of the elements, each lowest first
+-- the little-endian bytes of the elements
 abbrev pub element_bytes : Elements → List ℕ
 element_bytes (Bytes bs) = bs.now
 element_bytes (U16 xs) = flat_map (to_le_bytes w16) xs.now
@@ -31,12 +31,12 @@ element_bytes (WrappingI16 xs) = flat_map (inside (signed_bytes w16)) xs.now
 element_bytes (WrappingI32 xs) = flat_map (inside (signed_bytes w32)) xs.now
 element_bytes (WrappingI64 xs) = flat_map (inside (signed_bytes w64)) xs.now
 
--- are the elements words
+-- whether the elements are words
 abbrev pub are_words : Elements → Bool
 are_words (U64 xs) = true
 are_words _ = false
 
--- so many they are, and each is a byte
+-- there are `count` numbers, and each is a byte
 pub record IsCounted (count : ℕ) (bs : List ℕ) : Type 0 where
   pub number : count ≡ length bs
   pub bytes : AreBytes bs

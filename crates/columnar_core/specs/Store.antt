@@ -7,6 +7,6 @@ use Rattle.columnar_core.specs.declared.store.Decode.{Decode}
 abbrev pub slices_in : DecodedStore → List (List ℕ)
 slices_in store = framed_slices store.bytes.now
 
--- the slices that are left
+-- the remaining slices
 abbrev pub slices_left : Decode → List (List ℕ)
 slices_left decode = drop decode.index (slices_in decode.store)

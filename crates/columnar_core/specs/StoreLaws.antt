@@ -1,4 +1,4 @@
--- Slices of a store, by their number.
+-- Slices of a store, by their index.
 use Rattle.std.proofs.Common.{◌≡◌, ℕ, zero, suc, ◌+◌, ◌/◌, ◌<◌, ◌≤◌, List, [], ◌∷◌, length, drop, refl, sym, arith}
 use Rattle.std.specs.Prelude.{slice_index_or, min}
 use Rattle.std.proofs.Math.Seq.{drop-nil}
@@ -9,7 +9,7 @@ use Rattle.columnar_base.specs.ElementLaws.{length-elements}
 use Rattle.columnar_core.specs.declared.store.DecodedStore.{DecodedStore}
 use Rattle.columnar_core.specs.Store.{slices_in}
 
--- what stands at `offset`, and what follows it
+-- the slice at `offset`, and those after it
 pub drop_at : (ss : List (List ℕ)) (o : ℕ) (bs : List ℕ) → o < length ss → bs ≡ slice_index_or ss o [] → drop o ss ≡ bs ∷ drop (suc o) ss
 drop_at [] o bs l h = absurd (omega arith)
 drop_at (x ∷ xs) zero bs l h = let e : bs ≡ x = h in rw e refl
@@ -25,7 +25,7 @@ length_at size row_of store o bs l h = rw (first_at (slices_in store) o bs (omeg
 pub same_part : {a b : Format} → a ≡ b → part_format a ≡ part_format b
 same_part p = rw p refl
 
--- no slices are left from after the end on, wherever that is
+-- no slices remain from the end on, wherever that is
 pub left_from : {A : Type 0} (xs : List A) (i j : ℕ) → j ≡ min i (length xs) → drop j xs ≡ drop i xs
 left_from [] i j e = let z : j ≡ 0 = omega arith in rw z (sym (drop-nil i))
 left_from (x ∷ xs) zero j e = let z : j ≡ 0 = omega arith in rw z refl

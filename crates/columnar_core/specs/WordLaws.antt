@@ -1,4 +1,4 @@
--- What is written frames the slices.
+-- The written words frame the slices.
 use Rattle.std.proofs.Common.{ℕ, zero, suc, List, [], ◌∷◌, ◌++◌, ◌≡◌, ◌<◌, ◌≤◌, ◌+◌, ◌-◌, ◌*◌, ◌/◌, ◌%◌, ◌^◌, length, get_or, take, drop, replicate, refl, sym, ◌∙◌, ap, arith, append_assoc, length-append, subst}
 use Rattle.std.specs.List.{flat_map}
 use Rattle.std.specs.Int.{to_le_bytes, from_le_bytes, w64}
@@ -18,7 +18,7 @@ pub word-front : (n : ℕ) (rest : List ℕ) → n < 2 ^ 64 → word (word_bytes
 unfolding word word_bytes
 word-front n rest l = from_le_bytes-to_le_bytes_8 n l
 
--- eight bytes in front shift each word by one
+-- eight bytes in front shift each word by one index
 pub word-after : (front rest : List ℕ) (i : ℕ) → length front ≡ 8 → word (front ++ rest) (suc i) ≡ word rest i
 unfolding word
 word-after front rest i e =
@@ -27,7 +27,7 @@ word-after front rest i e =
     ap (λ k. drop k (front ++ rest)) d ∙ sym (drop-drop (8 * i) 8 (front ++ rest)) ∙ ap (drop (8 * i)) (drop_at front rest 8 e) in
     ap (λ t. from_le_bytes w64 t) f
 
--- the words in front are those that were written
+-- the first words are those that were written
 pub word-le_bytes : (xs rest : List ℕ) (i : ℕ) → i < length xs → get_or xs i 0 < 2 ^ 64 → word (le_bytes xs ++ rest) i ≡ get_or xs i 0
 unfolding word_bytes
 word-le_bytes [] rest i l b = absurd (omega arith)
@@ -46,7 +46,7 @@ length-slice_words s = length-map-range_with_len (word s) 0 ((length s + 7) / 8)
 pub length-padded : (s : List ℕ) → length (padded s) ≡ rounded (length s)
 length-padded s = length-append s (replicate (rounded (length s) - length s) 0) ∙ omega (arith, length-replicate {A = ℕ} (rounded (length s) - length s) 0)
 
--- how many words the slices take
+-- the number of words of the slices
 pub length-flat_padded : (slices : List (List ℕ)) → length (flat_map padded slices) ≡ 8 * length (flat_map slice_words slices)
 length-flat_padded [] = refl
 length-flat_padded (s ∷ ss) =
@@ -61,7 +61,7 @@ length-store_bytes slices =
     length-append (le_bytes (table_words slices)) (flat_map padded slices)
     ∙ omega (arith, length-le_bytes (table_words slices), length-flat_padded slices, length-words slices, length-ends (8 * (length slices + 1)) slices)
 
--- where slice i starts, of slices that are laid out from `start` on
+-- where slice i starts, if slices are laid out from `start` on
 abbrev pub from_of : ℕ → List (List ℕ) → ℕ → ℕ
 from_of start slices zero = start
 from_of start slices (suc i) = rounded (get_or (slice_ends start slices) i 0)
@@ -70,14 +70,14 @@ pub from_shift : (start : ℕ) (s : List ℕ) (ss : List (List ℕ)) (i : ℕ) �
 from_shift start s ss zero = refl
 from_shift start s ss (suc i) = refl
 
--- s lies in all, between two places
+-- s lies in all, from one index to another
 pub record LiesAt (all s : List ℕ) (from to : ℕ) : Type 0 where
   pub ordered : from ≤ to
   pub within : to ≤ length all
   pub is : s ≡ take (to - from) (drop from all)
   pub padding : (j : ℕ) → to ≤ j → j < rounded to → get_or all j 0 ≡ 0
 
--- zeros after bytes read as what is past their end
+-- zeros after bytes read as those past their end
 get_or-zeros : (n k : ℕ) → get_or {A = ℕ} (replicate n 0) k 0 ≡ 0
 get_or-zeros zero k = refl
 get_or-zeros (suc n) zero = refl
@@ -104,7 +104,7 @@ at_first pre s n rest start e r =
           ∙ zeros_read s n (j - start) ∙ get_or_past s (j - start) 0 (omega arith);
     }
 
--- slices that are laid out, each after the one before
+-- slices that are laid out, each after the previous one
 pub laid : (pre : List ℕ) (start : ℕ) (slices : List (List ℕ)) (i : ℕ) → length pre ≡ start → start % 8 ≡ 0 → i < length slices → LiesAt (pre ++ flat_map padded slices) (get_or slices i []) (from_of start slices i) (get_or (slice_ends start slices) i 0)
 laid pre start [] i e m l = absurd (omega arith)
 laid pre start (s ∷ ss) zero e m l = at_first pre s (rounded (length s) - length s) (flat_map padded ss) start e (omega arith)
@@ -143,7 +143,7 @@ at_words slices i b l =
     let h = laid (le_bytes (table_words slices)) start slices i k (omega arith) l in
     rw (start_word slices i b (omega arith), end_word slices i b l) h
 
--- what is written frames the slices
+-- the written bytes frame the slices
 pub framed_words : (slices : List (List ℕ)) → 8 * length (words slices) < 2 ^ 64 → Frame (store_bytes slices) slices
 framed_words slices b = record {
   table = record {
@@ -154,14 +154,14 @@ framed_words slices b = record {
   each = λ i l. let h = at_words slices i b l in h.is;
 }
 
--- what is written is a legal store
+-- the written bytes are a legal store
 pub legal_words : (slices : List (List ℕ)) → 8 * length (words slices) < 2 ^ 64 → IsLegal (store_bytes slices) (length slices)
 legal_words slices b = record {
   whole = omega (arith, length-store_bytes slices);
   framed = (slices, (framed_words slices b, refl));
 }
 
--- the bytes of the words that are left, one word on
+-- the bytes of the remaining words, one word further
 pub le_bytes-drop : (xs : List ℕ) (i : ℕ) → (bytes : List ℕ) → bytes ≡ to_le_bytes w64 (get_or xs i 0) → i < length xs → le_bytes (drop i xs) ≡ bytes ++ le_bytes (drop (i + 1) xs)
 unfolding word_bytes
 le_bytes-drop xs i bytes e l = ap le_bytes (drop_more xs i 0 l) ∙ ap (λ t. t ++ le_bytes (drop (i + 1) xs)) (sym e)

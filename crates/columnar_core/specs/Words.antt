@@ -3,7 +3,7 @@ use Rattle.std.specs.Prelude.{ℕ, List, [], ◌∷◌, ◌++◌, ◌+◌, ◌-�
 use Rattle.std.specs.List.{range_with_len, flat_map}
 use Rattle.columnar_core.specs.Bytes.{word, rounded, le_bytes}
 
--- where slices end, of which the first starts at `start`
+-- where slices end, if the first starts at `start`
 abbrev pub slice_ends : ℕ → List (List ℕ) → List ℕ
 slice_ends start [] = []
 slice_ends start (s ∷ ss) = (start + length s) ∷ slice_ends (rounded (start + length s)) ss
@@ -12,15 +12,15 @@ slice_ends start (s ∷ ss) = (start + length s) ∷ slice_ends (rounded (start 
 abbrev pub table_words : List (List ℕ) → List ℕ
 table_words slices = 8 * (length slices + 1) ∷ slice_ends (8 * (length slices + 1)) slices
 
--- the words of a slice, the last one filled with zeros
+-- the words of a slice, the last one filled up with zeros
 abbrev pub slice_words : List ℕ → List ℕ
 slice_words s = map (word s) (range_with_len 0 ((length s + 7) / 8))
 
--- the words of a store that frames the slices, with zeros between them and nothing after
+-- the words of a store that frames the slices, with zeros between them and nothing after them
 abbrev pub words : List (List ℕ) → List ℕ
 words slices = table_words slices ++ flat_map slice_words slices
 
--- a slice, and zeros up to a multiple of eight
+-- a slice, filled up with zeros to a multiple of eight
 abbrev pub padded : List ℕ → List ℕ
 padded s = s ++ replicate (rounded (length s) - length s) 0
 
@@ -28,10 +28,10 @@ padded s = s ++ replicate (rounded (length s) - length s) 0
 abbrev pub store_bytes : List (List ℕ) → List ℕ
 store_bytes slices = le_bytes (table_words slices) ++ flat_map padded slices
 
--- how many words are written, where their bytes can be counted in 64 bits
+-- the number of words that are written, if 64 bits can count their bytes
 abbrev pub word_count : List (List ℕ) → Option ℕ
 word_count slices = if nat_lt (8 * length (words slices)) (2 ^ 64) then Some (length (words slices)) else None
 
--- how many bytes are written, where they can be counted in 64 bits
+-- the number of bytes that are written, if 64 bits can count them
 abbrev pub byte_count : List (List ℕ) → Option ℕ
 byte_count slices = if nat_lt (8 * length (words slices)) (2 ^ 64) then Some (8 * length (words slices)) else None

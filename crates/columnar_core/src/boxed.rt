@@ -1,6 +1,7 @@
-//! Rows in boxes: a column of them is a column of what the boxes hold, with the same slices and the same rows.
+//! Boxed rows: a column of boxes has the slices and the rows of the column of the boxed values.
 ghost use Rattle.std.specs.Prelude.{◌≡◌};
 ghost use Rattle.std.specs.Borrow.{sem, Lends};
+ghost use Rattle.columnar_base.specs.Format.{IsSound};
 ghost use Rattle.columnar_core.specs.contracts.boxed.Boxed.{the_row};
 
 use crate::byte_slice::ByteSlice;
@@ -19,11 +20,11 @@ use std::cmp::Ordering;
 use std::hash::Hasher;
 use std::ops::{Deref, DerefMut, Range};
 
-/// A column of boxed rows over the column of the rows, or a view of one, or a row of it.
+/// A column of boxed rows over the column of the rows; also a view of one, or a row of it.
 #[derive(Clone, Copy, Debug, PartialEq, Eq, Drop)]
 pub struct Boxed<T>(pub T);
 
-/// As a row, it is what it is made of.
+/// Its row is that of the value inside.
 impl<R: Item> Item for Boxed<R> {
     ghost meaning = { λ b. R.meaning b.0 };
 
@@ -59,7 +60,7 @@ impl<T> Deref for Boxed<T> {
 impl<T> DerefMut for Boxed<T> {
     ghost deref_mut_gives = { λ b x. x ≡ b.0 };
 
-    /// What it holds; what is written there is what the box then holds.
+    /// Lends the inner value mutably; writes to it change the inner value.
     fn deref_mut(&mut self) -> &mut T
         ensures* writes_back { sem 𝓛 (Lends (the_row T.row) T.row self.entry result (λ x. record { 0 = x })) }
         ensures value { result.now ≡ self.old.0 }
@@ -72,6 +73,20 @@ impl<C: Column> Column for Boxed<C> {
     ghost format = { C.format };
 
     ghost content = { λ b. C.content b.0 };
+}
+
+impl<C: Column> Boxed<C> {
+    /// Returns the column of the boxed values, with the same rows.
+    ///
+    /// # Requires
+    /// A well-formed column.
+    pub fn into_inner(self) -> C
+        requires { IsSound C.format (C.content self.0) }
+        ensures sound { IsSound C.format (C.content result) }
+        ensures inner { result ≡ self.0 }
+    {
+        self.0
+    }
 }
 
 impl<C: Len> Len for Boxed<C> {
@@ -88,7 +103,7 @@ impl<C: Index> Index for Boxed<C> {
     }
 }
 
-/// Rows are read through a reference as those of the inner column are through one.
+/// Reads rows through a reference, as the inner column does.
 impl<'x, C: Column> Index for &'x Boxed<C>
 where
     &'x C: Index,
@@ -108,7 +123,7 @@ impl<C: Clear> Clear for Boxed<C> {
     }
 }
 
-/// Takes what stands for a row, as its own rows are read.
+/// Takes boxed rows, as reads of the column return them.
 impl<R: Item, C: Push<R>> Push<Boxed<R>> for Boxed<C> {
     #[inline]
     fn push(&mut self, item: Boxed<R>) -> Result<(), GrowError> {
@@ -116,7 +131,7 @@ impl<R: Item, C: Push<R>> Push<Boxed<R>> for Boxed<C> {
     }
 }
 
-/// Takes a row that lies in a box elsewhere.
+/// Takes a value in a standard box.
 impl<'x, T: Item, C: PushRef<T>> Push<&'x Box<T>> for Boxed<C> {
     #[inline]
     fn push(&mut self, item: &'x Box<T>) -> Result<(), GrowError> {
@@ -124,7 +139,7 @@ impl<'x, T: Item, C: PushRef<T>> Push<&'x Box<T>> for Boxed<C> {
     }
 }
 
-/// Takes a row that lies in a box elsewhere.
+/// Takes a value in a standard box.
 impl<T: Item, C: PushRef<T>> PushRef<Box<T>> for Boxed<C> {
     #[inline]
     fn push_ref(&mut self, item: &Box<T>) -> Result<(), GrowError> {

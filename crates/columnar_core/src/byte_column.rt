@@ -1,4 +1,4 @@
-//! Columns of bytes, which are borrowed as slices.
+//! Columns of bytes, borrowed as slices.
 ghost use Rattle.std.specs.Prelude.{◌≡◌, ◌+◌, ◌-◌, ◌*◌, ◌<◌, refl};
 ghost use Rattle.columnar_base.specs.Format.{slice};
 ghost use Rattle.columnar_base.specs.Elements.{elements};
@@ -105,7 +105,7 @@ impl<'v, T: Element> Stored for &'v [T] {
     }
 }
 
-/// A slice of elements breaks no rule.
+/// A slice of elements is always well-formed.
 impl<'v, T: Element> Check for &'v [T] {
     fn check_from_tallied<L>(&self, _from: usize, _tally: &mut Tally<L>) -> Result<(), StoreFault> {
         Ok(())
@@ -121,14 +121,14 @@ impl<'s> FromBytes<'s> for &'s [u8] {
 }
 
 impl<'s, T: Sliced> AsBytes<'s> for &'s [T] {
-    /// The one slice, with the alignment of the type.
+    /// Returns the only slice, with the alignment of the type.
     fn get_byte_slice(&self, index: usize) -> (u64, ByteSlice<'s>) {
         let slice = T::byte_slice(*self);
         (slice.align(), slice)
     }
 }
 
-// The bytes; as elements they are kept in themselves.
+// Returns the bytes; as elements, bytes represent themselves.
 fn as_elements<'s>(bytes: &'s [u8]) -> &'s [u8]
     ensures { elements (to_le_bytes w8) result.now ≡ slice bytes.entry.now }
 {

@@ -1,4 +1,4 @@
-//! The slices of a column, before they are written.
+//! The slices of a column, ready to be written.
 ghost use Rattle.std.specs.Prelude.{◌≡◌, ◌↔◌, ◌<◌, ◌*◌, ◌+◌, ◌^◌, length, map, slice_index, IfSome, IsSome, IsTrue, IsFalse, OnOk, OnErr};
 ghost use Rattle.std.specs.List.{flat_map, range_with_len};
 ghost use Rattle.std.specs.Io.KnownBytes.{Appends};
@@ -17,10 +17,10 @@ use std::num::Wrapping;
 pub mod flat;
 pub mod sliced;
 
-// How many words are written at once
+// The number of words per write.
 const BLOCK: usize = 128;
 
-/// A slice of a column: elements that stand for their bytes, each lowest first.
+/// A slice of a column: elements that are read as their little-endian bytes.
 #[derive(Clone, Copy)]
 pub struct ByteSlice<'a> {
     elements: Elements<'a>,
@@ -29,7 +29,7 @@ pub struct ByteSlice<'a> {
     ghost counted: { IsCounted count (element_bytes elements) },
 }
 
-// The elements of a slice, by their type
+// The elements of a slice, by their type.
 #[derive(Clone, Copy)]
 enum Elements<'a> {
     Bytes(&'a [u8]),
@@ -53,7 +53,7 @@ enum Elements<'a> {
 impl<'a> ByteSlice<'a> {
     ghost use Rattle.columnar_core.specs.Slices.{bytes_in, alignment, has_words};
 
-    /// The slice of these bytes.
+    /// Makes a slice of bytes, with alignment 1.
     pub fn of_bytes(bytes: &'a [u8]) -> Self
         ensures bytes { bytes_in result ≡ bytes.entry.now }
         ensures align { alignment result ≡ 1 }
@@ -62,7 +62,7 @@ impl<'a> ByteSlice<'a> {
         ByteSlice::of_le_bytes(bytes, 1)
     }
 
-    /// The slice of these bytes, which stand for elements of that alignment.
+    /// Makes a slice of the bytes of elements with the alignment `align`.
     pub fn of_le_bytes(bytes: &'a [u8], align: u64) -> Self
         ensures bytes { bytes_in result ≡ bytes.entry.now }
         ensures align { alignment result ≡ align }
@@ -76,7 +76,7 @@ impl<'a> ByteSlice<'a> {
         }
     }
 
-    /// The slice of the bytes of these words, each lowest first.
+    /// Makes a slice of the little-endian bytes of words, with alignment 8.
     pub fn of_words(words: &'a [u64]) -> Self
         ensures bytes { bytes_in result ≡ le_bytes words.entry.now }
         ensures align { alignment result ≡ 8 }
@@ -90,7 +90,7 @@ impl<'a> ByteSlice<'a> {
         }
     }
 
-    /// The slice of the bytes of the words of a view, with the alignment of words, wherever they stand.
+    /// Makes a slice of the bytes of a view's words, with alignment 8.
     pub fn of_view(view: View<'a, u64>) -> Self
         ensures bytes { bytes_in result ≡ view_bytes view.entry }
         ensures align { alignment result ≡ 8 }
@@ -101,21 +101,21 @@ impl<'a> ByteSlice<'a> {
         }
     }
 
-    /// The alignment that its elements ask for, in bytes.
+    /// Returns the alignment of the elements, in bytes.
     pub fn align(&self) -> u64
         ensures { result ≡ alignment self.now }
     {
         self.align
     }
 
-    /// How many bytes it has.
+    /// Returns the number of bytes.
     pub fn len(&self) -> usize
         ensures { result ≡ length (bytes_in self.now) }
     {
         self.count
     }
 
-    /// Its words, where it is made of words that stand in memory.
+    /// Returns the words, or `None` if the slice was not made of words in memory.
     pub fn as_words(&self) -> Option<&'a [u64]>
         ensures bytes { IfSome result (λ words. bytes_in self.now ≡ le_bytes words.now) }
         ensures some { IsSome result ↔ IsTrue (has_words self.now) }
@@ -126,8 +126,10 @@ impl<'a> ByteSlice<'a> {
         }
     }
 
-    /// Puts its words from word `from` on into the block, as many as that has, each of its bytes lowest first; the last word
-    /// is filled with zeros. Asks that its bytes reach into the last of them, or with an empty block into the word before.
+    /// Fills `block` with the words from word `from` on, lowest byte first; missing bytes of the last word are zeros.
+    ///
+    /// # Requires
+    /// `8 * (from + block.len()) < len() + 8`: the last word has at least one byte.
     pub fn read_words(&self, from: usize, block: &mut [u64])
         requires { 8 * (from + length block.old) < length (bytes_in self.now) + 8 }
         ensures { block.new ≡ map (word (bytes_in self.now)) (range_with_len from (length block.old)) }
@@ -153,8 +155,10 @@ impl<'a> ByteSlice<'a> {
         }
     }
 
-    /// Word `index` of its bytes, lowest first; the last word is filled with zeros. Asks that a byte stands in that
-    /// word.
+    /// Returns word `index`, lowest byte first; missing bytes of the last word are zeros.
+    ///
+    /// # Requires
+    /// A byte in that word: `8 * index < len()`.
     pub fn word(&self, index: usize) -> u64
         requires { 8 * index < length (bytes_in self.now) }
         ensures { result ≡ word (bytes_in self.now) index }
@@ -164,7 +168,10 @@ impl<'a> ByteSlice<'a> {
         block[0]
     }
 
-    /// Writes its bytes, and nothing else. After a fault a beginning of them went out, and not all.
+    /// Writes the bytes of the slice, and no others.
+    ///
+    /// # Errors
+    /// The writer's error. A beginning of the bytes was then written, but not all.
     pub fn write<W: WriteBytes>(&self, writer: &mut W) -> Result<(), W::Error>
         ensures ok { OnOk result (Appends (W.contents writer.old) (W.contents writer.new) (bytes_in self.now)) }
         ensures err { OnErr result (AppendsBeginning (W.contents writer.old) (W.contents writer.new) (bytes_in self.now)) }
@@ -176,7 +183,7 @@ impl<'a> ByteSlice<'a> {
         }
     }
 
-    // Writes its bytes, a block of words at a time.
+    // Writes the bytes of the slice, a block of words at a time.
     fn write_words<W: WriteBytes>(&self, writer: &mut W) -> Result<(), W::Error>
         ensures ok { OnOk result (Appends (W.contents writer.old) (W.contents writer.new) (bytes_in self.now)) }
         ensures err { OnErr result (AppendsBeginning (W.contents writer.old) (W.contents writer.new) (bytes_in self.now)) }
@@ -198,13 +205,13 @@ impl<'a> ByteSlice<'a> {
         Ok(())
     }
 
-    /// Does nothing when it runs; its contract says that each number it holds is a byte.
+    /// Does nothing at run time. Its contract states that every number of the slice is a byte.
     pub fn holds_bytes(&self)
         ensures { AreBytes (bytes_in self.now) }
     {}
 }
 
-// Writes the bytes of words that stand in memory, a block at a time.
+// Writes the bytes of words in memory, a block at a time.
 fn write_blocks<W: WriteBytes>(writer: &mut W, words: &[u64]) -> Result<(), W::Error>
     ensures ok { OnOk result (Appends (W.contents writer.old) (W.contents writer.new) (le_bytes words.now)) }
     ensures err { OnErr result (AppendsBeginning (W.contents writer.old) (W.contents writer.new) (le_bytes words.now)) }
@@ -221,7 +228,7 @@ fn write_blocks<W: WriteBytes>(writer: &mut W, words: &[u64]) -> Result<(), W::E
     Ok(())
 }
 
-// Words of bytes, as `read_words` puts them. They are read whole, but for the last.
+// Fills a block with words of bytes, as `read_words`. Reads all words at once but the last.
 fn read_bytes(bytes: &[u8], from: usize, block: &mut [u64])
     requires { 8 * (from + length block.old) < length bytes.now + 8 }
     ensures { block.new ≡ map (word bytes.now) (range_with_len from (length block.old)) }
@@ -231,7 +238,7 @@ fn read_bytes(bytes: &[u8], from: usize, block: &mut [u64])
     }
 }
 
-// The same of elements of any type.
+// The same for elements of any type.
 fn read_each<T: Primitive>(items: &[T], from: usize, block: &mut [u64])
     requires short { length (flat_map T.le_bytes items.now) < 2 ^ 64 }
     requires in_range { 8 * (from + length block.old) < length (flat_map T.le_bytes items.now) + 8 }
@@ -253,7 +260,7 @@ fn word_or_zeros(bytes: &[u8], index: usize) -> u64
     }
 }
 
-// Byte `at` of the bytes of elements, 0 past their end
+// Returns byte `at` of the elements' bytes, or 0 past their end.
 fn byte_of<T: Primitive>(items: &[T], at: usize) -> u8
     ensures { result ≡ slice_index (flat_map T.le_bytes items.now) at }
 {

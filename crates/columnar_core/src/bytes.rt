@@ -12,25 +12,39 @@ use columnar_base::tally::Tally;
 use columnar_base::traits::Column;
 use std::marker::PhantomData;
 
-/// A column that can stand in a store of bytes; names no lifetime. All of its calls ask that the type is representable:
-/// at most 2^60 slices, of elements of 1 to 2^63 - 1 bytes.
+/// A column type that a store can hold; it names no lifetime. All calls require a representable type: at most 2^60
+/// slices, of elements of 1 to 2^63 - 1 bytes.
 pub trait Stored: Column {
     ghost use Rattle.columnar_core.specs.Column.{aligns_left, byte_slices_left};
 
-    /// How many slices the type has.
+    /// Returns the number of slices of the type.
+    ///
+    /// # Requires
+    /// A representable type.
     fn slice_count() -> usize
         requires { IsTrue (representable Self.format) }
         ensures { result ≡ Self.format.count };
 
-    /// Appends the size of an element of each slice, in bytes: 8 for a head, a tail or a count. All or none.
+    /// Appends the element size of each slice in bytes, or nothing. The size is 8 for a head, a tail or a count.
+    ///
+    /// # Requires
+    /// A representable type.
+    ///
+    /// # Errors
+    /// `Memory`, and no other error; `sizes` stays.
     fn element_sizes(sizes: &mut Vec<usize>) -> Result<(), GrowError>
         requires { IsTrue (representable Self.format) }
         ensures ok { OnOk result (sizes.new.items ≡ sizes.old.items ++ Self.format.sizes) }
         ensures err { OnErr result (sizes.new.items ≡ sizes.old.items) }
         ensures memory { IfErr result (λ e. e ≡ GrowError.Memory) };
 
-    /// Which rule do the slices from `offset` on break first? Asks that they are there. Needs no memory; the turns
-    /// that it takes are added to the tally.
+    /// Validates the slices from `offset` on, and counts its steps in the tally; allocates nothing.
+    ///
+    /// # Requires
+    /// A representable type, and enough slices from `offset` on.
+    ///
+    /// # Errors
+    /// The first broken rule.
     fn judge_tallied<L>(
         store: &DecodedStore<'_>,
         offset: usize,
@@ -41,14 +55,23 @@ pub trait Stored: Column {
         ensures exact { verdict result ≡ first (moved offset (Self.format.broken (Self.format.build (drop offset (slices_in store.now))))) }
         ensures turns { tally.new.turns ≤ tally.old.turns + Self.format.turns * bytes_held (Self.format.build (drop offset (slices_in store.now))) };
 
-    /// The number of rows in slices that were accepted.
+    /// Returns the number of rows in accepted slices.
+    ///
+    /// # Requires
+    /// A representable type, and accepted slices from `offset` on.
     fn rows_in(store: &DecodedStore<'_>, offset: usize) -> usize
         requires representable { IsTrue (representable Self.format) }
         requires fits { Fits Self.format offset (slices_in store.now) }
         ensures { result ≡ length (Self.format.rows (Self.format.build (drop offset (slices_in store.now)))) };
 
-    /// As `validate`; the turns that it takes are added to the tally, at most 16 for each byte of its slices, accepted
-    /// or refused.
+    /// Does what `validate` does, and counts its steps in the tally: at most 16 per byte of its slices, whether it
+    /// accepts or refuses.
+    ///
+    /// # Requires
+    /// A representable type.
+    ///
+    /// # Errors
+    /// As `validate`.
     final fn validate_tallied<L>(
         store: &DecodedStore<'_>,
         offset: &mut usize,
@@ -70,9 +93,15 @@ pub trait Stored: Column {
         Ok(())
     }
 
-    /// Do as many slices as the type has, from `offset` on, make a well-formed column? The fault is the first broken
-    /// rule: that there are too few slices, then those of the parts in slice order, then the column's own. On Ok the
-    /// offset moves past the slices, on Err it stays. Needs no memory.
+    /// Accepts the next slices if and only if they make a well-formed column, and then moves `offset` past them. It
+    /// takes as many slices from `offset` on as the type has; allocates nothing.
+    ///
+    /// # Requires
+    /// A representable type.
+    ///
+    /// # Errors
+    /// The first broken rule: too few slices, then the rules of the parts in slice order, then the column's own.
+    /// `offset` stays.
     final fn validate(store: &DecodedStore<'_>, offset: &mut usize) -> Result<(), StoreFault>
         requires { IsTrue (representable Self.format) }
         ensures exact { verdict result ≡ first (faults_at Self.format offset.old (slices_in store.now)) }
@@ -82,7 +111,10 @@ pub trait Stored: Column {
         Self::validate_tallied(store, offset, &mut Tally::new())
     }
 
-    /// The slices of the column in order, each with the alignment of its elements.
+    /// Iterates over the slices of the column in order, each with its alignment.
+    ///
+    /// # Requires
+    /// A representable type.
     final fn as_bytes<'s, 'a>(&'s self) -> ByteSlices<'s, 'a, Self>
     where
         Self: AsBytes<'a> + Sized,
@@ -93,8 +125,11 @@ pub trait Stored: Column {
         ByteSlices::new(self)
     }
 
-    /// The view of the next slices that `decode` gives, which moves past them. Asks that they are there; the view is
-    /// well formed where `validate` accepts them.
+    /// Makes a view of the next slices of `slices`, and moves past them. The view is well-formed if `validate` accepts
+    /// them.
+    ///
+    /// # Requires
+    /// A representable type, and enough slices.
     final fn from_bytes<'a>(slices: &mut Decode<'a>) -> Self
     where
         Self: FromBytes<'a> + Sized,
@@ -112,21 +147,32 @@ pub trait Stored: Column {
 
     ghost storable: { IsStorable Self.format };
 
-    // there are as many slices as the type has
+    // a column has as many slices as its type
     ghost counted: { (c : Self) → length (slices_of (Self.content c)) ≡ Self.format.count };
 }
 
-/// A view that tests itself.
+/// A view that validates itself.
 pub trait Check: Stored {
-    /// Which rule does the view break first? Slices are counted from `from` on. The turns that it takes are added to
-    /// the tally.
+    /// Validates the view, with slices counted from `from` on. Counts its steps in the tally.
+    ///
+    /// # Requires
+    /// A representable type, and slice numbers below 2^64.
+    ///
+    /// # Errors
+    /// The first broken rule.
     fn check_from_tallied<L>(&self, from: usize, tally: &mut Tally<L>) -> Result<(), StoreFault>
         requires representable { IsTrue (representable Self.format) }
         requires counted { from + Self.format.count < 2 ^ 64 }
         ensures exact { verdict result ≡ first (moved from (Self.format.broken (Self.content self.now))) }
         ensures turns { tally.new.turns ≤ tally.old.turns + Self.format.turns * bytes_held (Self.content self.now) };
 
-    /// As `check`; the turns that it takes are added to the tally, at most 16 for each byte of the view's slices.
+    /// Does what `check` does, and counts its steps in the tally: at most 16 per byte of the view's slices.
+    ///
+    /// # Requires
+    /// A representable type.
+    ///
+    /// # Errors
+    /// As `check`.
     final fn check_tallied<L>(&self, tally: &mut Tally<L>) -> Result<(), StoreFault>
         requires { IsTrue (representable Self.format) }
         ensures exact { verdict result ≡ first (moved 0 (Self.format.broken (Self.content self.now))) }
@@ -136,8 +182,14 @@ pub trait Check: Stored {
         self.check_from_tallied(0, tally)
     }
 
-    /// Is the view well formed? The fault is the first broken rule, the parts' in slice order and then the whole's,
-    /// with slices counted from the view's first. Needs no memory.
+    /// Accepts the view if and only if it is well-formed; allocates nothing.
+    ///
+    /// # Requires
+    /// A representable type.
+    ///
+    /// # Errors
+    /// The first broken rule: those of the parts in slice order, then the whole's. Slices are counted from the view's
+    /// first.
     final fn check(&self) -> Result<(), StoreFault>
         requires { IsTrue (representable Self.format) }
         ensures { verdict result ≡ first (moved 0 (Self.format.broken (Self.content self.now))) }
@@ -146,10 +198,13 @@ pub trait Check: Stored {
     }
 }
 
-/// A view that is made of slices that live for `'a`.
+/// A view made of slices that live for `'a`.
 pub trait FromBytes<'a>: Stored {
-    /// The view of the slices from `offset` on, which moves past them. Asks that they are there; the view is well
-    /// formed where `validate` accepts them.
+    /// Makes a view of the slices from `offset` on, and moves past them. The view is well-formed if `validate` accepts
+    /// them.
+    ///
+    /// # Requires
+    /// A representable type, and enough slices from `offset` on.
     fn from_store(store: &DecodedStore<'a>, offset: &mut usize) -> Self
         requires representable { IsTrue (representable Self.format) }
         requires room { offset.old + Self.format.count ≤ length (slices_in store.now) }
@@ -159,8 +214,10 @@ pub trait FromBytes<'a>: Stored {
 
 /// A column, or a view of one, whose slices live for `'a`.
 pub trait AsBytes<'a>: Stored {
-    /// Slice `index`, with the alignment of its elements in bytes, which the type alone determines. Asks that the type is representable and that
-    /// `index` is below its number of slices.
+    /// Returns slice `index` and the alignment of its elements in bytes, which depends only on the type.
+    ///
+    /// # Requires
+    /// A representable type, and `index` below its number of slices.
     fn get_byte_slice(&self, index: usize) -> (u64, ByteSlice<'a>)
         requires representable { IsTrue (representable Self.format) }
         requires in_range { index < Self.format.count }
@@ -169,7 +226,7 @@ pub trait AsBytes<'a>: Stored {
         ensures aligned { slice_get Self.format.aligns index ≡ Some result.0 };
 }
 
-/// The slices of a column in order, each with the alignment of its elements.
+/// Iterates over the slices of a column in order, each with the alignment of its elements.
 #[derive(Drop)]
 pub struct ByteSlices<'s, 'a, V: AsBytes<'a>> {
     column: &'s V,
@@ -181,7 +238,10 @@ pub struct ByteSlices<'s, 'a, V: AsBytes<'a>> {
 impl<'s, 'a, V: AsBytes<'a>> ByteSlices<'s, 'a, V> {
     ghost use Rattle.columnar_core.specs.Column.{aligns_left, byte_slices_left};
 
-    /// All slices of the column, from the first on. Asks that the type is representable.
+    /// Iterates over all slices of the column.
+    ///
+    /// # Requires
+    /// A representable type.
     pub fn new(column: &'s V) -> Self
         requires { IsTrue (representable V.format) }
         ensures slices { byte_slices_left result ≡ slices_of (V.content column.entry.now) }
@@ -207,7 +267,7 @@ impl<'s, 'a, V: AsBytes<'a>> Iterator for ByteSlices<'s, 'a, V> {
 
     ghost remaining = { item_count byte_slices_left };
 
-    /// The next slice with its alignment; `None` once all were given, and from then on.
+    /// Returns the next slice and its alignment, or `None` after the last one, at every further call.
     fn next(&mut self) -> Option<(u64, ByteSlice<'a>)> {
         if self.index >= V::slice_count() {
             return None;
@@ -217,7 +277,7 @@ impl<'s, 'a, V: AsBytes<'a>> Iterator for ByteSlices<'s, 'a, V> {
         Some(slice)
     }
 
-    /// How many are left, twice.
+    /// Returns the number of remaining slices as both bounds.
     fn size_hint(&self) -> (usize, Option<usize>)
         ensures lower { IsWithinCount result.0 (item_count byte_slices_left self.now) }
         ensures upper { IfSome result.1 (UpTo (item_count byte_slices_left self.now)) }

@@ -1,4 +1,4 @@
-//! The traits of containers: columns that grow, are cut, and are borrowed as views.
+//! Traits of containers: columns that grow, are cut, and are borrowed as views.
 ghost use Rattle.std.specs.Prelude.{◌≡◌, ◌+◌, ◌-◌, ◌<◌, ◌≤◌, ◌↔◌, length, [], take, drop, OnOk, IfOk, IfErr, IsTrue, IsSome, IfSome, IfNone, slice_get, Some};
 ghost use Rattle.std.specs.Iterator.{IsFinite};
 ghost use Rattle.columnar_base.specs.Row.{unit};
@@ -17,14 +17,20 @@ use std::alloc::Global;
 use std::marker::PhantomData;
 use std::ops::Range;
 
-/// A column that copies ranges of rows out of views of type `V`.
-pub trait ExtendFrom<V: Column + Copy>: Storage + Reserve {
-    /// The room, and what the slices of the view take besides.
+/// A column that copies ranges of rows from views of type `V`.
+pub trait ExtendFrom<V: Column + Copy>: Truncate + Reserve {
+    /// Adds to `room` the capacity that the slices of `view` need.
     fn add_room(room: Self::Room, view: V) -> Self::Room;
 
-    /// Adds rows that are alike to the rows of the range, one for one, or none of them. A front of the view, copied
-    /// into an empty column, is there as it was. After a refusal the rows and the lengths of all parts are as before;
-    /// Length and Offset are answered only where the rows may not be held together.
+    /// Appends rows that represent those of the range, one each and in order, or none. A front of the view, copied into
+    /// an empty column, has equal rows.
+    ///
+    /// # Requires
+    /// A well-formed column and view, and a range of the view's rows.
+    ///
+    /// # Errors
+    /// `Memory`; `Length` or `Offset` only if the column cannot hold the rows together. The rows and the lengths of all
+    /// parts stay.
     fn extend_from_self(&mut self, view: V, range: Range<usize>) -> Result<(), GrowError>
         requires sound { IsSound Self.format (Self.content self.old) }
         requires view_sound { IsSound V.format (V.content view) }
@@ -33,7 +39,14 @@ pub trait ExtendFrom<V: Column + Copy>: Storage + Reserve {
         ensures ok { OnOk result (Copied Self.format (Self.content self.old) (Self.content self.new) range.start (take (range.«end» - range.start) (drop range.start (V.format.rows (V.content view))))) }
         ensures err { IfErr result (λ e. Refused Self.format (Self.content self.old) (Self.content self.new) (take (range.«end» - range.start) (drop range.start (V.format.rows (V.content view)))) e) };
 
-    /// As `extend_from_self`, where the range is one of the view's rows; else None, and nothing changes.
+    /// Does what `extend_from_self` does. Returns `None` and changes nothing if the view does not have the range of
+    /// rows.
+    ///
+    /// # Requires
+    /// A well-formed column and view.
+    ///
+    /// # Errors
+    /// As `extend_from_self`.
     final fn extend_checked(
         &mut self,
         view: V,
@@ -54,7 +67,13 @@ pub trait ExtendFrom<V: Column + Copy>: Storage + Reserve {
         Some(self.extend_from_self(view, range))
     }
 
-    /// Makes room for the rows of the views; the rows stay.
+    /// Reserves capacity for the rows of all views. The rows and the lengths of all parts stay.
+    ///
+    /// # Requires
+    /// A well-formed column; a finite iterator that can be called.
+    ///
+    /// # Errors
+    /// `Memory`, and no other error.
     final fn reserve_for<I: Iterator<Item = V> + Drop>(&mut self, views: I) -> Result<(), GrowError>
         requires sound { IsSound Self.format (Self.content self.old) }
         requires callable { I.can_next views }
@@ -69,13 +88,19 @@ pub trait ExtendFrom<V: Column + Copy>: Storage + Reserve {
         self.reserve_room(room)
     }
 
-    /// A column without rows, with room for the rows of the views.
+    /// Returns a column without rows, with capacity for the rows of all views.
+    ///
+    /// # Requires
+    /// A finite iterator that can be called.
+    ///
+    /// # Errors
+    /// `Memory`, and no other error.
     final fn with_capacity_for<I: Iterator<Item = V> + Drop>(
         alloc: Global,
         views: I,
     ) -> Result<Self, GrowError>
     where
-        Self: Drop,
+        Self: Storage,
         requires callable { I.can_next views }
         requires finite { IsFinite (I.remaining views) }
         ensures sound { IfOk result (λ c. IsSound Self.format (Self.content c)) }
@@ -88,19 +113,19 @@ pub trait ExtendFrom<V: Column + Copy>: Storage + Reserve {
     }
 }
 
-/// A column that is borrowed, for a lifetime, as a view with the same content.
+/// A column that is borrowed for a lifetime, as a view with the same content.
 pub trait Borrow<'a>: Column {
-    /// A row of the view.
+    /// The type of a row of the view.
     type Ref: Copy + Item;
 
-    /// The view.
+    /// The type of the view.
     type Borrowed: Copy + Len + Index<Ref = Self::Ref>;
 
-    /// Names the types that the views of the parts bring and that `Ref` and `Borrowed` leave out. Nothing has a value
-    /// of it.
+    /// Names the types that the views of the parts introduce and that `Ref` and `Borrowed` omit. No value of it is ever
+    /// made.
     type Parts: Item;
 
-    /// The view of the column, well formed where the column is. Needs no memory.
+    /// Returns a view of the column, well-formed if the column is; allocates nothing.
     fn borrow(&'a self) -> Self::Borrowed
         ensures content { Self.Borrowed.content result ≡ Self.content self.now }
         ensures sound { IsSound Self.format (Self.content self.now) → IsSound Self.Borrowed.format (Self.Borrowed.content result) };
@@ -122,7 +147,7 @@ impl<A: Item, B: Item> Item for Named<A, B> {
 
 /// A view that can be shortened to the lifetime `'b`; nothing else changes.
 pub trait Reborrow<'b>: Column {
-    /// The same view, for the shorter lifetime.
+    /// The same view with the shorter lifetime.
     type Short: Column;
 
     fn reborrow(self) -> Self::Short
@@ -133,7 +158,7 @@ pub trait Reborrow<'b>: Column {
 
 /// A row that can be shortened to the lifetime `'b`; nothing else changes.
 pub trait ReborrowRef<'b>: Item {
-    /// The same row, for the shorter lifetime.
+    /// The same row with the shorter lifetime.
     type ShortRef: Item;
 
     fn reborrow_ref(self) -> Self::ShortRef
@@ -149,27 +174,35 @@ pub trait Container<'a>: Borrow<'a>
     + Push<<Self as Borrow<'a>>::Ref>
     + ExtendFrom<<Self as Borrow<'a>>::Borrowed> {}
 
-/// A column whose rows, once it is borrowed, are read as `T`s.
+/// A column whose borrowed rows are read as values of type `T`.
 pub trait BorrowIndexAs<'a, T: Item>: Borrow<'a, Ref: CopyAs<T>> {}
 
 impl<'a, T: Item, C: Borrow<'a, Ref: CopyAs<T>>> BorrowIndexAs<'a, T> for C {}
 
-/// A container whose rows are pushed by reference to a `T`, and read as `T`s.
+/// A container whose rows are pushed by reference to a `T` and read as values of type `T`.
 pub trait PushIndexAs<'a, T: Item>: BorrowIndexAs<'a, T> + Container<'a> + PushRef<T> {}
 
 impl<'a, T: Item, C: BorrowIndexAs<'a, T> + Container<'a> + PushRef<T>> PushIndexAs<'a, T> for C {}
 
-/// A container that can be written to bytes and loaded from them. What it says of bytes is what its view says.
+/// A container that can be written to bytes and loaded from them. Its format of bytes is that of its view.
 pub trait ContainerBytes: Stored {
-    /// Slice `index` of the column, as its view's.
+    /// Returns slice `index` of the column, equal to its view's.
+    ///
+    /// # Requires
+    /// A representable type, and `index` below its number of slices.
     fn byte_slice(&self, index: usize) -> ByteSlice<'_>
         requires representable { IsTrue (representable Self.format) }
         requires in_range { index < Self.format.count }
         ensures slice { slice_get (slices_of (Self.content self.now)) index ≡ Some (bytes_in result) }
         ensures aligned { slice_get Self.format.aligns index ≡ Some (alignment result) };
 
-    /// A column of the rows and slices of a store that was accepted, each part loaded whole; want of memory alone
-    /// refuses it.
+    /// Loads a column from accepted slices: the same rows and slices, each part copied as a whole.
+    ///
+    /// # Requires
+    /// A representable type, and accepted slices from `offset` on.
+    ///
+    /// # Errors
+    /// `Memory`, and no other error.
     fn load(alloc: Global, store: &DecodedStore<'_>, offset: usize) -> Result<Self, GrowError>
         requires representable { IsTrue (representable Self.format) }
         requires fits { Fits Self.format offset (slices_in store.now) }

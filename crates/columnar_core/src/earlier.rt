@@ -1,4 +1,4 @@
-//! Columns that can be made of an earlier form of themselves.
+//! Columns that can be built from an earlier form of themselves.
 ghost use Rattle.std.specs.Prelude.{◌≡◌, IfOk, IfErr};
 ghost use Rattle.columnar_base.specs.Format.{IsSound};
 ghost use Rattle.columnar_core.specs.Earlier.{IsEarlier, IsMadeOf, IsTrueOfNew};
@@ -13,14 +13,19 @@ use std::alloc::Global;
 
 mod tuples;
 
-/// A column that can be made of an earlier form of itself, in which stores may still be kept. The earlier form has fewer
-/// slices, or it is the type itself, as far as stores and rows go.
+/// A column that can be built from an earlier form, in which stores may still exist. The earlier form has fewer slices,
+/// or the same format.
 pub trait Earlier: Column + Sized {
-    /// The earlier form; the type itself where there is none.
+    /// The earlier form; the type itself if there is none.
     type Old: ContainerBytes + Drop;
 
-    /// A column of the same rows, in their order. Memory is answered where a request for it was refused, Length and
-    /// Offset only where a column without rows could not take these.
+    /// Builds a column with the same rows in the same order.
+    ///
+    /// # Requires
+    /// A well-formed column of the earlier form.
+    ///
+    /// # Errors
+    /// `Memory`; `Length` or `Offset` only if an empty column cannot hold these rows.
     fn from_old(alloc: Global, old: Self::Old) -> Result<Self, GrowError>
         requires { IsSound Self.Old.format (Self.Old.content old) }
         ensures ok { IfOk result (λ c. IsMadeOf Self.Old.format Self.format (Self.Old.content old) (Self.content c)) }
@@ -29,7 +34,7 @@ pub trait Earlier: Column + Sized {
     ghost earlier: { IsEarlier Self.Old.format Self.format };
 }
 
-/// A column that is its own earlier form: what was stored is of the type that is read today.
+/// A column that is its own earlier form: its stores have always had today's type.
 pub trait Kept: ContainerBytes + Drop {}
 
 impl<C: Kept> Earlier for C {
@@ -44,7 +49,7 @@ impl<C: Kept> Earlier for C {
 
 impl<T: Sliced> Kept for Vec<T> {}
 
-/// The earlier form is that of what the boxes hold.
+/// The earlier form is that of the boxed column.
 impl<C: Earlier> Earlier for Boxed<C> {
     type Old = Boxed<C::Old>;
 
@@ -68,7 +73,7 @@ impl<A: Earlier> Earlier for (A,) {
     }
 }
 
-/// The earlier form is the pair of those of the parts.
+/// The earlier form is the pair of the parts' earlier forms.
 impl<A: Earlier + Drop, B: Earlier> Earlier for (A, B) {
     type Old = (A::Old, B::Old);
 

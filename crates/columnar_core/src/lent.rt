@@ -1,4 +1,4 @@
-//! A view that is lent: the slices are the view's.
+//! A lent view: its slices are those of the view.
 ghost use Rattle.std.specs.Prelude.{◌<◌};
 
 use crate::byte_slice::ByteSlice;

@@ -1,5 +1,5 @@
-//! Columns and bytes: columns that lend their slices to a writer and are read in place from those of a store, and what
-//! needs such views of a column: copies of ranges of rows, tuples, boxes, and columns made of an older form.
+//! Columns and bytes: columns lend their slices to a writer, and are read in place from the slices of a store. It also
+//! defines what needs views: bulk copies, tuples, boxes, and columns built from an earlier form.
 #![tactic(auto)]
 
 pub mod boxed;

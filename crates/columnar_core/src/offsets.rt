@@ -1,4 +1,4 @@
-//! Columns of offsets, which bound lists and texts.
+//! Columns of offsets: the bounds of lists and strings.
 ghost use Rattle.std.specs.Prelude.{◌≡◌, ℕ, ◌+◌, ◌-◌, ◌*◌, ◌^◌, ◌<◌, ◌≤◌, ◌∷◌, [], length, take, drop, slice_get, Some, IsTrue, OnOk, IfErr};
 ghost use Rattle.columnar_base.specs.Row.{number};
 ghost use Rattle.columnar_base.specs.Format.{IsSound, Fits, bytes_held, representable};
@@ -15,16 +15,22 @@ use columnar_base::tally::Tally;
 use columnar_base::traits::{Column, Len, Push};
 use std::ops::Range;
 
-/// A column of offsets, the ends of lists one after another.
+/// A column of offsets: the ends of consecutive lists.
 pub trait Offsets: Len {
-    /// Offset `index`.
+    /// Returns offset `index`.
+    ///
+    /// # Requires
+    /// A well-formed column, and `index` below its length.
     fn offset(&self, index: usize) -> u64
         requires sound { IsSound Self.format (Self.content self.now) }
         requires in_range { index < length (Self.format.rows (Self.content self.now)) }
         ensures { slice_get (Self.format.rows (Self.content self.now)) index ≡ Some (number result) };
 
-    /// Offset `index`, where the one before it is known to be `before`, 0 before the first. To go over offsets in their
-    /// order, hand on each to find the next: a column that has to look for an offset then goes on from there.
+    /// Returns offset `index`, given the offset before it, `before` (0 before the first). To read offsets in order,
+    /// pass each one to the next call: a column that searches for offsets continues from there.
+    ///
+    /// # Requires
+    /// A well-formed column, `index` below its length, and the right `before`.
     fn offset_after(&self, index: usize, before: u64) -> u64
         requires sound { IsSound Self.format (Self.content self.now) }
         requires in_range { index < length (Self.format.rows (Self.content self.now)) }
@@ -34,13 +40,19 @@ pub trait Offsets: Len {
         self.offset(index)
     }
 
-    /// As `rises_to`; the turns that it takes are added to the tally.
+    /// Does what `rises_to` does, and counts its steps in the tally: at most 8 per byte of the column.
+    ///
+    /// # Requires
+    /// A well-formed column.
     fn rises_to_tallied<L>(&self, end: u64, tally: &mut Tally<L>) -> bool
         requires { IsSound Self.format (Self.content self.now) }
         ensures value { result ≡ rises 0 (numbers (Self.format.rows (Self.content self.now))) end }
         ensures turns { tally.new.turns ≤ tally.old.turns + 8 * bytes_held (Self.content self.now) };
 
-    /// Do the offsets, after a first 0, never fall, and is the last one `end`, 0 where there is none?
+    /// Returns whether the offsets, preceded by 0, never decrease and end at `end`.
+    ///
+    /// # Requires
+    /// A well-formed column.
     final fn rises_to(&self, end: u64) -> bool
         requires { IsSound Self.format (Self.content self.now) }
         ensures { result ≡ rises 0 (numbers (Self.format.rows (Self.content self.now))) end }
@@ -51,7 +63,7 @@ pub trait Offsets: Len {
     ghost bounds: { IsBounds Self.format };
 }
 
-/// Through a reference, as in place.
+/// Reads offsets through a reference, as the column itself does.
 impl<'x, B: Offsets> Offsets for &'x B {
     ghost bounds = { B.bounds };
 
@@ -68,9 +80,13 @@ impl<'x, B: Offsets> Offsets for &'x B {
     }
 }
 
-/// A column of offsets that can stand in a store of bytes.
+/// A column type of offsets that a store can hold.
 pub trait StoredOffsets: Stored {
-    /// As `rises_to` of the column in the slices from `offset` on.
+    /// Does what `rises_to` does for the column in the slices from `offset` on. Counts its steps in the tally: at most
+    /// 8 per byte.
+    ///
+    /// # Requires
+    /// A representable type, and accepted slices from `offset` on.
     fn rises_in_tallied<L>(
         store: &DecodedStore<'_>,
         offset: usize,
@@ -85,9 +101,15 @@ pub trait StoredOffsets: Stored {
     ghost stored_bounds: { IsBounds Self.format };
 }
 
-/// A column of offsets that grows where its last offset is known.
+/// A column of offsets that appends an offset when the last one is known.
 pub trait PushAfter: Column {
-    /// As a push of `offset`. Asks that the last offset is `last`, 0 where there is none; so none has to be looked for.
+    /// Pushes `offset`, given the last offset of the column, so that it need not search for it.
+    ///
+    /// # Requires
+    /// A well-formed column whose last offset is `last`, 0 if it has none.
+    ///
+    /// # Errors
+    /// As `Push::push`.
     fn push_after(&mut self, last: u64, offset: u64) -> Result<(), GrowError>
         requires sound { IsSound Self.format (Self.content self.old) }
         requires last { last_or 0 (numbers (Self.format.rows (Self.content self.old))) ≡ last }
@@ -95,11 +117,17 @@ pub trait PushAfter: Column {
         ensures err { IfErr result (λ e. Refused Self.format (Self.content self.old) (Self.content self.new) (word_row offset ∷ []) e) };
 }
 
-/// A column of offsets that takes those of views of type `W`, moved to stand after its own.
+/// A column of offsets that takes those of views of type `W`, shifted to follow its own.
 pub trait ExtendShifted<W: Offsets>: Column {
-    /// Adds the offsets of the range, each moved from `lower`, the one before the range, to `start`, the last of its
-    /// own; or none of them. Asks that they are not below `lower`, and that each then fits 64 bits. The turns that it
-    /// takes over offsets that it reads one by one are added to the tally: at most one for each.
+    /// Appends the offsets of the range, shifted by `start - lower`, or none. `lower` is the offset before the range,
+    /// `start` the column's last one. Counts a step in the tally for each offset that it reads one by one.
+    ///
+    /// # Requires
+    /// A well-formed column and view, and a range of the view's rows; the right `lower` and `start`; no offset below
+    /// `lower`, or of more than 64 bits when shifted.
+    ///
+    /// # Errors
+    /// As `ExtendFrom::extend_from_self`.
     fn extend_shifted_tallied<L>(
         &mut self,
         view: &W,
@@ -120,8 +148,14 @@ pub trait ExtendShifted<W: Offsets>: Column {
         ensures turns { tally.new.turns ≤ tally.old.turns + (range.«end» - range.start) };
 }
 
-/// As `extend_shifted_tallied`, by a push for each offset: for columns that take any offset at the end. The turns that it
-/// takes are added to the tally.
+/// Does what `extend_shifted_tallied` does, by a push for each offset, for columns that take any offset at the end.
+/// Counts a step in the tally for each offset.
+///
+/// # Requires
+/// As `extend_shifted_tallied`, but any `start`.
+///
+/// # Errors
+/// As `ExtendFrom::extend_from_self`.
 pub fn push_shifted<W: Offsets, BC: Truncate + Push<u64>, L>(
     bounds: &mut BC,
     view: &W,

@@ -1,4 +1,4 @@
-//! An owned column, lent as its slices where no view can be named.
+//! An owned column, lent as its slices without naming a view.
 ghost use Rattle.std.specs.Prelude.{◌<◌};
 
 use crate::byte_slice::ByteSlice;

@@ -1,4 +1,4 @@
-//! A column, or a view, that is shared: it is read, tested and written as what it shares.
+//! Shared columns and views. Reading, validating and writing go to the shared value.
 ghost use Rattle.std.specs.Prelude.{◌≡◌, ◌+◌, ◌≤◌, drop, length, IsTrue, IfOk, IfErr, OnOk, OnErr};
 ghost use Rattle.columnar_base.specs.Format.{representable};
 ghost use Rattle.columnar_core.specs.Store.{slices_in, slices_left};
@@ -66,9 +66,14 @@ impl<'s, C: AsBytes<'s>> AsBytes<'s> for Rc<C> {
     }
 }
 
-/// The view of the slices from `offset` on, shared; `offset` moves past them. Asks that they are there; the view is
-/// well formed where `validate` accepts them. Want of memory for the shared place alone refuses it, and then `offset`
-/// stays.
+/// Makes a shared view of the slices from `offset` on, and moves past them. The view is well-formed if `validate`
+/// accepts them.
+///
+/// # Requires
+/// A representable type, and enough slices from `offset` on.
+///
+/// # Errors
+/// `Memory` if the shared cell cannot be allocated, and no other error; `offset` stays.
 pub fn from_store<'a, C: FromBytes<'a> + Drop>(
     alloc: Global,
     store: &DecodedStore<'a>,
@@ -92,9 +97,14 @@ pub fn from_store<'a, C: FromBytes<'a> + Drop>(
     }
 }
 
-/// The view of the next slices that `decode` gives, shared; `slices` moves past them. Asks that they are there; the view
-/// is well formed where `validate` accepts them. Want of memory for the shared place alone refuses it, and `slices` has
-/// then moved past them too.
+/// Makes a shared view of the next slices of `slices`, and moves past them. The view is well-formed if `validate`
+/// accepts them.
+///
+/// # Requires
+/// A representable type, and enough slices.
+///
+/// # Errors
+/// `Memory` if the shared cell cannot be allocated, and no other error; `slices` has moved even then.
 pub fn from_bytes<'a, C: FromBytes<'a> + Drop>(
     alloc: Global,
     slices: &mut Decode<'a>,

@@ -1,4 +1,4 @@
-//! The parts of a tuple, tested one after the other, before the rule of the whole: that they have as many rows.
+//! Validates the parts of a tuple one after the other, then the rule of the whole: that all have equally many rows.
 ghost use Rattle.std.specs.Prelude.{◌≡◌, ℕ, ◌+◌, ◌*◌, ◌^◌, ◌<◌, ◌≤◌, List, [], ◌∷◌, length, drop, IsTrue, OnOk};
 ghost use Rattle.columnar_base.specs.Format.{Content, Format, Fits, IsSound, both, bytes_held, first, moved, representable};
 ghost use Rattle.columnar_base.specs.Faults.{verdict};
@@ -18,8 +18,13 @@ pub trait Sides {
 
     ghost others: { List Format };
 
-    /// Which rule do the slices from `offset` on break first, of those of the parts? The turns that it takes are added
-    /// to the tally.
+    /// Validates the slices of the parts from `offset` on. Counts its steps in the tally.
+    ///
+    /// # Requires
+    /// Representable parts, and enough slices from `offset` on.
+    ///
+    /// # Errors
+    /// The first broken rule of the parts.
     fn judge_parts<L>(
         store: &DecodedStore<'_>,
         offset: usize,
@@ -30,7 +35,10 @@ pub trait Sides {
         ensures exact { verdict result ≡ first (moved offset ((sides Self.head Self.others).broken ((sides Self.head Self.others).build (drop offset (slices_in store.now))))) }
         ensures turns { tally.new.turns ≤ tally.old.turns + 16 * bytes_held ((sides Self.head Self.others).build (drop offset (slices_in store.now))) };
 
-    /// Has each part `rows` rows, in slices that were accepted?
+    /// Returns whether each part has `rows` rows in accepted slices.
+    ///
+    /// # Requires
+    /// Representable parts, and accepted slices from `offset` on.
     fn rows_agree(store: &DecodedStore<'_>, offset: usize, rows: usize) -> bool
         requires representable { IsTrue (representable (sides Self.head Self.others)) }
         requires fits { Fits (sides Self.head Self.others) offset (slices_in store.now) }
@@ -74,8 +82,13 @@ impl<A: Stored, R: Sides> Sides for (A, R) {
     }
 }
 
-/// Which rule do the slices of a tuple break first? Those of its parts come first, and then that these have as many
-/// rows. The turns that it takes are added to the tally.
+/// Validates the slices of a tuple. Counts its steps in the tally.
+///
+/// # Requires
+/// A representable type, and enough slices from `offset` on.
+///
+/// # Errors
+/// The first broken rule: those of the parts, then that they have equally many rows.
 pub fn judge_tuple<A: Stored, R: Sides, L>(
     store: &DecodedStore<'_>,
     offset: usize,
@@ -94,25 +107,33 @@ pub fn judge_tuple<A: Stored, R: Sides, L>(
     }
 }
 
-/// The parts of a tuple, each lent, as nested pairs that end in a tuple of one: `(&a, (&b, (&c,)))`.
+/// The lent parts of a tuple, as nested pairs that end in a tuple of one: `(&a, (&b, (&c,)))`.
 pub trait LentSides {
     // the format of the first part, and those of the others
     ghost head: { Format };
 
     ghost others: { List Format };
 
-    // what they hold
+    // the content of the parts
     ghost content: { Self → Content };
 
-    /// Which rule do the parts break first? Slices are counted from `from` on; the turns that it takes are added to the
-    /// tally.
+    /// Validates the parts, with slices counted from `from` on. Counts its steps in the tally.
+    ///
+    /// # Requires
+    /// Representable parts, and slice numbers below 2^64.
+    ///
+    /// # Errors
+    /// The first broken rule of the parts.
     fn check_parts<L>(&self, from: usize, tally: &mut Tally<L>) -> Result<(), StoreFault>
         requires representable { IsTrue (representable (sides Self.head Self.others)) }
         requires counted { from + (sides Self.head Self.others).count < 2 ^ 64 }
         ensures exact { verdict result ≡ first (moved from ((sides Self.head Self.others).broken (Self.content self.now))) }
         ensures turns { tally.new.turns ≤ tally.old.turns + 16 * bytes_held (Self.content self.now) };
 
-    /// Has each part `rows` rows?
+    /// Returns whether each part has `rows` rows.
+    ///
+    /// # Requires
+    /// Well-formed parts.
     fn have_rows(&self, rows: usize) -> bool
         requires { IsSound (sides Self.head Self.others) (Self.content self.now) }
         ensures { result ≡ are_level Self.head Self.others rows (Self.content self.now) };
@@ -151,8 +172,13 @@ impl<'x, A: Check + Len, R: LentSides> LentSides for (&'x A, R) {
     }
 }
 
-/// Which rule does a tuple break first? Those of its parts come first, and then that these have as many rows. Slices are
-/// counted from `from` on; the turns that it takes are added to the tally.
+/// Validates a tuple, with slices counted from `from` on. Counts its steps in the tally.
+///
+/// # Requires
+/// A representable type, and slice numbers below 2^64.
+///
+/// # Errors
+/// The first broken rule: those of the parts, then that they have equally many rows.
 pub fn check_tuple<'x, A: Check + Len, R: LentSides, L>(
     parts: &(&'x A, R),
     from: usize,
@@ -171,7 +197,13 @@ pub fn check_tuple<'x, A: Check + Len, R: LentSides, L>(
     }
 }
 
-/// The same of a long tuple: its first five parts, and the nest of the others.
+/// Does the same for a long tuple: its first five parts, and the nest of the others.
+///
+/// # Requires
+/// As `check_tuple`.
+///
+/// # Errors
+/// As `check_tuple`.
 pub fn check_long<
     'x,
     A: Check + Len,

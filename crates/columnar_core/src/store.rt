@@ -1,9 +1,12 @@
-//! The slices of a store of bytes, read in place.
+//! The slices of a store, read in place.
 ghost use Rattle.std.specs.Prelude.{[], ◌≡◌, ◌+◌, ◌*◌, ◌<◌, ◌≤◌, ◌^◌, length, slice_index_or};
 ghost use Rattle.columnar_core.specs.Bytes.{word, rounded};
 ghost use Rattle.columnar_core.specs.Frame.{IsStore, framed_slices};
 
-/// Word `index` of the bytes, lowest first. Asks that the bytes have all of it.
+/// Returns word `index` of the bytes, lowest byte first.
+///
+/// # Requires
+/// All eight bytes of the word.
 pub fn word_in_bytes(bytes: &[u8], index: usize) -> u64
     requires { 8 * index + 8 ≤ length bytes.now }
     ensures { result ≡ word bytes.now index }
@@ -21,7 +24,10 @@ pub fn word_in_bytes(bytes: &[u8], index: usize) -> u64
     ])
 }
 
-/// The least multiple of eight that is not below `n`. Asks that it stays below 2^64.
+/// Returns the least multiple of eight that is at least `n`.
+///
+/// # Requires
+/// `n + 7` below 2^64.
 pub fn round_up(n: usize) -> usize
     requires { n + 7 < 2 ^ 64 }
     ensures { result ≡ rounded n }
@@ -29,7 +35,7 @@ pub fn round_up(n: usize) -> usize
     8 * ((n + 7) / 8)
 }
 
-/// Bytes whose structure is legal: they are whole words, begin with a table, and each slice of the table lies in them.
+/// Bytes with a legal structure: whole words that begin with a table, whose slices lie within the bytes.
 #[derive(Clone, Copy)]
 pub struct DecodedStore<'a> {
     bytes: &'a [u8],
@@ -39,7 +45,10 @@ pub struct DecodedStore<'a> {
 impl<'a> DecodedStore<'a> {
     ghost use Rattle.columnar_core.specs.Store.{slices_in};
 
-    /// The store in these bytes. Asks that their structure is legal, as `validate_structure` tests.
+    /// Opens the store in these bytes.
+    ///
+    /// # Requires
+    /// Bytes with a legal structure, as `validate_structure` tests.
     pub fn new(bytes: &'a [u8]) -> Self
         requires { IsStore bytes.now }
         ensures { slices_in result ≡ framed_slices bytes.now }
@@ -47,14 +56,17 @@ impl<'a> DecodedStore<'a> {
         DecodedStore { bytes }
     }
 
-    /// How many slices it has.
+    /// Returns the number of slices.
     pub fn len(&self) -> usize
         ensures { result ≡ length (slices_in self.now) }
     {
         word_in_bytes(self.bytes, 0) as usize / 8 - 1
     }
 
-    /// The bytes of slice `index`, without padding. Asks that `index` is below the number of slices.
+    /// Returns the bytes of slice `index`, without padding.
+    ///
+    /// # Requires
+    /// `index` below the number of slices.
     pub fn get(&self, index: usize) -> &'a [u8]
         requires { index < length (slices_in self.now) }
         ensures { result.now ≡ slice_index_or (slices_in self.now) index [] }
@@ -65,7 +77,7 @@ impl<'a> DecodedStore<'a> {
     }
 }
 
-/// The slices of a store, in order.
+/// Iterates over the slices of a store in order.
 #[derive(Clone, Copy)]
 pub struct Decode<'a> {
     pub(crate) store: DecodedStore<'a>,
@@ -75,7 +87,7 @@ pub struct Decode<'a> {
 impl<'a> Decode<'a> {
     ghost use Rattle.columnar_core.specs.Store.{slices_in, slices_left};
 
-    /// All slices of the store, from the first on.
+    /// Iterates over all slices of the store.
     pub fn new(store: DecodedStore<'a>) -> Self
         ensures { slices_left result ≡ slices_in store.entry }
     {
@@ -93,7 +105,7 @@ impl<'a> Iterator for Decode<'a> {
 
     ghost remaining = { item_count slices_left };
 
-    /// The next slice; `None` once all were given, and from then on.
+    /// Returns the next slice, or `None` after the last one, at every further call.
     fn next(&mut self) -> Option<&'a [u8]> {
         if self.index >= self.store.len() {
             return None;

@@ -1,4 +1,4 @@
-//! Tuples of containers, side by side: a container of tuples.
+//! Tuples of containers: containers of tuples.
 ghost use Rattle.std.specs.Prelude.{◌≡◌};
 ghost use Rattle.columnar_base.specs.Format.{slices_of};
 ghost use Rattle.columnar_base.specs.TwoPartsLaws.{two_counted};
@@ -28,7 +28,7 @@ pub mod six;
 pub mod ten;
 pub mod three;
 
-/// Rows of a view that are copied: from row `.1` on, up to row `.2`.
+/// The rows `.1..` to `.2` (exclusive) of a view, to be copied.
 #[derive(Clone, Copy)]
 pub struct FromView<V>(pub V, pub usize, pub usize);
 
@@ -43,7 +43,7 @@ impl<V: Column + Copy, C: ExtendFrom<V>> Enter<C> for FromView<V> {
     }
 }
 
-/// Each part copies the range out of its own view. Where one of them is refused, neither has taken any row.
+/// Each part copies the range from its own view. If one part refuses, neither changes.
 impl<V: Column + Copy, W: Column + Copy, A: ExtendFrom<V>, B: ExtendFrom<W>> ExtendFrom<(V, W)>
     for (A, B) {
     fn add_room(room: (A::Room, B::Room), view: (V, W)) -> (A::Room, B::Room) {
@@ -60,7 +60,7 @@ impl<V: Column + Copy, W: Column + Copy, A: ExtendFrom<V>, B: ExtendFrom<W>> Ext
     }
 }
 
-/// The view is the tuple of the views.
+/// The view is the tuple of the parts' views.
 impl<'a, A: Borrow<'a>, B: Borrow<'a>> Borrow<'a> for (A, B) {
     type Ref = (A::Ref, B::Ref);
 
@@ -99,7 +99,8 @@ impl<'b, S: ReborrowRef<'b>, T: ReborrowRef<'b>> ReborrowRef<'b> for (S, T) {
     }
 }
 
-/// The rules of the first part, then those of the second, then that they have as many rows: `Parts`, at the first slice.
+/// The rules of the first part, then those of the second, then that both have equally many rows: `Parts`, at the first
+/// slice.
 impl<A: Stored, B: Stored> Stored for (A, B) {
     ghost storable = { pair_storable A.format B.format A.storable B.storable };
 
@@ -158,7 +159,7 @@ impl<'s, A: AsBytes<'s>, B: AsBytes<'s>> AsBytes<'s> for (A, B) {
     }
 }
 
-/// Where memory is refused for the second part, the first, already loaded, is dropped.
+/// If the second part cannot be loaded, the first one is dropped.
 impl<A: ContainerBytes + Drop, B: ContainerBytes> ContainerBytes for (A, B) {
     fn byte_slice(&self, index: usize) -> ByteSlice<'_> {
         byte_slice_of_two(&self.0, &self.1, index)

@@ -1,4 +1,4 @@
-//! The bytes of a column of two parts, the second's slices after the first's.
+//! The bytes of a column of two parts: the slices of the first part, then those of the second.
 ghost use Rattle.std.specs.Prelude.{◌≡◌, ℕ, ◌+◌, ◌*◌, ◌^◌, ◌<◌, ◌≤◌, ◌++◌, length, drop, slice_get, Some, IsTrue, OnOk, OnErr, IfOk, IfErr};
 ghost use Rattle.columnar_base.specs.Format.{Fits, IsSound, bytes_held, first, representable, slices_of};
 ghost use Rattle.columnar_base.specs.Faults.{verdict};
@@ -14,7 +14,10 @@ use columnar_base::fault::{GrowError, StoreFault};
 use columnar_base::tally::Tally;
 use std::alloc::Global;
 
-/// Slice `index` of two parts, with the alignment of its elements.
+/// Returns slice `index` of two parts, and the alignment of its elements.
+///
+/// # Requires
+/// Representable parts, and `index` below their number of slices.
 pub fn slice_of_two<'s, A: AsBytes<'s>, B: AsBytes<'s>>(
     left: &A,
     right: &B,
@@ -35,7 +38,10 @@ pub fn slice_of_two<'s, A: AsBytes<'s>, B: AsBytes<'s>>(
     }
 }
 
-/// Slice `index` of two owned parts.
+/// Returns slice `index` of two owned parts.
+///
+/// # Requires
+/// Representable parts, and `index` below their number of slices.
 pub fn byte_slice_of_two<'s, A: ContainerBytes, B: ContainerBytes>(
     left: &'s A,
     right: &'s B,
@@ -55,7 +61,13 @@ pub fn byte_slice_of_two<'s, A: ContainerBytes, B: ContainerBytes>(
     }
 }
 
-/// Appends the element sizes of both parts, or none.
+/// Appends the element sizes of both parts, or nothing.
+///
+/// # Requires
+/// Representable parts.
+///
+/// # Errors
+/// `Memory`, and no other error; `sizes` stays.
 pub fn sizes_of_two<A: Stored, B: Stored>(sizes: &mut Vec<usize>) -> Result<(), GrowError>
     requires left { IsTrue (representable A.format) }
     requires right { IsTrue (representable B.format) }
@@ -74,8 +86,13 @@ pub fn sizes_of_two<A: Stored, B: Stored>(sizes: &mut Vec<usize>) -> Result<(), 
     }
 }
 
-/// Both parts of slices that were accepted, each loaded whole. Where memory is refused for the second, the first is
-/// dropped.
+/// Loads both parts from accepted slices, each as a whole. If the second cannot be loaded, the first one is dropped.
+///
+/// # Requires
+/// Representable parts, and accepted slices from `offset` on.
+///
+/// # Errors
+/// `Memory`, and no other error.
 pub fn load_two<A: ContainerBytes + Drop, B: ContainerBytes>(
     alloc: Global,
     store: &DecodedStore<'_>,
@@ -94,8 +111,13 @@ pub fn load_two<A: ContainerBytes + Drop, B: ContainerBytes>(
     Ok((left, right))
 }
 
-/// Which rule do the slices from `offset` on break first, of those of both parts? The turns that it takes are added to
-/// the tally.
+/// Validates the slices of both parts from `offset` on. Counts its steps in the tally.
+///
+/// # Requires
+/// Representable parts, and enough slices from `offset` on.
+///
+/// # Errors
+/// The first broken rule of the parts.
 pub fn judge_two<A: Stored, B: Stored, L>(
     store: &DecodedStore<'_>,
     offset: usize,
@@ -113,8 +135,13 @@ pub fn judge_two<A: Stored, B: Stored, L>(
     B::judge_tallied(store, offset + A::slice_count(), tally)
 }
 
-/// Which rule do two parts break first? Slices are counted from `from` on; the turns that it takes are added to the
-/// tally.
+/// Validates both parts, with slices counted from `from` on. Counts its steps in the tally.
+///
+/// # Requires
+/// Representable parts, and slice numbers below 2^64.
+///
+/// # Errors
+/// The first broken rule of the parts.
 pub fn check_two<A: Check, B: Check, L>(
     left: &A,
     right: &B,

@@ -1,6 +1,6 @@
 //! Values of the language as rows that name no lifetime.
 use crate::container::ReborrowRef;
-use columnar_base::element::Primitive;
+use columnar_base::element::ArrayItem;
 use columnar_base::traits::Item;
 use std::num::Wrapping;
 use std::time::Duration;
@@ -85,7 +85,7 @@ impl<'b, T: Item> ReborrowRef<'b> for Wrapping<T> {
     }
 }
 
-impl<'b, T: Primitive, const N: usize> ReborrowRef<'b> for [T; N] {
+impl<'b, T: ArrayItem, const N: usize> ReborrowRef<'b> for [T; N] {
     type ShortRef = [T; N];
 
     fn reborrow_ref(self) -> [T; N] {
@@ -121,6 +121,22 @@ impl<'b> ReborrowRef<'b> for i128 {
     type ShortRef = i128;
 
     fn reborrow_ref(self) -> i128 {
+        self
+    }
+}
+
+impl<'b> ReborrowRef<'b> for f32 {
+    type ShortRef = f32;
+
+    fn reborrow_ref(self) -> f32 {
+        self
+    }
+}
+
+impl<'b> ReborrowRef<'b> for f64 {
+    type ShortRef = f64;
+
+    fn reborrow_ref(self) -> f64 {
         self
     }
 }

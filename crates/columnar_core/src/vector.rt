@@ -21,8 +21,8 @@ use std::alloc::Global;
 use std::mem;
 use std::ops::Range;
 
-// Appends the elements; want of memory refuses all of them. Where there is room for them that is a copy and a length, and where there
-// are none it is nothing: the C library finds out by jumps how few elements it is handed.
+// Appends the elements, or none if an allocation fails. With enough capacity it is a copy and a new length, and for no
+// elements it does nothing. That test is worthwhile: for few elements the C library's copy branches on their number.
 #[inline(always)]
 pub(crate) fn append_typed<T: Element>(column: &mut Vec<T>, items: &[T]) -> Result<(), GrowError>
     ensures ok { OnOk result (column.new.items ≡ column.old.items ++ items.now) }
@@ -38,7 +38,8 @@ pub(crate) fn append_typed<T: Element>(column: &mut Vec<T>, items: &[T]) -> Resu
     Ok(())
 }
 
-// As `append_typed`, of elements for which there is no room; apart, so that a copy is small enough to be made part of a push.
+// As `append_typed`, when the capacity is too small. It is a separate function so that a copy is small enough to be
+// inlined into a push.
 #[cold]
 #[inline(never)]
 fn append_grown<T: Element>(column: &mut Vec<T>, items: &[T]) -> Result<(), GrowError>
@@ -50,8 +51,8 @@ fn append_grown<T: Element>(column: &mut Vec<T>, items: &[T]) -> Result<(), Grow
     Ok(())
 }
 
-// The column with the elements that the bytes are after its own; there is room for them. It is taken by value, since
-// the compiler then knows that what is written changes neither its length nor its place.
+// Returns the column followed by the elements of the bytes; the capacity suffices. It takes the column by value: then
+// the compiler knows that the writes change neither its length nor its address.
 #[inline]
 fn with_all<T: Element>(column: Vec<T>, bytes: &[u8]) -> Vec<T>
     requires whole { length bytes.now % T.size ≡ 0 }
@@ -65,8 +66,8 @@ fn with_all<T: Element>(column: Vec<T>, bytes: &[u8]) -> Vec<T>
     column
 }
 
-// Appends the elements that the bytes are; want of memory refuses all of them. Its loop stays out of the body of a copy,
-// so that a copy of elements is small enough to be made part of a push.
+// Appends the elements of the bytes, or none if an allocation fails. Its loop is outside of the copy's body, so that a
+// copy of elements is small enough to be inlined into a push.
 #[inline(never)]
 fn append_bytes<T: Element>(column: &mut Vec<T>, bytes: &[u8]) -> Result<(), GrowError>
     requires { length bytes.now % T.size ≡ 0 }
@@ -212,7 +213,7 @@ impl<'s, T: Element> FromBytes<'s> for View<'s, T> {
 }
 
 impl<'s, T: Sliced> AsBytes<'s> for View<'s, T> {
-    /// The one slice, with the alignment of the type, wherever the elements stand.
+    /// Returns the only slice, with the alignment of the type, wherever the elements are stored.
     fn get_byte_slice(&self, index: usize) -> (u64, ByteSlice<'s>) {
         let slice = match self.items() {
             Items::Typed(items) => T::byte_slice(items),
@@ -232,7 +233,7 @@ impl<T: Sliced> ContainerBytes for Vec<T> {
     }
 }
 
-// The elements that the bytes are.
+// Copies the elements of the bytes to a new `Vec`.
 fn elements_of<T: Element>(alloc: Global, bytes: &[u8]) -> Result<Vec<T>, GrowError>
     requires { length bytes.now % T.size ≡ 0 }
     ensures elements { IfOk result (λ v. flat_map T.le_bytes v.items ≡ bytes.now) }
@@ -242,7 +243,10 @@ fn elements_of<T: Element>(alloc: Global, bytes: &[u8]) -> Result<Vec<T>, GrowEr
     Ok(with_all(column, bytes))
 }
 
-/// The elements start..end of a slice.
+/// Returns the elements `start..end` of a slice.
+///
+/// # Requires
+/// `start <= end <= items.len()`.
 pub fn elements_between<T>(items: &[T], start: usize, end: usize) -> &[T]
     requires ordered { start ≤ end }
     requires in_range { end ≤ length items.now }

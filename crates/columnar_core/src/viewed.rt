@@ -3,7 +3,7 @@
 use columnar_base::element::{Element, Primitive};
 use std::num::Wrapping;
 
-/// An element whose `Vec` is borrowed as a `View`: all but u8, whose bytes are borrowed as they are.
+/// An element whose `Vec` is borrowed as a `View`: every element except `u8`, whose bytes are borrowed as a slice.
 pub trait Viewed: Element {}
 
 impl<T: Primitive> Viewed for Wrapping<T> {}

@@ -16,12 +16,12 @@ use columnar_base::view::View;
 pub use columnar_base::words::{Words, byte_count, word_at, word_count};
 use std::ops::Range;
 
-// How many numbers are looked at before it is asked whether one fell: the compiler writes them out one by one, with no jump
-// for each.
+// The number of offsets that are compared before one test whether any decreased: the compiler unrolls their loop,
+// without a branch for each.
 const STRETCH: usize = 16;
 
-// The last of the `count` numbers from `from` on, `first` where there is none; None where one falls, from `first` on. A turn
-// for each.
+// Returns the last of the `count` numbers from `from` on, or `first` if there are none; `None` if one decreases,
+// starting at `first`. Takes a step for each number.
 #[inline(always)]
 fn risen<C: Index<Ref = u64> + Len, L>(
     column: &C,
@@ -49,8 +49,8 @@ fn risen<C: Index<Ref = u64> + Len, L>(
     if rising { Some(last) } else { None }
 }
 
-// As `rises_to` of a column of numbers: reads them one by one, a turn for each and for each stretch, and ends with the stretch
-// in which one falls.
+// Does what `rises_to` does for a column of numbers. Takes a step for each number and each stretch, and stops after the
+// stretch in which one decreases.
 fn rises_by_reading<C: Index<Ref = u64> + Len, L>(
     column: &C,
     end: u64,
@@ -93,7 +93,7 @@ impl PushAfter for Vec<u64> {
     }
 }
 
-/// Room for all offsets is taken at once, and then each is pushed.
+/// Reserves capacity for all offsets at once, then pushes each.
 impl<W: Offsets> ExtendShifted<W> for Vec<u64> {
     fn extend_shifted_tallied<L>(
         &mut self,

@@ -1,4 +1,4 @@
-//! What bytes are written to.
+//! Writers of bytes.
 ghost use Rattle.std.specs.Prelude.{ℕ, List, Option, OnOk, OnErr};
 ghost use Rattle.std.specs.Io.KnownBytes.{Appends};
 ghost use Rattle.columnar_core.specs.Sent.{AppendsBeginning};
@@ -7,21 +7,24 @@ use std::io::{self, Error, ErrorKind, Write};
 
 /// Takes bytes, and may fail part of the way.
 pub trait WriteBytes {
-    /// Why it failed.
+    /// Why a write failed.
     type Error: Drop;
 
-    // the bytes that the writer holds, where they are known
+    // the bytes that the writer holds, if they are known
     ghost contents: { Self → Option (List ℕ) };
 
-    /// Writes all the bytes. After a fault a beginning of them went out, of which nothing more is known than that it is not
-    /// all of them; so a write of no bytes does not fail.
+    /// Writes all bytes.
+    ///
+    /// # Errors
+    /// The writer's error. A beginning of the bytes was then written, but not all; nothing more is known of it. So a
+    /// write of no bytes never fails.
     fn write_all(&mut self, bytes: &[u8]) -> Result<(), Self::Error>
         ensures ok { OnOk result (Appends (contents self.old) (contents self.new) bytes.now) }
         ensures err { OnErr result (AppendsBeginning (contents self.old) (contents self.new) bytes.now) };
 }
 
-/// Calls `write` until all the bytes are taken. Any fault ends it, an interruption included; so does a call that takes
-/// no byte, with an error of kind `WriteZero`.
+/// Calls `write` until all bytes are taken. Any error ends it, also an interruption. A call that takes no bytes ends it
+/// with an error of kind `WriteZero`.
 impl<W: Write> WriteBytes for W {
     type Error = Error;
 

@@ -1,4 +1,4 @@
-//! What the program's words ask for.
+//! The command line of the program.
 use crate::item::Unread;
 use crate::parser::described;
 use crate::place::{declared_by, declared_in};
@@ -11,8 +11,9 @@ use std::rt::Files;
 
 const USAGE: &str = "usage: columnar_derive FILE NAME [CRATE::MODULE]";
 
-/// Writes the rows of the type that the words name, and answers the exit status: 0 where they were written, 1 where they were
-/// not, 2 where the words name no file and no type.
+/// Writes the code for the type that the arguments name.
+///
+/// Returns the exit status: 0 if the code was written, 1 if not, 2 if the number of arguments is wrong.
 pub fn run_words<R: Files + AllocGlobal, O: Write, E: Write>(
     rt: &R,
     alloc: Global,
@@ -39,18 +40,18 @@ pub fn run_words<R: Files + AllocGlobal, O: Write, E: Write>(
     }
 }
 
-/// Says that memory was refused; the status is 1.
+/// Writes that an allocation failed, and returns the status 1.
 pub fn no_memory<E: Write>(err: &mut E) -> u8 {
     say(err, "failed: no memory", 1)
 }
 
-// A standard error that fails changes no status.
+// Writes to standard error and returns the status; a write error does not change it.
 fn say<E: Write>(err: &mut E, text: &str, status: u8) -> u8 {
     let _written = writeln!(err, "{text}");
     status
 }
 
-// A file, and the module that it is, where the words tell it
+// A file, and its module, if the arguments name it.
 #[derive(Clone, Copy)]
 struct Source<'x> {
     path: &'x str,
@@ -58,7 +59,7 @@ struct Source<'x> {
     module: Option<&'x str>,
 }
 
-// Why nothing was written
+// Why nothing was written.
 #[derive(Clone, Copy)]
 enum Failure {
     NoText,
@@ -78,7 +79,7 @@ impl From<Unread> for Failure {
     }
 }
 
-// The text of the rows
+// Returns the code for the type.
 fn text_of(alloc: Global, source: &Source<'_>, name: &str) -> Result<String, Failure> {
     let Ok(text) = str::from_utf8(source.bytes) else {
         return Err(Failure::NoText);

@@ -1,4 +1,4 @@
-//! The text for an enum.
+//! The code for an enum.
 use crate::item::{Field, Value, Variant};
 use crate::lines::{
     Arm, Header, Lines, WIDTH, each, in_angles, in_tuple, joined, keep, letter, parameter,
@@ -6,42 +6,43 @@ use crate::lines::{
 use crate::names::add_names;
 use std::alloc::{AllocError, Global};
 
-/// The text for an enum, and the words that it is made of.
+/// The code for an enum, and the names in it.
 #[derive(Drop)]
 pub struct EnumPage {
     alloc: Global,
     lines: Lines,
-    // Its name, that of its rows, and the type of its rows
+    // The name of the enum, that of the enum of its rows, and the type of its rows.
     own: String,
     row_name: String,
     row: String,
     cases: Vec<Case>,
-    // A parameter for each variant that has a value
+    // A type parameter for each variant with a value.
     params: Vec<String>,
-    // The parameters between `<` and `>`, if there are any
+    // The parameters between `<` and `>`; empty without parameters.
     angles: String,
-    // How clauses name what the file declares
+    // The path under which clauses name the items of the file.
     place: String,
 }
 
-// A variant
+// A variant.
 #[derive(Drop)]
 struct Case {
     name: String,
-    // The parameter that stands for what its value is read as: `()` where it has none
+    // The type as which the value is read: a parameter, or `()` for a variant without a value.
     param: String,
-    // The types of its fields; that of its value, of one field or of the tuple of all; and that of the value lent
+    // The types of the fields; the type of the value, which is the one field or the tuple of all; and the type of the
+    // lent value.
     kinds: Vec<String>,
     kind: String,
     lent: String,
-    // A letter for each field, and what stands for all of them
+    // A letter for each field, and the value made of the letters.
     letters: Vec<String>,
     value: String,
-    // How fields that have names are named by the letters
+    // The patterns of named fields, which bind the letters.
     fields: Vec<String>,
 }
 
-// One text, or the tuple of several
+// Returns one text as it is, and several as a tuple.
 fn one_or_tuple(alloc: Global, texts: &[String]) -> Result<String, AllocError> {
     match texts {
         [text] => String::from_str(alloc, text.as_str()),
@@ -49,7 +50,7 @@ fn one_or_tuple(alloc: Global, texts: &[String]) -> Result<String, AllocError> {
     }
 }
 
-// The type of a variant's value, and that of the value lent
+// Returns the type of a variant's value, and the type of the lent value.
 fn value_types(
     alloc: Global,
     name: &str,
@@ -108,7 +109,7 @@ impl Case {
         !self.letters.is_empty()
     }
 
-    // The variant of the enum, or of its rows: with its value, if it has one
+    // Returns the variant of the enum or of its rows, with its value, if it has one.
     fn of(&self, alloc: Global, name: &str, value: &str) -> Result<String, AllocError> {
         let variant = self.name.as_str();
         if self.has_value() {
@@ -118,7 +119,7 @@ impl Case {
         }
     }
 
-    // What its value means, or when it is valid, of the enum or of its rows
+    // Returns the meaning or the validity (`member`) of the value, for the enum or for its rows.
     fn term(&self, alloc: Global, is_row: bool, member: &str) -> Result<String, AllocError> {
         if is_row {
             format!(in alloc; "{}.{member} a", self.param)
@@ -127,7 +128,7 @@ impl Case {
         }
     }
 
-    // The letters of its fields, or the one of a row's value
+    // Returns the letters of the fields, or the one letter of a row's value.
     fn letters(&self, alloc: Global, is_row: bool) -> Result<String, AllocError> {
         if is_row {
             String::from_str(alloc, "a")
@@ -136,7 +137,7 @@ impl Case {
         }
     }
 
-    // The arm of an `elim` that says what variant `number` means
+    // Returns the `elim` arm with the meaning of variant `number`.
     fn meaning(&self, alloc: Global, number: usize, is_row: bool) -> Result<String, AllocError> {
         let name = self.name.as_str();
         if !self.has_value() {
@@ -147,7 +148,7 @@ impl Case {
         format!(in alloc; "{name} {letters} ↦ case {number} ({term})")
     }
 
-    // The arm of an `elim` that says when the variant is valid
+    // Returns the `elim` arm that says when the variant is valid.
     fn valid(&self, alloc: Global, is_row: bool) -> Result<String, AllocError> {
         let name = self.name.as_str();
         if !self.has_value() {
@@ -158,7 +159,7 @@ impl Case {
         format!(in alloc; "{name} {letters} ↦ {term}")
     }
 
-    // The arm that lends a value as a row
+    // Adds the arm that lends a value as a row.
     fn add_lent(
         &self,
         alloc: Global,
@@ -188,7 +189,7 @@ impl Case {
         })
     }
 
-    // The arm that pushes a row of variant `number`
+    // Adds the arm that pushes a row of variant `number`.
     fn add_push(
         &self,
         alloc: Global,
@@ -224,7 +225,7 @@ impl Case {
         lines.add("                parts.push(value)\n            }")
     }
 
-    // The arm that makes a value of a row
+    // Adds the arm that makes a value from a row.
     fn add_value_made(
         &self,
         alloc: Global,
@@ -255,7 +256,7 @@ impl Case {
         lines.add("            }")
     }
 
-    // The value, made of its fields by their letters
+    // Adds the value, made from the letters of its fields.
     fn add_made(&self, alloc: Global, lines: &mut Lines, own: &str) -> Result<(), AllocError> {
         let name = self.name.as_str();
         if self.fields.is_empty() {
@@ -272,7 +273,7 @@ impl Case {
     }
 }
 
-// A field by its letter
+// Returns a field that is bound to its letter.
 fn named(alloc: Global, field: &Field, letter: &str) -> Result<String, AllocError> {
     let name = field.name.as_str();
     if name == letter {
@@ -282,7 +283,7 @@ fn named(alloc: Global, field: &Field, letter: &str) -> Result<String, AllocErro
     }
 }
 
-// `Nth::Next` so many times around a text
+// Wraps a text in `depth` times `Nth::Next`.
 fn next_of(alloc: Global, depth: usize, text: &str) -> Result<String, AllocError> {
     let mut all = String::new(alloc);
     for _ in 0..depth {
@@ -296,7 +297,7 @@ fn next_of(alloc: Global, depth: usize, text: &str) -> Result<String, AllocError
 }
 
 impl EnumPage {
-    /// No text yet. The place is how clauses name what the file of the enum declares.
+    /// Makes a page without code. Clauses name the items of the enum's file under the path `place`.
     pub fn new(
         alloc: Global,
         own: &str,
@@ -334,7 +335,7 @@ impl EnumPage {
         })
     }
 
-    /// All of the text.
+    /// Returns the whole code.
     pub fn printed(self) -> Result<String, AllocError> {
         let mut page = self;
         page.add_head()?;
@@ -351,7 +352,7 @@ impl EnumPage {
         Ok(lines.into_text())
     }
 
-    // How the file begins: the column, and those that it is made of
+    // Adds the head of the file: the column, and the columns of its parts.
     fn add_head(&mut self) -> Result<(), AllocError> {
         let own = self.own.as_str();
         self.lines.put(format!(in self.alloc;
@@ -378,7 +379,7 @@ pub type {own}Container = ContainerOf<{own}>;
         )
     }
 
-    // The columns from each variant on, the last first, and the column of the variants
+    // Adds the columns from each variant on, the last first, and the column of the variants.
     fn add_columns(&mut self) -> Result<(), AllocError> {
         let mut after: Option<String> = None;
         for case in self.cases.iter().rev() {
@@ -403,7 +404,7 @@ pub type {own}Container = ContainerOf<{own}>;
         }
     }
 
-    // The tuples of several fields by names of their own, of each variant that has as many
+    // Adds a type alias for the tuple of fields of each variant with several fields.
     fn add_kinds(&mut self, head: &str, name: &str, before: &str) -> Result<(), AllocError> {
         let angles = if before.is_empty() { "" } else { "<'x>" };
         let mut begun = false;
@@ -424,7 +425,7 @@ pub type {own}Container = ContainerOf<{own}>;
         Ok(())
     }
 
-    // What rows are read as
+    // Adds the type as which rows are read.
     fn add_nest(&mut self) -> Result<(), AllocError> {
         let mut items = Vec::new(self.alloc);
         for case in &self.cases {
@@ -443,7 +444,7 @@ pub type {own}Container = ContainerOf<{own}>;
             .add_nest(before.as_str(), items.as_slice(), last.as_str())
     }
 
-    // The enum of the rows
+    // Adds the enum of the rows.
     fn add_row(&mut self) -> Result<(), AllocError> {
         self.lines.put(format!(in self.alloc;
             "
@@ -464,7 +465,7 @@ pub enum {} {{",
         self.lines.add("}\n")
     }
 
-    // What the variants mean, of the enum or of its rows
+    // Returns the arms with the meanings of the variants, for the enum or for its rows.
     fn meanings(&self, is_row: bool) -> Result<String, AllocError> {
         let mut arms = Vec::new(self.alloc);
         for (number, case) in self.cases.iter().enumerate() {
@@ -473,7 +474,7 @@ pub enum {} {{",
         joined(self.alloc, arms.as_slice(), " | ")
     }
 
-    // When the variants are valid, of the enum or of its rows
+    // Returns the arms that say when the variants are valid, for the enum or for its rows.
     fn valid_ones(&self, is_row: bool) -> Result<String, AllocError> {
         let mut arms = Vec::new(self.alloc);
         for case in &self.cases {
@@ -482,7 +483,7 @@ pub enum {} {{",
         joined(self.alloc, arms.as_slice(), " | ")
     }
 
-    // What values or rows mean, as the body of their impl
+    // Adds the impl of `Item` for values or for rows.
     fn add_item(&mut self, is_row: bool) -> Result<(), AllocError> {
         let has_all = self.cases.iter().all(|case| case.has_value());
         let names = joined(self.alloc, self.names()?.as_slice(), ", ")?;
@@ -523,7 +524,7 @@ pub enum {} {{",
         self.add_item(true)
     }
 
-    // How rows are made: variant after variant
+    // Adds the impl that makes rows, variant by variant.
     fn add_made_rows(&mut self) -> Result<(), AllocError> {
         let params = each(self.alloc, self.params.as_slice(), "", ": Item")?;
         self.lines.add_header(&Header {
@@ -561,7 +562,7 @@ pub enum {} {{",
         self.lines.add("    }\n}\n")
     }
 
-    // The type of a value that is lent, where a variant has one
+    // Adds the type of a lent value, if a variant has a value.
     fn add_lent_type(&mut self) -> Result<(), AllocError> {
         let mut lent = Vec::new(self.alloc);
         for case in &self.cases {
@@ -580,7 +581,7 @@ pub enum {} {{",
         self.lines.add("")
     }
 
-    // How values are pushed: as the row of what they are made of, lent
+    // Adds the impls that push a value, as the row of its lent fields.
     fn add_pushed_values(&mut self) -> Result<(), AllocError> {
         self.add_lent_type()?;
         let own = self.own.as_str();
@@ -602,16 +603,16 @@ pub enum {} {{",
     }}
 }}
 
-impl PushParts<Parts> for {own} {{
+impl PushParts<Parts, {own}> for {own} {{
     fn push_parts(&self, parts: &mut Parts) -> Result<(), GrowError> {{
-        self.push_lent(parts)
+        self.push_lent::<Parts, {own}>(parts)
     }}
 }}
 "
         ))
     }
 
-    // How rows are pushed
+    // Adds the impl that pushes rows.
     fn add_pushed_rows(&mut self) -> Result<(), AllocError> {
         let mut params = each(self.alloc, self.params.as_slice(), "", ": Copy + Item")?;
         let pushes = format!(in self.alloc; "P: Push<Rows{}>", self.angles)?;
@@ -619,7 +620,10 @@ impl PushParts<Parts> for {own} {{
         self.lines.add_header(&Header {
             params: params.as_slice(),
             trait_name: "PushParts",
-            of: &[String::from_str(self.alloc, "P")?],
+            of: &[
+                String::from_str(self.alloc, "P")?,
+                String::from_str(self.alloc, self.own.as_str())?,
+            ],
             own: self.row.as_str(),
             after: " {",
         })?;
@@ -636,7 +640,7 @@ impl PushParts<Parts> for {own} {{
         self.lines.add("        }\n    }\n}\n")
     }
 
-    // The variants' names
+    // Returns the names of the variants.
     fn names(&self) -> Result<Vec<String>, AllocError> {
         let mut names = Vec::new(self.alloc);
         for case in &self.cases {
@@ -658,7 +662,7 @@ impl PushParts<Parts> for {own} {{
         )
     }
 
-    // Which rows have no value, and the column of the values
+    // Adds the column of the values, with the rows that have no value.
     fn add_owned(&mut self) -> Result<(), AllocError> {
         let own = self.own.as_str();
         let mut unfit = String::new(self.alloc);
@@ -700,7 +704,7 @@ impl PushParts<Parts> for {own} {{
         ))
     }
 
-    // What the values of the variants are to be made of
+    // Adds the bounds: the value of each variant can be made from a row.
     fn add_bounds(&mut self) -> Result<(), AllocError> {
         if self.params.is_empty() {
             return Ok(());
@@ -717,7 +721,7 @@ impl PushParts<Parts> for {own} {{
         self.lines.add("{")
     }
 
-    // How the function begins that makes values of rows
+    // Adds the beginning of the function that makes values from rows.
     fn add_from_row(&mut self) -> Result<(), AllocError> {
         let row = format!(in self.alloc; "OwnRow<Rows{}, {}>", self.angles, self.own)?;
         let mut of = Vec::new(self.alloc);
@@ -746,7 +750,7 @@ impl PushParts<Parts> for {own} {{
         )
     }
 
-    // How values are made of rows
+    // Adds the impl that makes values from rows.
     fn add_values_of_rows(&mut self) -> Result<(), AllocError> {
         self.add_from_row()?;
         self.lines.add("        match row.show() {")?;

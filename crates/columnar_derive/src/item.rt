@@ -1,17 +1,17 @@
-//! What is read of a struct or an enum, and why one is refused.
+//! The description of a struct or an enum, and why one is refused.
 use std::alloc::AllocError;
 use std::fmt;
 
-/// A struct or an enum, as far as its rows need it.
+/// The parts of a struct or an enum that its rows need.
 #[derive(Debug, Drop)]
 pub struct Description {
-    /// Its name.
+    /// The name of the type.
     pub name: String,
-    /// What it has.
+    /// Its fields or variants.
     pub body: Body,
 }
 
-/// What a type has.
+/// The fields of a struct, or the variants of an enum.
 #[derive(Debug, Drop)]
 pub enum Body {
     /// The fields of a struct, one to ten.
@@ -20,30 +20,30 @@ pub enum Body {
     Variants(Vec<Variant>),
 }
 
-/// A field: its name, and its type as it is written.
+/// A field: its name, and its type as written.
 #[derive(Debug, Drop)]
 pub struct Field {
     pub name: String,
     pub kind: String,
 }
 
-/// A variant, and what a value of it has.
+/// A variant: its name, and the fields of its values.
 #[derive(Debug, Drop)]
 pub struct Variant {
     pub name: String,
     pub value: Value,
 }
 
-/// What a value of a variant has.
+/// The fields of a value of a variant.
 #[derive(Debug, Drop)]
 pub enum Value {
     Nothing,
-    /// One type or more, each as it is written.
+    /// One or more types, each as written.
     Types(Vec<String>),
     Fields(Vec<Field>),
 }
 
-/// Why a type is not read.
+/// Why a type is refused.
 #[derive(Clone, Copy, Debug, PartialEq, Eq)]
 pub enum Why {
     NotFound,
@@ -94,7 +94,7 @@ impl fmt::Display for Why {
 #[derive(Clone, Copy, Debug, PartialEq, Eq)]
 pub enum Unread {
     Memory,
-    /// The line where it was refused, from 1 on, and why.
+    /// The number of the refused line, from 1 on, and the reason.
     Refused(usize, Why),
 }
 

@@ -1,41 +1,41 @@
-//! Text that is laid out as `rt fmt` lays it out.
+//! Text, laid out as by `rt fmt`.
 use std::alloc::{AllocError, Global};
 use std::fmt::Write;
 
-/// How long a line may be.
+/// The greatest length of a line.
 pub const WIDTH: usize = 100;
 
-/// How long the items of a tuple, or of a call, may be on one line.
+/// The greatest length of the items of a tuple or call on one line.
 const ITEMS: usize = 60;
 
-// How long items are that stand beside one another where one line does not hold them
+// The greatest length of values that share lines if one line cannot hold them all.
 const SHORT: usize = 10;
 
-/// How long the fields of a struct may be where it is made on one line.
+/// The greatest length of the fields of a struct literal on one line.
 const FIELDS: usize = 18;
 
-/// How an impl begins.
+/// The header of an impl.
 #[derive(Clone, Copy)]
 pub struct Header<'x> {
-    /// Its parameters, with their bounds.
+    /// The parameters of the impl, with their bounds.
     pub params: &'x [String],
-    /// The trait, without what it is of.
+    /// The trait, without its arguments.
     pub trait_name: &'x str,
-    /// What the trait is of.
+    /// The arguments of the trait.
     pub of: &'x [String],
     /// The type.
     pub own: &'x str,
-    /// What follows on the same line.
+    /// The text that follows on the same line.
     pub after: &'x str,
 }
 
-/// An arm of a match, whose value is that of a function.
+/// A match arm whose value is a call of a function.
 #[derive(Clone, Copy)]
 pub struct Arm<'x> {
     pub indent: &'x str,
     /// The pattern, without the fields in braces.
     pub pattern: &'x str,
-    /// The fields in braces, if there are any.
+    /// The fields in braces, if any.
     pub fields: &'x [String],
     pub function: &'x str,
     pub argument: &'x str,
@@ -48,7 +48,7 @@ pub struct Lines {
     text: String,
 }
 
-/// The texts, with `between` between two of them.
+/// Joins the texts, with `between` between two of them.
 pub fn joined(alloc: Global, texts: &[String], between: &str) -> Result<String, AllocError> {
     let mut all = String::new(alloc);
     for (i, text) in texts.iter().enumerate() {
@@ -60,7 +60,7 @@ pub fn joined(alloc: Global, texts: &[String], between: &str) -> Result<String, 
     Ok(all)
 }
 
-/// The parameter that stands for item `index`: a capital letter, with a number from the second alphabet on.
+/// Returns the name of the type parameter of item `index`: a capital letter, with a number from index 26 on.
 pub fn parameter(alloc: Global, index: usize) -> Result<String, AllocError> {
     let mut text = String::new(alloc);
     if let Some(letter) = ('A'..='Z').nth(index % 26) {
@@ -73,7 +73,7 @@ pub fn parameter(alloc: Global, index: usize) -> Result<String, AllocError> {
     Ok(text)
 }
 
-/// The name that stands for field `index`, below ten: a letter.
+/// Returns the name of field `index`, below ten, in a pattern: a letter.
 pub fn letter(alloc: Global, index: usize) -> Result<String, AllocError> {
     let mut text = String::new(alloc);
     if let Some(letter) = ('a'..='j').nth(index) {
@@ -82,7 +82,7 @@ pub fn letter(alloc: Global, index: usize) -> Result<String, AllocError> {
     Ok(text)
 }
 
-/// Keeps a text.
+/// Appends a text to the texts.
 pub fn keep(texts: &mut Vec<String>, text: String) -> Result<(), AllocError> {
     match texts.push(text) {
         Ok(()) => Ok(()),
@@ -90,7 +90,7 @@ pub fn keep(texts: &mut Vec<String>, text: String) -> Result<(), AllocError> {
     }
 }
 
-/// The tuple of the texts, as a clause writes it.
+/// Returns the tuple of the texts, in the syntax of clauses.
 pub fn in_clause(alloc: Global, texts: &[String]) -> Result<String, AllocError> {
     let list = joined(alloc, texts, ", ")?;
     if texts.len() == 1 {
@@ -100,7 +100,7 @@ pub fn in_clause(alloc: Global, texts: &[String]) -> Result<String, AllocError> 
     }
 }
 
-/// The texts, each between two others.
+/// Returns the texts, each between `before` and `after`.
 pub fn each(
     alloc: Global,
     texts: &[String],
@@ -114,7 +114,7 @@ pub fn each(
     Ok(all)
 }
 
-/// The tuple of the texts.
+/// Returns the tuple of the texts.
 pub fn in_tuple(alloc: Global, texts: &[String]) -> Result<String, AllocError> {
     let list = joined(alloc, texts, ", ")?;
     if texts.len() == 1 {
@@ -124,7 +124,7 @@ pub fn in_tuple(alloc: Global, texts: &[String]) -> Result<String, AllocError> {
     }
 }
 
-/// The texts between `<` and `>`, if there are any.
+/// Returns the texts between `<` and `>`; without texts, an empty text.
 pub fn in_angles(alloc: Global, texts: &[String]) -> Result<String, AllocError> {
     let list = joined(alloc, texts, ", ")?;
     if texts.is_empty() {
@@ -134,7 +134,7 @@ pub fn in_angles(alloc: Global, texts: &[String]) -> Result<String, AllocError> 
     }
 }
 
-// The nest of the items from `from` on, on one line
+// Returns the nest of the items from `from` on, on one line.
 fn nested(alloc: Global, items: &[String], from: usize, last: &str) -> Result<String, AllocError> {
     let mut text = String::new(alloc);
     for item in items.iter().skip(from) {
@@ -147,7 +147,7 @@ fn nested(alloc: Global, items: &[String], from: usize, last: &str) -> Result<St
     Ok(text)
 }
 
-// How many characters a text has
+// Returns the number of characters of a text.
 fn width(text: &str) -> usize {
     text.chars().count()
 }
@@ -164,18 +164,18 @@ impl Lines {
         }
     }
 
-    /// All lines.
+    /// Returns all lines.
     pub fn into_text(self) -> String {
         self.text
     }
 
-    /// Adds a line, or several.
+    /// Adds one or more lines.
     pub fn add(&mut self, text: &str) -> Result<(), AllocError> {
         self.text.push_str(text)?;
         self.text.push('\n')
     }
 
-    /// Adds a line, or several, that were made for it.
+    /// Adds one or more lines, unless making them failed.
     pub fn put(&mut self, made: Result<String, AllocError>) -> Result<(), AllocError> {
         let text = made?;
         self.add(text.as_str())
@@ -192,7 +192,8 @@ impl Lines {
         Ok(())
     }
 
-    /// Adds items between two texts, as `f(` and `)`: on one line where they take at most `most`, else each on its own.
+    /// Adds items between two texts, such as `f(` and `)`: on one line if they have at most `most` characters, else
+    /// one per line.
     pub fn add_list(
         &mut self,
         indent: &str,
@@ -213,7 +214,7 @@ impl Lines {
         self.put(format!(in self.alloc; "{indent}{after}"))
     }
 
-    /// Adds the tuple of values between two texts, as `add_list`; short ones stand beside one another.
+    /// Adds the tuple of values between two texts, like `add_list`; short values share lines.
     pub fn add_values(
         &mut self,
         indent: &str,
@@ -243,7 +244,7 @@ impl Lines {
         self.put(format!(in self.alloc; "{indent}){after}"))
     }
 
-    /// Adds a tuple between two texts, as `add_list`.
+    /// Adds a tuple between two texts, like `add_list`.
     pub fn add_tuple(
         &mut self,
         indent: &str,
@@ -263,7 +264,7 @@ impl Lines {
         self.add_list(indent, before.as_str(), items, after.as_str(), ITEMS)
     }
 
-    /// Adds fields in braces: on one line where they are short.
+    /// Adds fields in braces: on one line if they are short.
     pub fn add_braces(
         &mut self,
         indent: &str,
@@ -281,8 +282,8 @@ impl Lines {
         self.add_list(indent, before.as_str(), fields, after.as_str(), 0)
     }
 
-    /// Adds the nest of items, `Nth` of each and of those after it, and after all items `last`; before it stands `before`, and a
-    /// semicolon after it.
+    /// Adds `before`, the nest of the items, and a semicolon. The nest is `Nth` of the first item and the nest of the
+    /// others; without items it is `last`.
     pub fn add_nest(
         &mut self,
         before: &str,
@@ -311,7 +312,7 @@ impl Lines {
         self.end_nest(items.len())
     }
 
-    // The ends of so many nests, the innermost first
+    // Adds the ends of `depth` nests, the innermost first.
     fn end_nest(&mut self, depth: usize) -> Result<(), AllocError> {
         for left in (0..depth).rev() {
             for _ in 0..left {
@@ -322,8 +323,8 @@ impl Lines {
         Ok(())
     }
 
-    /// Adds an arm of a match: a pattern, and the one value that stands for it. Where both don't stand on one line the value gets
-    /// the argument by a name.
+    /// Adds a match arm: a pattern, and the call that is its value. If one line cannot hold both, a `let` names the
+    /// argument of the call.
     pub fn add_arm(&mut self, arm: &Arm<'_>) -> Result<(), AllocError> {
         let Arm {
             indent,
@@ -354,7 +355,7 @@ impl Lines {
         ))
     }
 
-    /// Adds an arm of a match whose value is a path.
+    /// Adds a match arm whose value is a path.
     pub fn add_path_arm(
         &mut self,
         indent: &str,
@@ -371,7 +372,7 @@ impl Lines {
         ))
     }
 
-    /// Adds how an impl begins.
+    /// Adds the header of an impl.
     pub fn add_header(&mut self, header: &Header<'_>) -> Result<(), AllocError> {
         let trait_name = header.trait_name;
         let params = in_angles(self.alloc, header.params)?;
@@ -392,7 +393,7 @@ impl Lines {
         self.add_target(begun.as_str(), header)
     }
 
-    // Adds this beginning, and the type: on the same line, where it holds both.
+    // Adds the beginning of a header, and the type: on the same line if it holds both.
     fn add_target(&mut self, begun: &str, header: &Header<'_>) -> Result<(), AllocError> {
         let Header { own, after, .. } = header;
         let line = format!(in self.alloc; "{begun} for {own}{after}")?;

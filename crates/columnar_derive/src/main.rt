@@ -1,4 +1,5 @@
-//! Writes what makes a struct or an enum of one's own the rows of a column: `columnar_derive FILE NAME [CRATE::MODULE]`.
+//! Writes the code that makes your own struct or enum the rows of a column:
+//! `columnar_derive FILE NAME [CRATE::MODULE]`.
 #![tactic(auto)]
 
 mod cli;

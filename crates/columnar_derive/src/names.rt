@@ -1,8 +1,8 @@
-//! The text that names the parts: the fields of a struct, or the variants of an enum.
+//! The code that names the parts: the fields of a struct, or the variants of an enum.
 use crate::lines::Lines;
 use std::alloc::{AllocError, Global};
 
-/// Adds the impl that names the parts of a type, in their order.
+/// Adds the impl that names the parts of a type, in order.
 pub fn add_names(
     alloc: Global,
     lines: &mut Lines,

@@ -1,4 +1,4 @@
-//! The struct or the enum of a name, read from the tokens of a file.
+//! A reader that finds a struct or enum by its name in the tokens of a file.
 use crate::item::{Body, Description, Field, Unread, Value, Variant, Why};
 use crate::tokens::{Kind, Token};
 use std::alloc::{AllocError, Global};
@@ -7,7 +7,10 @@ const MOST_FIELDS: usize = 10;
 
 const MOST_VARIANTS: usize = 256;
 
-/// The struct or enum of this name, which stands outside of all braces; or the line where it is refused, and why.
+/// Returns the struct or enum of this name that is outside of all braces.
+///
+/// # Errors
+/// Out of memory, or the line that is refused, and the reason.
 pub fn described(alloc: Global, tokens: &[Token], name: &str) -> Result<Description, Unread> {
     let mut depth = 0usize;
     for (at, token) in tokens.iter().enumerate() {
@@ -33,7 +36,7 @@ pub fn described(alloc: Global, tokens: &[Token], name: &str) -> Result<Descript
     Err(Unread::Refused(last, Why::NotFound))
 }
 
-// Does a word that begins a type stand here, and then the name?
+// Returns whether a word that begins a type is here, followed by the name.
 fn is_named(tokens: &[Token], at: usize, name: &str) -> bool {
     let begins = match tokens.get(at) {
         Some(token) => match &token.kind {
@@ -56,7 +59,7 @@ fn begins_type(word: &str) -> bool {
     word == "struct" || word == "enum" || word == "union"
 }
 
-// Words that begin a type which is not read
+// Returns whether the word begins a field type that is refused.
 fn is_reserved(word: &str) -> bool {
     matches!(
         word,
@@ -64,7 +67,7 @@ fn is_reserved(word: &str) -> bool {
     )
 }
 
-// Reads tokens in their order.
+// Reads tokens in order.
 #[derive(Drop)]
 struct Reader<'t> {
     alloc: Global,
@@ -99,7 +102,7 @@ impl<'t> Reader<'t> {
         }
     }
 
-    // Passes over the mark, if it stands here.
+    // Skips the mark, and returns whether it was here.
     fn eat(&mut self, mark: char) -> bool {
         let stands = self.is_at(mark);
         if stands {
@@ -116,7 +119,7 @@ impl<'t> Reader<'t> {
         }
     }
 
-    // The line of the token that stands here, or of the last
+    // Returns the line of the current token, or of the last one at the end.
     fn line(&self) -> usize {
         match self.tokens.get(self.at) {
             Some(token) => token.line,
@@ -139,7 +142,7 @@ impl<'t> Reader<'t> {
         }
     }
 
-    // What stands after the name, where this word stands before it
+    // Reads what follows the name. `word` comes before the name.
     fn body(&mut self, word: &str) -> Result<Body, Unread> {
         if word == "union" {
             return Err(self.refused(Why::Union));
@@ -164,7 +167,7 @@ impl<'t> Reader<'t> {
         Ok(Body::Fields(self.fields()?))
     }
 
-    // Attributes, and then `pub`, with where it is told
+    // Skips attributes, and then `pub` with its parentheses.
     fn pass_over(&mut self) -> Result<(), Unread> {
         for _ in 0..self.tokens.len() {
             if !self.eat('#') {
@@ -182,7 +185,7 @@ impl<'t> Reader<'t> {
         Ok(())
     }
 
-    // Passes over all up to the mark that ends what has begun.
+    // Skips all tokens up to the mark that closes the open bracket.
     fn to_end_of(&mut self, begin: char, end: char) {
         let mut depth = 1usize;
         for _ in 0..self.tokens.len() {
@@ -198,7 +201,7 @@ impl<'t> Reader<'t> {
         }
     }
 
-    // Fields with their names, up to the brace that ends them
+    // Reads named fields, and the brace that closes them.
     fn fields(&mut self) -> Result<Vec<Field>, Unread> {
         let mut fields = Vec::new(self.alloc);
         for _ in 0..self.tokens.len() {
@@ -227,7 +230,7 @@ impl<'t> Reader<'t> {
         Ok(fields)
     }
 
-    // Does a word `ghost` stand before a name?
+    // Returns whether the word `ghost` is here, followed by a name.
     fn is_ghost(&self) -> bool {
         let after = match self.tokens.get(self.at.saturating_add(1)) {
             Some(token) => matches!(&token.kind, Kind::Word(_)),
@@ -236,7 +239,7 @@ impl<'t> Reader<'t> {
         self.is_at_word("ghost") && after
     }
 
-    // Types without names, up to the parenthesis that ends them
+    // Reads types without names, and the parenthesis that closes them.
     fn types(&mut self) -> Result<Vec<String>, Unread> {
         let mut types = Vec::new(self.alloc);
         for _ in 0..self.tokens.len() {
@@ -284,7 +287,7 @@ impl<'t> Reader<'t> {
         Ok(variants)
     }
 
-    // What a variant has; with nothing in its braces or parentheses it has nothing.
+    // Reads the fields of a variant, if any; refuses empty braces and parentheses.
     fn value(&mut self) -> Result<Value, Unread> {
         if self.eat('(') {
             let types = self.types()?;
@@ -299,7 +302,7 @@ impl<'t> Reader<'t> {
         Ok(Value::Nothing)
     }
 
-    // A type, as it is written, up to a comma or to `end`
+    // Reads a type as written, up to a comma or `end`.
     fn kind(&mut self, end: char) -> Result<String, Unread> {
         let mut text = TypeText::new(self.alloc);
         for _ in 0..self.tokens.len() {
@@ -341,14 +344,14 @@ fn add<T: Drop>(items: &mut Vec<T>, item: T) -> Result<(), AllocError> {
     }
 }
 
-// A type that is written down token by token
+// The text of a type, which grows token by token.
 #[derive(Drop)]
 struct TypeText {
     text: String,
-    // What has begun, each with how many commas stand in it; of an array, how many lengths
+    // The open brackets, each with the number of its commas; for an array, of its lengths.
     begun: Vec<(char, usize)>,
     after_word: bool,
-    // A comma that is written before what follows
+    // Whether a comma must be written before the next token.
     comma: bool,
 }
 
@@ -366,7 +369,7 @@ impl TypeText {
         self.text.as_str().is_empty()
     }
 
-    // Has all that was begun ended?
+    // Returns whether all brackets are closed.
     fn is_whole(&self) -> bool {
         self.begun.is_empty()
     }
@@ -379,7 +382,7 @@ impl TypeText {
         Ok(())
     }
 
-    // Adds a name or a number, unless it can't stand here.
+    // Adds a name or a number; returns false if it cannot be here.
     fn word(&mut self, word: &str) -> Result<bool, AllocError> {
         if self.after_word || is_reserved(word) {
             return Ok(false);
@@ -390,7 +393,7 @@ impl TypeText {
         Ok(true)
     }
 
-    // Adds a mark, unless it can't stand here; a colon stands for two.
+    // Adds a mark; returns false if it cannot be here. A colon means two.
     fn mark(&mut self, mark: char) -> Result<bool, AllocError> {
         let after_word = self.after_word;
         match mark {
@@ -414,7 +417,7 @@ impl TypeText {
         add(&mut self.begun, (mark, 0))
     }
 
-    // False where no comma can stand: in an array, or where no type came before
+    // Adds a comma; returns false if none can be here: in an array, or without a type before it.
     fn add_comma(&mut self) -> bool {
         let may = self.after_word && !self.comma;
         match self.begun.last_mut() {
@@ -427,7 +430,7 @@ impl TypeText {
         may
     }
 
-    // False but in an array that has no length yet
+    // Adds a length; returns true only in an array that has none yet.
     fn add_length(&mut self) -> bool {
         match self.begun.last_mut() {
             Some(('[', lengths)) if *lengths == 0 => {
@@ -438,7 +441,8 @@ impl TypeText {
         }
     }
 
-    // Ends what has begun; an array needs its length. A comma before the end is kept in a tuple of one alone.
+    // Closes a bracket; returns false if it does not fit, or if an array has no length. Keeps a comma before the end
+    // only in a tuple of one.
     fn end(&mut self, mark: char, begin: char) -> Result<bool, AllocError> {
         let commas = match self.begun.pop() {
             Some(('[', lengths)) if lengths == 0 => return Ok(false),

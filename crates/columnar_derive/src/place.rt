@@ -1,8 +1,8 @@
-//! Where a file stands in its crate.
+//! The place of a file in its crate.
 use std::alloc::{AllocError, Global};
 
-/// How clauses name what the file declares: the crate that stands before `src` in the path, and the modules after it. None where no
-/// crate stands there.
+/// Returns the path under which clauses name the items of a file: the crate, which is the folder before `src`, and the
+/// modules after `src`. Returns `None` if the path has no such folder.
 pub fn declared_in(alloc: Global, path: &str) -> Result<Option<String>, AllocError> {
     let mut before = String::new(alloc);
     let mut place: Option<String> = None;
@@ -27,7 +27,7 @@ pub fn declared_in(alloc: Global, path: &str) -> Result<Option<String>, AllocErr
     Ok(place)
 }
 
-/// The same for a module that is named, as `examples::shape`.
+/// Returns the same path for the items of a module, such as `examples::shape`.
 pub fn declared_by(alloc: Global, module: &str) -> Result<String, AllocError> {
     let mut place = String::from_str(alloc, "Rattle")?;
     for (i, part) in module.split("::").enumerate() {

@@ -1,11 +1,11 @@
-//! What makes a struct or an enum the rows of a column, as text.
+//! The code that makes a struct or an enum the rows of a column.
 use crate::enums::EnumPage;
 use crate::item::{Body, Description};
 use crate::structs::Page;
 use std::alloc::{AllocError, Global};
 
-/// The text for a struct or an enum, laid out. An enum asks how clauses name what its file declares: None where that is not
-/// known.
+/// Returns the code for a struct or an enum. For an enum, `place` is the path under which clauses name the items of its
+/// file; without it, returns `None`.
 pub fn printed(
     alloc: Global,
     description: &Description,

@@ -1,26 +1,26 @@
-//! The text for a struct.
+//! The code for a struct.
 use crate::item::Field;
 use crate::lines::{Header, Lines, WIDTH, each, in_clause, in_tuple, joined, keep, parameter};
 use crate::names::add_names;
 use std::alloc::{AllocError, Global};
 
-/// The text for a struct, and the words that it is made of.
+/// The code for a struct, and the names in it.
 #[derive(Drop)]
 pub struct Page {
     alloc: Global,
     lines: Lines,
-    // The name of the struct, and the type of its rows
+    // The name of the struct, and the type of its rows.
     own: String,
     row: String,
     fields: Vec<String>,
     kinds: Vec<String>,
-    // A parameter for each field, and the tuple of them
+    // A type parameter for each field, and their tuple.
     params: Vec<String>,
     tuple: String,
 }
 
 impl Page {
-    /// No text yet.
+    /// Makes a page without code for a struct of this name.
     pub fn new(alloc: Global, own: &str, fields: &[Field]) -> Result<Page, AllocError> {
         let mut names = Vec::new(alloc);
         let mut kinds = Vec::new(alloc);
@@ -44,7 +44,7 @@ impl Page {
         })
     }
 
-    /// All of the text.
+    /// Returns the whole code.
     pub fn printed(self) -> Result<String, AllocError> {
         let mut page = self;
         page.add_head()?;
@@ -57,7 +57,7 @@ impl Page {
         Ok(lines.into_text())
     }
 
-    // How the file begins: the column, and the struct of the rows
+    // Adds the head of the file: the column, and the struct of the rows.
     fn add_head(&mut self) -> Result<(), AllocError> {
         let own = self.own.as_str();
         let row = self.row.as_str();
@@ -91,7 +91,7 @@ pub struct {row} {{"
         self.lines.add("}\n")
     }
 
-    // What values and rows mean: what the tuple of their fields does
+    // Adds the meaning of values and rows: that of the tuple of their fields.
     fn add_items(&mut self) -> Result<(), AllocError> {
         let own = self.own.as_str();
         let tuple = self.tuple.as_str();
@@ -124,7 +124,7 @@ pub struct {row} {{"
         self.lines.add(of_rows.as_str())
     }
 
-    // The struct, or its row, made of fields that are read in a certain way
+    // Adds a literal of the struct or of its row, with these values of the fields.
     fn add_struct(
         &mut self,
         before: &str,
@@ -139,7 +139,7 @@ pub struct {row} {{"
             .add_braces("        ", before, items.as_slice(), after)
     }
 
-    // The parts of a tuple, by their numbers
+    // Returns the parts of a tuple, by number.
     fn parts_of(&self, tuple: &str) -> Result<Vec<String>, AllocError> {
         let mut parts = Vec::new(self.alloc);
         for (i, _) in self.fields.iter().enumerate() {
@@ -148,7 +148,7 @@ pub struct {row} {{"
         Ok(parts)
     }
 
-    // How rows are made of the rows of the parts
+    // Adds the impl that makes a row from the rows of the parts.
     fn add_made_rows(&mut self) -> Result<(), AllocError> {
         let params = each(self.alloc, self.params.as_slice(), "", ": Item")?;
         self.lines.add_header(&Header {
@@ -173,12 +173,12 @@ pub struct {row} {{"
         self.lines.add("    }\n}\n")
     }
 
-    // How values and rows are pushed
+    // Adds the impls that push values and rows.
     fn add_pushes(&mut self) -> Result<(), AllocError> {
         let own = self.own.as_str();
         let tuple = self.tuple.as_str();
         self.lines.put(format!(in self.alloc;
-            "impl PushParts<ContainerOf<Parts>> for {own} {{
+            "impl PushParts<ContainerOf<Parts>, {own}> for {own} {{
     fn push_parts(&self, parts: &mut ContainerOf<Parts>) -> Result<(), GrowError> {{"
         ))?;
         let lent = each(self.alloc, self.fields.as_slice(), "&self.", "")?;
@@ -190,7 +190,10 @@ pub struct {row} {{"
         self.lines.add_header(&Header {
             params: params.as_slice(),
             trait_name: "PushParts",
-            of: &[String::from_str(self.alloc, "P")?],
+            of: &[
+                String::from_str(self.alloc, "P")?,
+                String::from_str(self.alloc, own)?,
+            ],
             own: self.row.as_str(),
             after: " {",
         })?;
@@ -201,7 +204,7 @@ pub struct {row} {{"
         self.lines.add("    }\n}\n")
     }
 
-    // The fields' names
+    // Adds the names of the fields.
     fn add_names(&mut self) -> Result<(), AllocError> {
         add_names(
             self.alloc,
@@ -211,7 +214,7 @@ pub struct {row} {{"
         )
     }
 
-    // The column of the values, and how they are made of rows
+    // Adds the column of the values, and the impl that makes a value from a row.
     fn add_owned(&mut self) -> Result<(), AllocError> {
         let own = self.own.as_str();
         let tuple = self.tuple.as_str();

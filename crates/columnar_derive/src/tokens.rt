@@ -1,28 +1,31 @@
-//! Rust text as tokens.
+//! A tokenizer of Rust text.
 use crate::item::{Unread, Why};
 use std::alloc::{AllocError, Global};
 use std::mem;
 
-/// A token, and the line that it stands on, from 1 on.
+/// A token, and the number of its line, from 1 on.
 #[derive(Debug, Drop)]
 pub struct Token {
     pub line: usize,
     pub kind: Kind,
 }
 
-/// What a token is. Comments and spaces are none.
+/// The kind of a token. Comments and spaces are not tokens.
 #[derive(Debug, Drop)]
 pub enum Kind {
-    /// A name, a word of the language, or a number.
+    /// A name, a keyword, or a number.
     Word(String),
     /// Any other character.
     Mark(char),
     Lifetime,
-    /// A text or a character.
+    /// A string or a character.
     Literal,
 }
 
-/// The tokens of a text, in their order. A text or a block comment without an end is refused, at the line where it begins.
+/// Returns the tokens of a text, in order.
+///
+/// # Errors
+/// Out of memory, or the line on which a string or block comment without an end begins.
 pub fn tokens_of(alloc: Global, text: &str) -> Result<Vec<Token>, Unread> {
     let mut tokenizer = Tokenizer::new(alloc);
     for c in text.chars() {
@@ -31,14 +34,14 @@ pub fn tokens_of(alloc: Global, text: &str) -> Result<Vec<Token>, Unread> {
     tokenizer.ended()
 }
 
-// Where in the text the tokenizer is
+// The position of the tokenizer in the text.
 #[derive(Clone, Copy)]
 enum State {
     Between,
     InWord,
     Slash,
     LineComment,
-    // With how many comments around it, itself with them
+    // With the depth of nested comments.
     BlockComment(usize),
     BlockSlash(usize),
     BlockStar(usize),
@@ -49,7 +52,7 @@ enum State {
     QuoteEscape,
     QuoteEnd,
     LifetimeName,
-    // With so many `#`
+    // With the number of `#`.
     RawBegin(usize),
     RawText(usize),
     RawEnd(usize, usize),
@@ -100,7 +103,7 @@ impl Tokenizer {
         self.add(Kind::Literal)
     }
 
-    // What is none of the others begins here.
+    // Begins a comment, a string or a quote.
     fn begin(&mut self, state: State) {
         self.begun = self.line;
         self.word = String::new(self.alloc);
@@ -161,7 +164,7 @@ impl Tokenizer {
         Ok(())
     }
 
-    // A quote after a word belongs to it, as in the names of clauses, unless the word tells that it is of a byte.
+    // A quote after a word belongs to it, as in the names of clauses, unless the word is the prefix of a literal.
     fn in_word(&mut self, c: char) -> Result<(), AllocError> {
         let word = self.word.as_str();
         let is_raw = word == "r" || word == "br" || word == "cr";
@@ -216,7 +219,7 @@ impl Tokenizer {
         Ok(())
     }
 
-    // A quote begins a character, or a lifetime where none ends it after one character.
+    // A quote begins a character, or a lifetime if no second quote follows after one character.
     fn in_quote(&mut self, c: char) -> Result<(), AllocError> {
         match (self.state, c) {
             (State::Quote, '\\') => self.state = State::QuoteEscape,
@@ -246,7 +249,7 @@ impl Tokenizer {
         Ok(())
     }
 
-    // A word and a `#`: a raw text, or a name such as r#type.
+    // After a word and a `#`: a raw string, or a name such as r#type.
     fn raw_begins(&mut self, c: char, hashes: usize) -> Result<(), AllocError> {
         match c {
             '#' => self.state = State::RawBegin(hashes.saturating_add(1)),
@@ -271,7 +274,7 @@ impl Tokenizer {
         Ok(())
     }
 
-    // The tokens, where the text ends
+    // Returns the tokens at the end of the text.
     fn ended(self) -> Result<Vec<Token>, Unread> {
         let mut tokenizer = self;
         match tokenizer.state {

@@ -1,4 +1,4 @@
--- The lists that bounds cut out of values.
+-- The lists into which bounds divide values.
 use Rattle.std.proofs.Common.{◌≡◌, ℕ, zero, suc, ◌+◌, ◌-◌, ◌<◌, ◌≤◌, Bool, true, ◌&&◌, List, [], ◌∷◌, ◌++◌, length, take, drop, map, refl, sym, ◌∙◌, ap, arith, length-append, length-take, append_assoc, length-drop}
 use Rattle.std.proofs.Math.Seq.{take-append_seam, drop-append_seam, take-add}
 use Rattle.std.specs.Prelude.{slice_get, Some, nat_le}
@@ -25,7 +25,7 @@ rises-from from (n ∷ ns) end h =
     let b = rises-from n ns end p.1 in
     omega arith
 
--- bounds that rise to `end`, and then others from there on
+-- bounds that rise to `mid`, then others from there to `end`
 pub rises-append : (from : ℕ) (ns ms : List ℕ) (mid end : ℕ) → rises from ns mid ≡ true → rises mid ms end ≡ true → rises from (ns ++ ms) end ≡ true
 rises-append from [] ms mid end h k =
     let e = eqb-true from mid h in
@@ -41,7 +41,7 @@ rises-take (suc n) from (m ∷ ns) end h =
     let p = and_parts _ _ h in
     and_from _ _ p.0 (rises-take n m ns end p.1)
 
--- the bounds after the first n rise from the last of those
+-- the bounds after the first n rise from the last of these n
 pub rises-drop : (n from : ℕ) (ns : List ℕ) (end : ℕ) → rises from ns end ≡ true → rises (last_or from (take n ns)) (drop n ns) end ≡ true
 rises-drop zero from ns end h = h
 rises-drop (suc n) from [] end h = h
@@ -70,7 +70,7 @@ pub cut-append : (from : ℕ) (ns ms : List ℕ) (vs : List Row) → cut from (n
 cut-append from [] ms vs = refl
 cut-append from (n ∷ ns) ms vs = ap (λ t. list (take (n - from) (drop from vs)) ∷ t) (cut-append n ns ms vs)
 
--- a piece that ends within the values is the same with more values after them
+-- a piece that ends within the values stays if more values follow
 pub piece-append : (from n : ℕ) (vs ws : List Row) → from ≤ n → n ≤ length vs → take (n - from) (drop from (vs ++ ws)) ≡ take (n - from) (drop from vs)
 piece-append from n vs ws a b =
     rw (drop-append-le from vs ws (omega arith)) (take-append-le (n - from) (drop from vs) ws (rw length-drop (omega arith)))
@@ -94,7 +94,7 @@ pub cut_lists : (from : ℕ) (ns : List ℕ) (vs : List Row) → are_lists (cut 
 cut_lists from [] vs = refl
 cut_lists from (n ∷ ns) vs = and_from _ _ (is-row_eq (list_end (list (take (n - from) (drop from vs)))) empty (end_of-list (take (n - from) (drop from vs)))) (cut_lists n ns vs)
 
--- a piece, and the piece after it
+-- a piece, and the next piece
 pub pieces_joined : (m k l : ℕ) (vs : List Row) → m ≤ k → k ≤ l → take (k - m) (drop m vs) ++ take (l - k) (drop k vs) ≡ take (l - m) (drop m vs)
 pieces_joined m k l vs p q =
     let d : drop (k - m) (drop m vs) ≡ drop (m + (k - m)) vs = drop-drop (k - m) m vs in
@@ -103,7 +103,7 @@ pieces_joined m k l vs p q =
     let n : (k - m) + (l - k) ≡ l - m = omega arith in
     rw (f, ← n) (sym (take-add (k - m) (l - k) (drop m vs)))
 
--- the items of the lists that bounds cut are the values up to the last bound
+-- the items of the lists of bounds are the values up to the last bound
 pub joined-cut : (from : ℕ) (ns : List ℕ) (end : ℕ) (vs : List Row) → rises from ns end ≡ true → joined (cut from ns vs) ≡ take (end - from) (drop from vs)
 joined-cut from [] end vs h =
     let e : from ≡ end = eqb-true from end h in
@@ -137,14 +137,14 @@ ends_rise from [] end e = eq-eqb from end (omega arith)
 ends_rise from (r ∷ rs) end e =
     and_from _ _ (le-leb from (from + length (items_of r)) (omega arith)) (ends_rise (from + length (items_of r)) rs end (omega (arith, e, length-append (items_of r) (joined rs))))
 
--- rows that are alike to a list's items make a list that is alike to it
+-- rows that are alike to the items of a list make an alike list
 pub list_alike-items : (same : Row → Row → Bool) (us : List Row) (r : Row) → row_eq (list_end r) empty ≡ true → all_alike same us (items_of r) ≡ true → list_alike same (list us) r ≡ true
 list_alike-items same us r h k =
     let e : list_end (list us) ≡ list_end r = end_of-list us ∙ sym (row_eq-is (list_end r) empty h) in
     let i : all_alike same (items_of (list us)) (items_of r) ≡ true = rw (items_of-list us) k in
     and_from _ _ (is-row_eq (list_end (list us)) (list_end r) e) i
 
--- values that are alike to the items of lists, cut at the ends of these lists, are alike to them
+-- values that are alike to the items of lists, divided at the ends of these lists, make alike lists
 pub cut_alike : (same : Row → Row → Bool) (from : ℕ) (vs rs : List Row) → are_lists rs ≡ true → all_alike same (drop from vs) (joined rs) ≡ true → all_alike (list_alike same) (cut from (numbers (ends from rs)) vs) rs ≡ true
 cut_alike same from vs [] l h = refl
 cut_alike same from vs (r ∷ rs) l h =
@@ -168,7 +168,7 @@ all_same same e = record {
 pub lists_same : (same : Row → Row → Bool) → IsSame same → IsSame (list_alike same)
 lists_same same e = same_both (λ r s. row_eq (list_end r) (list_end s)) (λ r s. all_alike same (items_of r) (items_of s)) (same_pulled row_eq list_end row_eq_same) (all_same same e)
 
--- what is alike one for one is kin one for one
+-- pairwise alike rows are pairwise kin
 all_related : (alike kin : Row → Row → Bool) → ((r s : Row) → alike r s ≡ true → kin r s ≡ true) → (rs ss : List Row) → all_alike alike rs ss ≡ true → all_alike kin rs ss ≡ true
 all_related alike kin e [] [] h = refl
 all_related alike kin e [] (s ∷ ss) h = cc
@@ -189,13 +189,13 @@ list_exact same p = record {
       same_items r s (alike_is same p (items_of r) (items_of s) u.1) (row_eq-is (list_end r) (list_end s) u.0);
 }
 
--- values that are the items of lists, cut at the ends of these lists, are they
+-- values that are the items of lists, divided at the ends of these lists, are these lists
 pub cut_exactly : (from : ℕ) (vs rs : List Row) → are_lists rs ≡ true → drop from vs ≡ joined rs → cut from (numbers (ends from rs)) vs ≡ rs
 cut_exactly from vs rs l h =
     let a : all_alike row_eq (drop from vs) (joined rs) ≡ true = rw h (alike_all row_eq row_eq_same (joined rs)) in
     alike_is (list_alike row_eq) (list_exact row_eq row_eq_exact) (cut from (numbers (ends from rs)) vs) rs (cut_alike row_eq from vs rs l a)
 
--- the ends of lists that are cut at bounds are the bounds, moved
+-- the ends of the lists of bounds are the bounds, shifted
 pub ends_cut : (lower start from here : ℕ) (ns : List ℕ) (end : ℕ) (vs : List Row) → here ≡ start + (from - lower) → lower ≤ from → rises from ns end ≡ true → end ≤ length vs → ends here (cut from ns vs) ≡ shifted lower start ns
 ends_cut lower start from here [] end vs e l h w = refl
 ends_cut lower start from here (n ∷ ns) end vs e l h w =
@@ -217,11 +217,11 @@ last-range m n from ns l =
     let t : take n ns ≡ take m ns ++ take (n - m) (drop m ns) = rw e at (take-add m (n - m) ns) in
     rw t (sym (last-append from (take m ns) (take (n - m) (drop m ns))))
 
--- the bounds m..n rise from the end of list m - 1 to that of list n - 1
+-- the bounds m..n rise from the end of list m - 1 to the end of list n - 1
 pub rises-range : (m n from : ℕ) (ns : List ℕ) (end : ℕ) → m ≤ n → rises from ns end ≡ true → rises (last_or from (take m ns)) (take (n - m) (drop m ns)) (last_or from (take n ns)) ≡ true
 rises-range m n from ns end l h = rw (last-range m n from ns l) at (rises-take (n - m) (last_or from (take m ns)) (drop m ns) end (rises-drop m from ns end h))
 
--- bound i, where it is one of the bounds m..n, lies between the end of list m - 1 and that of list n - 1
+-- bound i, one of the bounds m..n, lies between the end of list m - 1 and the end of list n - 1
 pub bound_between : (m n i k : ℕ) (ns : List ℕ) (end : ℕ) → m ≤ i → i < n → slice_get ns i ≡ Some k → rises 0 ns end ≡ true → (last_or 0 (take m ns) ≤ k) × (k ≤ last_or 0 (take n ns))
 bound_between m n i k ns end l u h r =
     let e : last_or 0 (take (suc i) ns) ≡ k = last_at (suc i) 0 ns k h in
@@ -229,7 +229,7 @@ bound_between m n i k ns end l u h r =
     let b = rises-from (last_or 0 (take (suc i) ns)) (take (n - suc i) (drop (suc i) ns)) (last_or 0 (take n ns)) (rises-range (suc i) n 0 ns end (omega arith) r) in
     (omega arith, omega arith)
 
--- the lists m..n are cut by the bounds m..n
+-- the bounds m..n give the lists m..n
 pub cut-range : (m n from : ℕ) (ns : List ℕ) (vs : List Row) → cut (last_or from (take m ns)) (take n (drop m ns)) vs ≡ take n (drop m (cut from ns vs))
 cut-range m n from ns vs = rw (cut-take, cut-drop) refl
 
@@ -241,7 +241,7 @@ map_drop f (suc n) (x ∷ xs) = map_drop f n xs
 pub shifted-range : (lower start m n : ℕ) (ns : List ℕ) → take n (drop m (shifted lower start ns)) ≡ shifted lower start (take n (drop m ns))
 shifted-range lower start m n ns = rw map_drop (take-map (λ k. number (start + (k - lower))) n (drop m ns))
 
--- list i is cut from the bound before it to its own
+-- list i goes from the bound before it to its own bound
 pub cut_get : (i from : ℕ) (ns : List ℕ) (vs : List Row) (l u : ℕ) → slice_get (from ∷ ns) i ≡ Some l → slice_get ns i ≡ Some u → slice_get (cut from ns vs) i ≡ Some (list (take (u - l) (drop l vs)))
 cut_get i from [] vs l u p q = cc
 cut_get zero from (n ∷ ns) vs l u p q = let e : from ≡ l = cc in let f : n ≡ u = cc in rw (e, f) refl

@@ -1,4 +1,4 @@
--- What lists that are made of an earlier form of their bounds and values keep to.
+-- Laws of lists that are built from an earlier form of their bounds and values.
 use Rattle.std.proofs.Common.{◌≡◌, ℕ, ◌+◌, ◌-◌, ◌<◌, ◌≤◌, Bool, true, false, ◌||◌, List, [], ◌∷◌, length, take, drop, map, refl, sym, ◌∙◌, ap, arith}
 use Rattle.std.proofs.Math.Seq.{take-length}
 use Rattle.std.proofs.lemmas.List.{nil_from_length}
@@ -26,7 +26,7 @@ lists_made b' b t' t {x'} {x} {y'} {y} s g h =
       rows = rw (g.rows, h.rows) refl;
     }
 
--- where lists end, and their items
+-- the ends of lists, and their items
 shifted_none : (ns : List ℕ) → shifted 0 0 ns ≡ map number ns
 shifted_none [] = refl
 shifted_none (n ∷ ns) = let e : 0 + (n - 0) ≡ n = omega arith in rw (e, shifted_none ns) refl
@@ -51,7 +51,7 @@ no_parts b t {x} {y} s e =
     let r : rises 0 (numbers []) (length (t.rows y)) ≡ true = rw z at p.rise in
     (z, nil_from_length (t.rows y) (sym (eqb-true 0 (length (t.rows y)) r)))
 
--- A cause that is true of the bounds is true of the lists: their ends are the old bounds, which rise.
+-- A true cause at the bounds is a true cause at the lists: their ends are the old bounds, which rise.
 pub lists_not_bounds : (b' b t' t : Format) {x' y' : Content} (error : GrowError) → AreNumbers b' → IsSound (lists_format b' t') (both x' y') → IsTrueOfNew error b (b'.rows x') → IsTrueOfNew error (lists_format b t) (cut 0 (numbers (b'.rows x')) (t'.rows y'))
 lists_not_bounds b' b t' t {x'} {y'} error m s h = λ c u e.
     let w = two_form (lists_two b t) c u in

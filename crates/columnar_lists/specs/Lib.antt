@@ -10,3 +10,5 @@ pub mod WalksLeft
 pub mod WalkLaws
 pub mod MayLists
 pub mod MayListLaws
+pub mod Each
+pub mod EachLaws

@@ -1,4 +1,4 @@
--- What the format of lists keeps to, and what growth, a refusal and a cut of its parts leave of it.
+-- The laws of the format of lists, and what growth, a refusal and a cut of its parts leave.
 use Rattle.std.proofs.Common.{◌≡◌, ℕ, zero, suc, ◌+◌, ◌%◌, ◌^◌, ◌-◌, ◌<◌, ◌≤◌, Bool, true, false, ◌||◌, List, [], ◌∷◌, ◌++◌, length, take, drop, refl, sym, ◌∙◌, ap, arith, length-append, length-take, length-drop, append-nil}
 use Rattle.std.proofs.Math.Seq.{drop-append_seam, take-length}
 use Rattle.std.specs.Prelude.{slice_get, Some}
@@ -20,13 +20,13 @@ use Rattle.columnar_core.specs.BoundLaws.{last_at, number_get}
 use Rattle.columnar_lists.specs.Lists.{lists_format, lists_rise, lists_rows, lists_refuses, joined, cut, end_at, ends}
 use Rattle.columnar_lists.specs.CutLaws.{rises-last, rises-from, rises-append, rises-take, last-take, length-cut, cut-take, cut-append, cut-more, are_lists, cut_lists, joined-cut, joined-append, ends-append, ends_rise, cut_alike, cut_exactly, lists_same, lists_related, ends_cut, rises-range, cut-range, shifted-range, rises_get, bound_between}
 
--- what the soundness of lists is made of
+-- the soundness of lists
 pub record SoundLists (b t : Format) (x y : Content) : Type 0 where
   pub bounds : IsSound b x
   pub values : IsSound t y
   pub rise : rises 0 (numbers (b.rows x)) (length (t.rows y)) ≡ true
 
--- both parts' rules, and that the bounds rise to the number of the values
+-- the rules of both parts, then that the bounds rise to the number of values
 pub lists_two : (b t : Format) → TwoParts (lists_format b t) b t (lists_rise b t) 11
 lists_two b t = record { count = refl; sizes = refl; aligns = refl; build = λ ss. refl; broken = λ c. refl }
 
@@ -46,7 +46,7 @@ lists_within b t x y i l = rw (length-lists b t x y) at l
 pub lists_within_le : (b t : Format) (x y : Content) (i : ℕ) → i ≤ length (lists_rows b t (both x y)) → i ≤ length (b.rows x)
 lists_within_le b t x y i l = rw (length-lists b t x y) at l
 
--- all lists end where the values do
+-- the last list ends where the values end
 pub end_of_all : (b t : Format) {x y : Content} → SoundLists b t x y → end_at b x (length (lists_rows b t (both x y))) ≡ length (t.rows y)
 end_of_all b t {x} {y} p =
     let k : take (length (cut 0 (numbers (b.rows x)) (t.rows y))) (numbers (b.rows x)) ≡ numbers (b.rows x) = rw (length-cut 0 (numbers (b.rows x)) (t.rows y)) (take-length (numbers (b.rows x))) in
@@ -64,7 +64,7 @@ lists_full b t lb lt (slice bs) s = cc
 lists_full b t lb lt (part l u x) s = cc
 lists_full b t lb lt (plain rs) s = cc
 
--- lists with more after them are refused where either part refuses
+-- lists stay refused if more lists follow
 either : (a b c d : Bool) → (a ≡ true → c ≡ true) → (b ≡ true → d ≡ true) → (a || b) ≡ true → (c || d) ≡ true
 either true b c d p q h = rw (p refl) refl
 either false true c d p q h = or_right c d (q refl)
@@ -91,7 +91,7 @@ lists_lawful b t lb lt = record {
 pub lists_storable : (b t : Format) → IsStorable b → IsStorable t → IsStorable (lists_format b t)
 lists_storable b t p q = two_storable (lists_two b t) (omega arith) p q
 
--- extents and limits are kept where both parts keep them
+-- extents and limits stay if both parts keep theirs
 pub lists_kept : (b t : Format) {x x' y y' : Content} (ms : List ℕ) → SoundLists b t x y → numbers (b.rows x') ≡ numbers (b.rows x) ++ ms → Keeps b x x' (length (b.rows x)) → Keeps t y y' (length (t.rows y)) → Keeps (lists_format b t) (both x y) (both x' y') (length (cut 0 (numbers (b.rows x)) (t.rows y)))
 lists_kept b t {x} {x'} {y} {y'} ms p e g h =
     let k : length (numbers (b.rows x)) ≡ length (b.rows x) = length-map (b.rows x) number_of in
@@ -119,7 +119,7 @@ lists_stayed b t {x} {x'} {y} {y'} s g h =
       kept = lists_kept b t [] p (rw g.rows (sym (append-nil (numbers (b.rows x))))) g.kept h.kept;
     }
 
--- the values grew by the items of lists, and the bounds by the ends of these lists
+-- the values grew by the items of lists, the bounds by their ends
 pub lists_grew : (b t : Format) {x x' y y' : Content} {us : List Row} (rs : List Row) → IsSound (lists_format b t) (both x y) → length us ≡ length (joined rs) → Grew t y y' us → Grew b x x' (ends (length (t.rows y)) rs) → Grew (lists_format b t) (both x y) (both x' y') (cut (length (t.rows y)) (numbers (ends (length (t.rows y)) rs)) (t.rows y'))
 lists_grew b t {x} {x'} {y} {y'} {us} rs s n g h =
     let p = lists_parts b t s in
@@ -135,14 +135,14 @@ lists_grew b t {x} {x'} {y} {y'} {us} rs s n g h =
       kept = lists_kept b t (numbers (ends (length (t.rows y)) rs)) p e h.kept g.kept;
     }
 
--- What lists refuse in all: the bounds the ends from the last one on, or the values the items.
+-- Lists are refused if and only if the bounds refuse the ends from the last one on, or the values refuse the items.
 lists_refuse_more : (b t : Format) (e : Excess) {x y : Content} → SoundLists b t x y → (rs : List Row) → refuses_more (lists_format b t) e (both x y) rs ≡ (refuses_more b e x (ends (length (t.rows y)) rs) || refuses_more t e y (joined rs))
 lists_refuse_more b t e {x} {y} p rs =
     let n = length-lists b t x y in
     let l = end_of_all b t p in
     rw (l, n) refl
 
--- the values took the items of lists, and the bounds the ends of these lists
+-- the values took the items of lists, the bounds their ends
 pub lists_took : (b t : Format) {x x' y y' : Content} (rs : List Row) → IsBounds b → IsSound (lists_format b t) (both x y) → are_lists rs ≡ true → Took t y y' (joined rs) → Took b x x' (ends (length (t.rows y)) rs) → Took (lists_format b t) (both x y) (both x' y') rs
 lists_took b t {x} {x'} {y} {y'} rs nb s l g h =
     let n : length g.fresh ≡ length (joined rs) = alike_length t.alike g.fresh (joined rs) g.alike in
@@ -170,7 +170,7 @@ lists_refused_values b t {x} {x'} {y} {y'} {error} rs s g h = record {
   cause = true_from t (lists_format b t) y (both x y) (joined rs) rs error (λ e k. rw (lists_refuse_more b t e (lists_parts b t s) rs) (either false (refuses_more t e y (joined rs)) (refuses_more b e x (ends (length (t.rows y)) rs)) (refuses_more t e y (joined rs)) (λ z. cc) (λ z. z) k)) h.cause;
 }
 
--- the bounds refused the ends, and the values are as they were
+-- the bounds refused the ends, and the values stayed
 pub lists_refused_bounds : (b t : Format) {x x' y y' : Content} {error : GrowError} (rs : List Row) → IsSound (lists_format b t) (both x y) → Refused b x x' (ends (length (t.rows y)) rs) error → Stayed t y y' → Refused (lists_format b t) (both x y) (both x' y') rs error
 lists_refused_bounds b t {x} {x'} {y} {y'} {error} rs s h st = record {
   stayed = lists_stayed b t s h.stayed st;
@@ -183,7 +183,7 @@ take_twice (suc m) zero xs l = absurd (omega arith)
 take_twice (suc m) (suc n) [] l = refl
 take_twice (suc m) (suc n) (x ∷ xs) l = ap (λ t. x ∷ t) (take_twice m n xs (omega arith))
 
--- the bounds were cut at n, and the values at the end of list n - 1
+-- the bounds were cut to n, the values to the end of list n - 1
 pub lists_cut : (b t : Format) {x x' y y' : Content} {n : ℕ} → IsSound (lists_format b t) (both x y) → WasCut b x x' n → WasCut t y y' (end_at b x n) → WasCut (lists_format b t) (both x y) (both x' y') n
 lists_cut b t {x} {x'} {y} {y'} {n} s g h =
     let p = lists_parts b t s in
@@ -219,9 +219,15 @@ lists_cut b t {x} {x'} {y} {y'} {n} s g h =
       };
     }
 
--- the last bound is the number of the values
+-- the last bound is the number of values
 pub lists_last : (b t : Format) {x y : Content} (n : ℕ) → IsSound (lists_format b t) (both x y) → n ≡ length (t.rows y) → last_or 0 (numbers (b.rows x)) ≡ n
 lists_last b t {x} {y} n s e = rises-last 0 (numbers (b.rows x)) (length (t.rows y)) (lists_parts b t s).rise ∙ sym e
+
+-- the values are the items of all lists
+pub lists_joined : (b t : Format) {x y : Content} → IsSound (lists_format b t) (both x y) → t.rows y ≡ joined (lists_rows b t (both x y))
+lists_joined b t {x} {y} s =
+    let z : length (t.rows y) - 0 ≡ length (t.rows y) = omega arith in
+    sym (joined-cut 0 (numbers (b.rows x)) (length (t.rows y)) (t.rows y) (lists_parts b t s).rise ∙ (ap (λ k. take k (t.rows y)) z ∙ take-length (t.rows y)))
 
 pub same_lists : {b b' t t' : Format} → b ≡ b' → t ≡ t' → lists_format b t ≡ lists_format b' t'
 same_lists {b} {b'} {t} {t'} p q = rw (p, q) refl
@@ -243,7 +249,7 @@ no_lists b t {x} {y} s e =
     let z : end_at b x 0 ≡ length (t.rows y) = rw n at l in
     no_rows (t.rows y) (sym z)
 
--- the items of lists, and their ends, in a column without lists: these lists
+-- the items of lists and their ends, in a column without lists, are these lists
 pub lists_front : (b t : Format) {x x' y y' : Content} (rs : List Row) → IsBounds b → IsSound (lists_format b t) (both x y) → are_lists rs ≡ true → Took t y y' (joined rs) → Took b x x' (ends (length (t.rows y)) rs) → lists_rows b t (both x y) ≡ [] → t.rows y' ≡ joined rs → lists_rows b t (both x' y') ≡ rs
 lists_front b t {x} {x'} {y} {y'} rs nb s l g h e f =
     let n : length g.fresh ≡ length (joined rs) = alike_length t.alike g.fresh (joined rs) g.alike in
@@ -252,13 +258,13 @@ lists_front b t {x} {x'} {y} {y'} rs nb s l g h e f =
     let c : cut 0 (numbers (ends 0 rs)) (t.rows y') ≡ rs = cut_exactly 0 (t.rows y') rs l f in
     k.rows ∙ (rw (e, z) c)
 
--- the cut at n, where e is the end of list n - 1
+-- a cut to n lists, where list n - 1 ends at e
 pub lists_cut_at : (b t : Format) {x x' y y' : Content} {n e : ℕ} → IsSound (lists_format b t) (both x y) → slice_get (0 ∷ numbers (b.rows x)) n ≡ Some e → WasCut b x x' n → WasCut t y y' e → WasCut (lists_format b t) (both x y) (both x' y') n
 lists_cut_at b t {x} {x'} {y} {y'} {n} {e} s p g h =
     let k = last_at n 0 (numbers (b.rows x)) e p in
     lists_cut b t s g (rw (← k) at h)
 
--- the end of list n - 1 is within the values
+-- list n - 1 ends within the values
 pub end_within : (b t : Format) {x y : Content} (n : ℕ) {e : ℕ} → IsSound (lists_format b t) (both x y) → slice_get (0 ∷ numbers (b.rows x)) n ≡ Some e → e ≤ length (t.rows y)
 end_within b t {x} {y} n {e} s p =
     let q = lists_parts b t s in
@@ -266,7 +272,7 @@ end_within b t {x} {y} n {e} s p =
     let m = last-take n 0 (numbers (b.rows x)) (length (t.rows y)) q.rise in
     rw k at m
 
--- list i may be read
+-- list i can be read
 pub piece_sound : (b t : Format) {x y : Content} (i : ℕ) {l u : ℕ} → IsSound (lists_format b t) (both x y) → slice_get (0 ∷ numbers (b.rows x)) i ≡ Some l → slice_get (b.rows x) i ≡ Some (number u) → IsSound (part_format t) (part l u y)
 piece_sound b t {x} {y} i {l} {u} s p h =
     let q = lists_parts b t s in
@@ -275,12 +281,12 @@ piece_sound b t {x} {y} i {l} {u} s p h =
 
 -- one list
 
--- a number of 64 bits, as it is pushed
+-- a 64-bit number, as it is pushed
 
 one_joined : (us : List Row) → joined (list us ∷ []) ≡ us
 one_joined us = append-nil (items_of (list us)) ∙ items_of-list us
 
-one_ends : (from end : ℕ) (us : List Row) → end ≡ from + length us → ends from (list us ∷ []) ≡ number end ∷ []
+pub one_ends : (from end : ℕ) (us : List Row) → end ≡ from + length us → ends from (list us ∷ []) ≡ number end ∷ []
 one_ends from end us e =
     let k : from + length (items_of (list us)) ≡ end = omega (arith, e, ap length (items_of-list us)) in
     rw k refl
@@ -291,7 +297,7 @@ one_list us = and_from _ _ (is-row_eq (list_end (list us)) empty (end_of-list us
 pub took_length : {f : Format} {x y : Content} {us : List Row} → Took f x y us → length (f.rows y) ≡ length (f.rows x) + length us
 took_length {f} {x} {y} {us} g = ap length g.grew.rows ∙ (length-append (f.rows x) g.fresh ∙ omega (arith, alike_length f.alike g.fresh us g.alike))
 
--- the values took the items of a list, and the bounds their new number
+-- the values took the items of a list, the bounds their new number
 pub list_took : (b t : Format) {x x' y y' : Content} {us : List Row} → IsBounds b → IsSound (lists_format b t) (both x y) → Took t y y' us → Took b x x' (number (length (t.rows y')) ∷ []) → Took (lists_format b t) (both x y) (both x' y') (list us ∷ [])
 list_took b t {x} {x'} {y} {y'} {us} nb s g h =
     lists_took b t (list us ∷ []) nb s (one_list us) (rw (one_joined us) g) (rw (one_ends (length (t.rows y)) (length (t.rows y')) us (took_length g)) h)
@@ -299,14 +305,14 @@ list_took b t {x} {x'} {y} {y'} {us} nb s g h =
 pub list_refused_values : (b t : Format) {x x' y y' : Content} {us : List Row} {error : GrowError} → IsSound (lists_format b t) (both x y) → Stayed b x x' → Refused t y y' us error → Refused (lists_format b t) (both x y) (both x' y') (list us ∷ []) error
 list_refused_values b t {x} {x'} {y} {y'} {us} s g h = lists_refused_values b t (list us ∷ []) s g (rw (one_joined us) h)
 
--- the bounds refused the end of the items, which were taken back
+-- the bounds refused the end of the items, and these were removed
 pub list_refused_bounds : (b t : Format) {x x' y mid y' : Content} {us : List Row} {error : GrowError} → IsSound (lists_format b t) (both x y) → Took t y mid us → Refused b x x' (number (length (t.rows mid)) ∷ []) error → Stayed t y y' → Refused (lists_format b t) (both x y) (both x' y') (list us ∷ []) error
 list_refused_bounds b t {x} {x'} {y} {mid} {y'} {us} s g h st =
     lists_refused_bounds b t (list us ∷ []) s (rw (one_ends (length (t.rows y)) (length (t.rows mid)) us (took_length g)) h) st
 
 -- a range of the lists of a view
 
--- what a range of lists is: the values from `lower` to `upper`, and the bounds between, moved
+-- a range of lists: the values from `lower` to `upper`, and the bounds between, shifted
 pub record RangeOf (b t : Format) (x y : Content) (start end lower upper : ℕ) : Type 0 where
   pub lists : are_lists (take (end - start) (drop start (lists_rows b t (both x y)))) ≡ true
   pub items : joined (take (end - start) (drop start (lists_rows b t (both x y)))) ≡ take (upper - lower) (drop lower (t.rows y))
@@ -332,16 +338,16 @@ list_range b t {x} {y} start end {lower} {upper} s o p q =
       within = w;
     }
 
--- the bounds of a range may be moved: the values that were copied fit after the old ones
+-- the bounds of a range can be shifted: the copied values fit after the old ones
 pub range_held : {b t : Format} {x y : Content} {start end lower upper : ℕ} → RangeOf b t x y start end lower upper → (before all : ℕ) → all ≡ before + (upper - lower) → all < 2 ^ 64 → (i n : ℕ) → start ≤ i → i < end → slice_get (numbers (b.rows x)) i ≡ Some n → (lower ≤ n) × (before + (n - lower) < 2 ^ 64)
 range_held r before all e l i n a d h = let p = r.between i n a d h in (p.0, omega (arith, e, p.0, p.1))
 
--- how many values were copied
+-- the number of copied values
 pub range_length : {b t : Format} {x y : Content} {start end lower upper : ℕ} → RangeOf b t x y start end lower upper → length (take (upper - lower) (drop lower (t.rows y))) ≡ upper - lower
 range_length {b} {t} {x} {y} {start} {end} {lower} {upper} r = length-take (upper - lower) (drop lower (t.rows y)) ∙ omega (arith, length-drop lower (t.rows y), r.within)
 
--- The values of the range were copied, and then its bounds, moved to where the old values end; a front, copied into
--- a column without lists, is there as it was.
+-- The values of the range were copied, then its bounds, shifted to the end of the old values. A front, copied into a
+-- column without lists, has equal rows.
 
 first_is : (ns : List ℕ) (i lower : ℕ) → slice_get (0 ∷ ns) i ≡ Some lower → i ≡ 0 → lower ≡ 0
 first_is ns zero lower h e = cc
@@ -357,6 +363,6 @@ range_copied b t {w} {v} {x} {x'} {y} {y'} {p} {q} {start} {end} {lower} {upper}
 pub range_refused_values : (b t : Format) {w v : Format} {x x' y y' p q : Content} {start end lower upper : ℕ} {error : GrowError} → IsSound (lists_format b t) (both x y) → RangeOf w v p q start end lower upper → Stayed b x x' → Refused t y y' (take (upper - lower) (drop lower (v.rows q))) error → Refused (lists_format b t) (both x y) (both x' y') (take (end - start) (drop start (lists_rows w v (both p q)))) error
 range_refused_values b t {w} {v} {p = p} {q = q} {start = start} {end = end} s r g h = lists_refused_values b t (take (end - start) (drop start (lists_rows w v (both p q)))) s g (rw r.items h)
 
--- a bound of the range was refused, and the values were taken back
+-- a bound of the range was refused, and the values were removed
 pub range_refused_bounds : (b t : Format) {w v : Format} {x x' y y' p q : Content} {start end lower upper : ℕ} {error : GrowError} → IsSound (lists_format b t) (both x y) → RangeOf w v p q start end lower upper → Refused b x x' (take (end - start) (drop start (shifted lower (length (t.rows y)) (numbers (w.rows p))))) error → Stayed t y y' → Refused (lists_format b t) (both x y) (both x' y') (take (end - start) (drop start (lists_rows w v (both p q)))) error
 range_refused_bounds b t {w} {v} {x = x} {y = y} {p = p} {q = q} {start = start} {end = end} s r h st = lists_refused_bounds b t (take (end - start) (drop start (lists_rows w v (both p q)))) s (rw (r.ended (length (t.rows y))) h) st

@@ -1,4 +1,4 @@
--- What columns of lists refuse, their limit denies.
+-- Their limit denies what columns of lists refuse.
 use Rattle.std.proofs.Common.{◌≡◌, ℕ, ◌+◌, ◌-◌, true, List, [], ◌∷◌, ◌++◌, length, take, map, refl, sym, ◌∙◌, ap, subst, arith, ◌⊎◌, inl, inr, ⊎_elim}
 use Rattle.std.proofs.Math.Seq.{take-length}
 use Rattle.std.proofs.lemmas.Bool.{or_cases, false≢true}
@@ -14,7 +14,7 @@ use Rattle.columnar_lists.specs.ListLaws.{SoundLists, lists_parts, length-lists,
 use Rattle.columnar_lists.specs.Lists.{cut, joined, ends, lists_format, lists_rows}
 use Rattle.columnar_lists.specs.MayLists.{lists_limit}
 
--- all items of the lists that bounds cut are the values
+-- the items of all lists of bounds are the values
 all_joined : (ns : List ℕ) (vs : List Row) → rises 0 ns (length vs) ≡ true → joined (cut 0 ns vs) ≡ vs
 all_joined ns vs h = let z : length vs - 0 ≡ length vs = omega arith in joined-cut 0 ns (length vs) vs h ∙ (ap (λ k. take k vs) z ∙ take-length vs)
 
@@ -22,7 +22,7 @@ unmoved : (ns : List ℕ) → shifted 0 0 ns ≡ map number ns
 unmoved [] = refl
 unmoved (n ∷ ns) = let e : 0 + (n - 0) ≡ n = omega arith in let r = unmoved ns in rw (e, r) refl
 
--- and they end at the bounds
+-- the ends of all lists of bounds are the bounds
 all_ends : (ns : List ℕ) (vs : List Row) → rises 0 ns (length vs) ≡ true → ends 0 (cut 0 ns vs) ≡ map number ns
 all_ends ns vs h = ends_cut 0 0 0 0 ns (length vs) vs refl (omega arith) h (omega arith) ∙ unmoved ns
 
@@ -52,17 +52,17 @@ lists_denied b t numbered lb lt e (plain us) rs s h = absurd (false≢true h)
 pub lists_limited : (b t : Format) {m n : Limit} → AreNumbers b → IsLimited b m → IsLimited t n → IsLimited (lists_format b t) (lists_limit m n)
 lists_limited b t numbered lb lt = record { denied = lists_denied b t numbered lb lt }
 
--- the items of some of the lists
+-- the items of a subsequence of lists
 pub among_joined : (rs ss : List Row) → AreAmong rs ss → AreAmong (joined rs) (joined ss)
 among_joined = among_made items_of joined (λ r rs. refl) refl
 
--- the bounds that lists stand on have numbers as rows
+-- the rows of 64-bit bounds are numbers
 pub words_numbered : AreNumbers words_format
 words_numbered = words_bounds.are_numbers
 
--- with more lists too
+-- with further lists
 
--- What it denies of the ends of lists, it denies of the ends with other lists before, between and after them.
+-- What it denies of the ends of lists, it denies of their ends with other lists before, between and after them.
 pub record IsSteadyOnEnds (limit : Limit) : Type 0 where
   pub more : (e : Excess) (rs ss : List Row) → AreAmong rs ss → limit e (ends 0 rs) → limit e (ends 0 ss)
 

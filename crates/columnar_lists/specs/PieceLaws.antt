@@ -1,4 +1,4 @@
--- Bounds that rise to the number of the values cut them, in one way only, and the rows of lists are that cut.
+-- Bounds that rise to the number of values divide them in only one way, and the rows of lists are these pieces.
 use Rattle.std.proofs.Common.{◌≡◌, ℕ, zero, suc, ◌+◌, ◌-◌, ◌≤◌, true, List, [], ◌∷◌, ◌++◌, length, take, drop, map, refl, sym, ◌∙◌, ap, arith, length-append, length-take, length-drop}
 use Rattle.std.proofs.Math.Seq.{take-append_seam, drop-append_seam}
 use Rattle.std.proofs.lemmas.List.{take-append-drop, drop-drop}
@@ -12,7 +12,7 @@ use Rattle.columnar_lists.specs.CutLaws.{rises-from}
 use Rattle.columnar_lists.specs.Lists.{cut, lists_format}
 use Rattle.columnar_lists.specs.ListLaws.{lists_parts}
 
--- the pieces that the bounds cut, the first from `from` on
+-- the pieces into which the bounds divide the values, the first from `from` on
 abbrev pieces_from : ℕ → List ℕ → List Row → List (List Row)
 pieces_from from [] values = []
 pieces_from from (n ∷ ns) values = take (n - from) (drop from values) ∷ pieces_from n ns values
@@ -56,7 +56,7 @@ running_rises from (xs ∷ rest) =
     let e : from + length (xs ++ concatenation rest) ≡ from + length xs + length (concatenation rest) = omega (arith, length-append xs (concatenation rest)) in
     and_from _ _ (le-leb from (from + length xs) (omega arith)) (rw e (running_rises (from + length xs) rest))
 
--- Where there is a cut, the bounds rise to the number of the values.
+-- If bounds divide the values, they rise to the number of values.
 cut_rises : (ns : List ℕ) (values : List Row) (lists : List (List Row)) → IsCut ns values lists → rises 0 ns (length values) ≡ true
 cut_rises ns values lists c =
     let e : 0 + length (concatenation lists) ≡ length (concatenation lists) = omega arith in

@@ -1,10 +1,10 @@
--- A walk over lists, in order.
+-- Iterating over lists in order.
 use Rattle.std.specs.Prelude.{List, ◌∷◌, ◌≡◌, ◌≤◌, length, slice_get, Some}
 use Rattle.columnar_base.specs.Row.{Row}
 use Rattle.columnar_core.specs.Bounds.{numbers}
 use Rattle.columnar_lists.specs.declared.walk.Ranges.{Ranges}
 
--- the walk stands before one of the lists that these offsets bound, or after the last
+-- the iteration is before one of the lists of these bounds, or after the last
 pub record WalkStands (rs : List Row) (place : Ranges) : Type 0 where
   pub count : place.count ≡ length rs
   pub within : place.index ≤ length rs

@@ -1,5 +1,5 @@
-//! What columns of lists do with their two parts, the bounds and the values. A string is a list of bytes, so that a
-//! column of strings does the same.
+//! Functions on the two parts of a column of lists, the bounds and the values. A string is a list of bytes, so columns
+//! of strings use them too.
 ghost use Rattle.std.specs.Prelude.{◌≡◌, ℕ, ◌+◌, ◌-◌, ◌*◌, ◌^◌, ◌<◌, ◌≤◌, ◌∷◌, [], length, map, All, slice_get, Some, take, drop, IsTrue, OnOk, IfErr};
 ghost use Rattle.columnar_base.specs.Row.{list, number};
 ghost use Rattle.columnar_base.specs.Format.{both, bytes_held, first, moved, representable, IsSound};
@@ -17,7 +17,7 @@ use columnar_core::offsets::{ExtendShifted, Offsets, PushAfter, StoredOffsets};
 use columnar_core::two::check_two;
 use std::ops::Range;
 
-// Where list `index` begins.
+// Returns where list `index` starts.
 fn start_of<BC: Offsets>(bounds: &BC, index: usize) -> u64
     requires sound { IsSound BC.format (BC.content bounds.now) }
     requires in_range { index ≤ length (BC.format.rows (BC.content bounds.now)) }
@@ -30,7 +30,10 @@ fn start_of<BC: Offsets>(bounds: &BC, index: usize) -> u64
     }
 }
 
-/// Where list `index` begins, and where it ends.
+/// Returns where list `index` starts, and where it ends.
+///
+/// # Requires
+/// Well-formed bounds, and `index` below their length.
 pub fn range_of<BC: Offsets>(bounds: &BC, index: usize) -> (usize, usize)
     requires sound { IsSound BC.format (BC.content bounds.now) }
     requires in_range { index < length (BC.format.rows (BC.content bounds.now)) }
@@ -42,7 +45,10 @@ pub fn range_of<BC: Offsets>(bounds: &BC, index: usize) -> (usize, usize)
     (lower as usize, upper as usize)
 }
 
-/// Keeps the first `n` lists. Needs no memory.
+/// Keeps the first `n` lists; allocates nothing.
+///
+/// # Requires
+/// Well-formed parts with at least `n` lists.
 pub fn cut_lists<TC: Truncate, BC: Truncate + Offsets>(bounds: &mut BC, values: &mut TC, n: usize)
     requires sound { IsSound (lists_format BC.format TC.format) (both (BC.content bounds.old) (TC.content values.old)) }
     requires in_range { n ≤ length ((lists_format BC.format TC.format).rows (both (BC.content bounds.old) (TC.content values.old))) }
@@ -53,7 +59,13 @@ pub fn cut_lists<TC: Truncate, BC: Truncate + Offsets>(bounds: &mut BC, values: 
     bounds.truncate(n);
 }
 
-/// Makes room in both parts; the lists stay.
+/// Reserves capacity in both parts. The lists stay.
+///
+/// # Requires
+/// Well-formed parts.
+///
+/// # Errors
+/// `Memory`, and no other error.
 pub fn reserve_lists<TC: Reserve, BC: Reserve>(
     bounds: &mut BC,
     values: &mut TC,
@@ -67,7 +79,7 @@ pub fn reserve_lists<TC: Reserve, BC: Reserve>(
     values.reserve_room(room.1)
 }
 
-// Ends a list whose items stand after the first `before` values; where the bounds refuse its end, these are taken back.
+// Ends a list whose items follow the first `before` values. If the bounds refuse its end, it removes these items.
 #[inline(always)]
 pub(crate) fn end_list<TC: Truncate, BC: PushAfter>(
     bounds: &mut BC,
@@ -91,7 +103,13 @@ pub(crate) fn end_list<TC: Truncate, BC: PushAfter>(
     }
 }
 
-/// Adds one list, of rows alike to the items, or is refused and leaves the rows and the lengths of both parts.
+/// Appends one list, of rows that represent the items.
+///
+/// # Requires
+/// Well-formed parts, and valid items.
+///
+/// # Errors
+/// As `Push::push`. The rows and the lengths of both parts stay.
 #[inline(always)]
 pub fn push_list<T: Item, TC: Truncate + PushRef<T>, BC: Offsets + PushAfter>(
     bounds: &mut BC,
@@ -108,10 +126,16 @@ pub fn push_list<T: Item, TC: Truncate + PushRef<T>, BC: Offsets + PushAfter>(
     end_list(bounds, values, before)
 }
 
-/// As `copy_lists`. The turns over the bounds are added to the tally: at most one for each list. Those of what a column
-/// copies at once are not: the values, and bounds in unary, which are bits.
+/// Does what `copy_lists` does. Counts its steps over bounds in the tally: at most one for each list. Steps of bulk
+/// copies are not counted: of values, and of bounds in unary, which are bits.
+///
+/// # Requires
+/// As `copy_lists`.
+///
+/// # Errors
+/// As `copy_lists`.
 pub fn copy_lists_tallied<
-    V: Index + Copy,
+    V: Column + Copy,
     W: Offsets,
     TC: ExtendFrom<V>,
     BC: ExtendShifted<W> + Offsets,
@@ -136,7 +160,7 @@ pub fn copy_lists_tallied<
     let lower = start_of(view, range.start);
     let upper = start_of(view, range.end);
     values.extend_from_self(items, lower as usize..upper as usize)?;
-    // All values have a number of 64 bits, so the moved bounds do.
+    // 64 bits can count the values, so they can hold the shifted bounds.
     let _end = values.len();
     match bounds.extend_shifted_tallied(view, range, lower, before, tally) {
         Ok(()) => Ok(()),
@@ -147,10 +171,15 @@ pub fn copy_lists_tallied<
     }
 }
 
-/// Adds lists alike to those of a view, from bounds `view` and values `items`, or none of them: the items at once, and
-/// then where each list ends. A front, copied where there are no lists, is there as it was; a refusal leaves the rows
-/// and the lengths of both parts.
-pub fn copy_lists<V: Index + Copy, W: Offsets, TC: ExtendFrom<V>, BC: ExtendShifted<W> + Offsets>(
+/// Appends lists that represent those of a view with bounds `view` and values `items`, or none. Copies the items at
+/// once, then the end of each list. A front of the view, copied into an empty column, has equal rows.
+///
+/// # Requires
+/// Well-formed parts and view, and a range of the view's lists.
+///
+/// # Errors
+/// As `ExtendFrom::extend_from_self`. The rows and the lengths of both parts stay.
+pub fn copy_lists<V: Column + Copy, W: Offsets, TC: ExtendFrom<V>, BC: ExtendShifted<W> + Offsets>(
     bounds: &mut BC,
     values: &mut TC,
     view: &W,
@@ -167,8 +196,13 @@ pub fn copy_lists<V: Index + Copy, W: Offsets, TC: ExtendFrom<V>, BC: ExtendShif
     copy_lists_tallied(bounds, values, view, items, range, &mut Tally::new())
 }
 
-/// Which rule do bounds and values break first, as lists? Slices are counted from `from` on; the turns that it takes
-/// are added to the tally.
+/// Validates bounds and values as lists, with slices counted from `from` on. Counts its steps in the tally.
+///
+/// # Requires
+/// A representable type, and slice numbers below 2^64.
+///
+/// # Errors
+/// The first broken rule.
 pub fn check_lists<TC: Check + Len, BC: Check + StoredOffsets + Offsets, L>(
     bounds: &BC,
     values: &TC,

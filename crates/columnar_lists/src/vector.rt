@@ -1,10 +1,10 @@
-//! Lists of rows: their items one after another in one column, and where each list ends in another.
+//! Lists of rows: the items of all lists in one column, and the end of each list in another.
 ghost use Rattle.std.specs.Prelude.{◌≡◌, ◌∷◌, ◌<◌, length, slice_get, Some};
 ghost use Rattle.columnar_base.specs.Row.{number};
 ghost use Rattle.columnar_base.specs.Format.{both, IsSound};
 ghost use Rattle.columnar_base.specs.TwoPartsLaws.{two_counted};
 ghost use Rattle.columnar_core.specs.Bounds.{numbers};
-ghost use Rattle.columnar_lists.specs.Lists.{lists_format};
+ghost use Rattle.columnar_lists.specs.Lists.{joined, lists_format};
 ghost use Rattle.columnar_lists.specs.ListLaws.{same_lists, lists_lawful, lists_storable};
 
 mod earlier;
@@ -27,11 +27,12 @@ use columnar_core::two::{byte_slice_of_two, judge_two, load_two, sizes_of_two, s
 use std::alloc::Global;
 use std::ops::Range;
 
-/// A column of lists. List i has the values from bound i - 1, or from 0 where there is none, up to bound i; it is
-/// well formed where the bounds never fall and the last one is the number of the values, 0 where there is none.
+/// A column of lists. List i has the values from bound i - 1 (0 for the first list) to bound i. The column is
+/// well-formed if its parts are, the bounds never decrease, and the last one (0 if there is none) is the number of
+/// values.
 #[derive(Clone, Copy, PartialEq, Drop)]
 pub struct Vecs<TC, BC = Vec<u64>> {
-    /// Where each list ends.
+    /// The end of each list.
     pub bounds: BC,
     /// The items of all lists.
     pub values: TC,
@@ -52,7 +53,10 @@ impl<TC: Column, BC: Len> Len for Vecs<TC, BC> {
 impl<TC: Index + Copy, BC: Offsets> Index for Vecs<TC, BC> {
     type Ref = Slice<TC>;
 
-    /// List `index`: the values from where the list before it ends up to its own end.
+    /// Returns list `index`: the values from the end of the list before it to its own end.
+    ///
+    /// # Requires
+    /// A well-formed column, and `index` below its length.
     fn get(&self, index: usize) -> Slice<TC>
         requires sound { IsSound (lists_format BC.format TC.format) (both (BC.content self.now.bounds) (TC.content self.now.values)) }
         requires in_range { index < length ((lists_format BC.format TC.format).rows (both (BC.content self.now.bounds) (TC.content self.now.values))) }
@@ -77,7 +81,10 @@ where
 {
     type Ref = Slice<&'x TC>;
 
-    /// List `index`: the values from where the list before it ends up to its own end.
+    /// Returns list `index`: the values from the end of the list before it to its own end.
+    ///
+    /// # Requires
+    /// A well-formed column, and `index` below its length.
     fn get(&self, index: usize) -> Slice<&'x TC>
         requires sound { IsSound (lists_format BC.format TC.format) (both (BC.content self.now.now.bounds) (TC.content self.now.now.values)) }
         requires in_range { index < length ((lists_format BC.format TC.format).rows (both (BC.content self.now.now.bounds) (TC.content self.now.now.values))) }
@@ -97,10 +104,29 @@ where
     }
 }
 
+impl<TC: Column, BC: Column + Drop> Vecs<TC, BC> {
+    /// Returns the column of the items: those of all lists, one list after another.
+    ///
+    /// # Requires
+    /// A well-formed column.
+    pub fn into_values(self) -> TC
+        requires { IsSound (lists_format BC.format TC.format) (both (BC.content self.bounds) (TC.content self.values)) }
+        ensures sound { IsSound TC.format (TC.content result) }
+        ensures rows { TC.format.rows (TC.content result) ≡ joined ((lists_format BC.format TC.format).rows (both (BC.content self.bounds) (TC.content self.values))) }
+        ensures values { result ≡ self.values }
+    {
+        let Vecs { bounds: _, values } = self;
+        values
+    }
+}
+
 impl<TC: Column, BC: Offsets> Vecs<TC, BC> {
     ghost use Rattle.columnar_lists.specs.WalksLeft.{lists_left};
 
-    /// The lists in their order, read through a reference; each is found from where the one before it ends.
+    /// Iterates over the lists in order, through a reference. It finds each list from the end of the one before.
+    ///
+    /// # Requires
+    /// A well-formed column.
     pub fn index_iter<'x>(&'x self) -> ListIter<&'x TC, &'x BC>
         requires { IsSound (lists_format BC.format TC.format) (both (BC.content self.now.bounds) (TC.content self.now.values)) }
         ensures { lists_left result ≡ (lists_format BC.format TC.format).rows (both (BC.content self.now.bounds) (TC.content self.now.values)) }
@@ -108,7 +134,10 @@ impl<TC: Column, BC: Offsets> Vecs<TC, BC> {
         ListIter::new(&self.bounds, &self.values)
     }
 
-    /// The lists in their order; each is found from where the one before it ends.
+    /// Iterates over the lists in order. It finds each list from the end of the one before.
+    ///
+    /// # Requires
+    /// A well-formed column.
     pub fn into_index_iter(self) -> ListIter<TC, BC>
         requires { IsSound (lists_format BC.format TC.format) (both (BC.content self.bounds) (TC.content self.values)) }
         ensures { lists_left result ≡ (lists_format BC.format TC.format).rows (both (BC.content self.bounds) (TC.content self.values)) }
@@ -176,8 +205,8 @@ impl<'a, TC: Borrow<'a>, BC: Borrow<'a, Borrowed: Offsets>> Borrow<'a> for Vecs<
 }
 
 impl<
-    V: Index + Copy,
-    W: Index + Offsets + Copy,
+    V: Column + Copy,
+    W: Offsets + Copy,
     TC: ExtendFrom<V>,
     BC: ExtendFrom<W> + ExtendShifted<W> + Offsets,
 > ExtendFrom<Vecs<V, W>> for Vecs<TC, BC> {
@@ -275,7 +304,7 @@ impl<'s, TC: AsBytes<'s>, BC: AsBytes<'s> + StoredOffsets> AsBytes<'s> for Vecs<
     }
 }
 
-/// Where memory is refused for the values, the bounds, already loaded, are dropped.
+/// If the values cannot be loaded, the loaded bounds are dropped.
 impl<TC: ContainerBytes, BC: ContainerBytes + StoredOffsets + Drop> ContainerBytes
     for Vecs<TC, BC> {
     fn byte_slice(&self, index: usize) -> ByteSlice<'_> {

@@ -1,5 +1,5 @@
-//! Lists one after another: where each ends is found from where the one before it ends. So a walk over lists looks for no
-//! offset, also where the offsets are in unary.
+//! Iterating over lists: the end of each list is found from the end of the one before. So no offset is searched for,
+//! even if the offsets are in unary.
 ghost use Rattle.std.specs.Prelude.{◌≡◌, ◌+◌, ◌-◌, ◌∷◌, length, slice_get, Some, IfSome, IfNone};
 ghost use Rattle.columnar_base.specs.Row.{number};
 ghost use Rattle.columnar_base.specs.Format.{both, IsSound};
@@ -11,7 +11,7 @@ use columnar_base::traits::{Column, Index, Item, Len};
 use columnar_core::offsets::Offsets;
 use columnar_core::slice::Slice;
 
-/// The ranges of the items of lists, one list after another.
+/// The item ranges of consecutive lists.
 #[derive(Clone, Copy, Debug, PartialEq, Eq, Drop)]
 pub struct Ranges {
     index: usize,
@@ -20,7 +20,10 @@ pub struct Ranges {
 }
 
 impl Ranges {
-    /// Before the first list.
+    /// Starts before the first list.
+    ///
+    /// # Requires
+    /// Well-formed bounds.
     pub fn of<BC: Offsets>(bounds: &BC) -> Ranges
         requires { IsSound BC.format (BC.content bounds.now) }
         ensures stands { WalkStands (BC.format.rows (BC.content bounds.now)) result }
@@ -33,7 +36,10 @@ impl Ranges {
         }
     }
 
-    /// Where the next list begins, and where it ends; None after the last. Asks that the bounds are those of this walk.
+    /// Returns where the next list starts and ends, or `None` after the last list.
+    ///
+    /// # Requires
+    /// The bounds with which the iteration started, well-formed.
     pub fn next<BC: Offsets>(&mut self, bounds: &BC) -> Option<(usize, usize)>
         requires sound { IsSound BC.format (BC.content bounds.now) }
         requires stands { WalkStands (BC.format.rows (BC.content bounds.now)) self.old }
@@ -53,7 +59,7 @@ impl Ranges {
         Some((lower, upper))
     }
 
-    /// How many lists are left.
+    /// Returns the number of remaining lists.
     pub fn left(&self) -> usize
         ensures { result ≡ self.now.count - self.now.index }
     {
@@ -61,7 +67,7 @@ impl Ranges {
     }
 }
 
-/// Gives lists in their order: their bounds, and the column of their items.
+/// Iterates over lists in order, from their bounds and the column of their items.
 #[derive(Drop)]
 pub struct ListIter<V: Column, W: Column> {
     values: V,
@@ -74,7 +80,10 @@ pub struct ListIter<V: Column, W: Column> {
 impl<V: Column, W: Offsets> ListIter<V, W> {
     ghost use Rattle.columnar_lists.specs.WalksLeft.{lists_left};
 
-    /// All lists. Asks that the column of these parts is well formed.
+    /// Iterates over all lists.
+    ///
+    /// # Requires
+    /// Parts of a well-formed column of lists.
     pub fn new(bounds: W, values: V) -> Self
         requires { IsSound (lists_format W.format V.format) (both (W.content bounds) (V.content values)) }
         ensures { lists_left result ≡ (lists_format W.format V.format).rows (both (W.content bounds) (V.content values)) }
@@ -100,7 +109,7 @@ impl<V: Index + Copy, W: Offsets + Drop> Iterator for ListIter<V, W> {
 
     ghost remaining = { item_count lists_left };
 
-    /// The next list; `None` once all were given, and from then on.
+    /// Returns the next list, or `None` after the last one, at every further call.
     fn next(&mut self) -> Option<Slice<V>> {
         let Some((lower, upper)) = self.ranges.next(&self.bounds) else {
             return None;
@@ -112,7 +121,7 @@ impl<V: Index + Copy, W: Offsets + Drop> Iterator for ListIter<V, W> {
         })
     }
 
-    /// How many are left, twice.
+    /// Returns the number of remaining lists as both bounds.
     fn size_hint(&self) -> (usize, Option<usize>)
         ensures lower { IsWithinCount result.0 (item_count lists_left self.now) }
         ensures upper { IfSome result.1 (UpTo (item_count lists_left self.now)) }
@@ -124,7 +133,7 @@ impl<V: Index + Copy, W: Offsets + Drop> Iterator for ListIter<V, W> {
 }
 
 impl<V: Index + Copy, W: Offsets + Drop> ExactSizeIterator for ListIter<V, W> {
-    /// How many are left.
+    /// Returns the number of remaining lists.
     fn len(&self) -> usize {
         self.ranges.left()
     }

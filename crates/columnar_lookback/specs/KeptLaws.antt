@@ -1,4 +1,4 @@
--- What pushing rows in turn keeps of them: which as values, and which at what distance.
+-- How pushes in order store rows: as values, or at which distance.
 use Rattle.std.proofs.Common.{◌≡◌, ℕ, zero, suc, ◌+◌, ◌-◌, ◌<◌, ◌≤◌, Bool, true, false, ◌&&◌, List, [], ◌∷◌, ◌++◌, length, take, drop, append-nil, append_assoc, refl, sym, ◌∙◌, ap, arith, inl, inr}
 use Rattle.std.specs.Prelude.{slice_get, Some, None, Option, cond, map, option_map, ◌^◌}
 use Rattle.std.specs.Int.{w8}
@@ -21,7 +21,7 @@ use Rattle.columnar_lookback.specs.Lookbacks.{lookbacks_code, lookbacks_format, 
 use Rattle.columnar_base.specs.Elements.{bytes_format}
 use Rattle.columnar_lookback.specs.LookbackLaws.{IsResult, woven_results, byte_row}
 
--- the values, the last one first, after rows of which those that are kept at no distance are values
+-- the values, the last one first, after rows of which those stored without a distance are values
 abbrev pub values_by : List Row → List (Option ℕ) → List Row → List Row
 values_by vs [] rs = vs
 values_by vs (k ∷ ks) [] = vs
@@ -41,7 +41,7 @@ pub nearest_each-append : (same : Row → Row → Bool) (n : ℕ) (vs rs ss : Li
 nearest_each-append same n vs [] ss = refl
 nearest_each-append same n vs (r ∷ rs) ss = ap (λ ks. nearest same n vs r ∷ ks) (nearest_each-append same n (with_value (nearest same n vs r) r vs) rs ss)
 
--- a relation that is an equivalence tells rows that are the same from no other row
+-- an equivalence does not distinguish rows that are kin
 tells : (same : Row → Row → Bool) → IsSame same → (v w r : Row) → same v w ≡ true → (x y : Bool) → same v r ≡ x → same w r ≡ y → x ≡ y
 tells same e v w r h true true a b = refl
 tells same e v w r h false false a b = refl
@@ -72,7 +72,7 @@ values_by_alike same (k ∷ ks) vs ws (r ∷ rs) (s ∷ ss) h g =
     let p = and_parts (same r s) (all_alike same rs ss) g in
     values_by_alike same ks (with_value k r vs) (with_value k s ws) rs ss (with_value_alike same k r s vs ws p.0 h) p.1
 
--- the values that inner rows bring are told by how they are kept and by the rows that they stand for
+-- the values of inner rows follow from how they are stored and from the rows that they read as
 pub latest_kept : (vs us : List Row) → Each IsResult us → latest lookbacks_code vs us ≡ values_by vs (map kept_back us) (recall lookbacks_code vs us)
 latest_kept vs [] a = refl
 latest_kept vs (u ∷ us) a = elim a.0 [
@@ -80,7 +80,7 @@ latest_kept vs (u ∷ us) a = elim a.0 [
   | inr p ↦ rw p.1 (latest_kept vs us a.1)
 ]
 
--- a row without an error reads no way back
+-- a row without an error has no distance
 no_back : (o : Row) → bare_option o ≡ none → back_of o ≡ None
 no_back (some r) h = cc
 no_back o h = refl
@@ -114,7 +114,7 @@ kept_each_err a b x (f ∷ []) w h =
     let e = kept_err a b x f w q.0 in
     rw e refl
 
--- what a pushed value adds, and what a pushed byte
+-- what a pushed value adds, and a pushed distance
 kept_value : (t : Format) {x y : Content} (r : Row) → Took (results_format t bytes_format) x y (ok r ∷ []) → kept_rows t y ≡ kept_rows t x ++ None ∷ []
 kept_value t {x} {y} r g =
     ap (map kept_back) g.grew.rows ∙ (map-append kept_back ((results_format t bytes_format).rows x) g.fresh ∙ ap (λ ks. kept_rows t x ++ ks) (kept_each_ok t.alike bytes_format.alike g.fresh r g.alike))
@@ -123,7 +123,7 @@ kept_byte : (t : Format) {x y : Content} (m : ℕ) → m < 2 ^ 8 → Took (resul
 kept_byte t {x} {y} m l g =
     ap (map kept_back) g.grew.rows ∙ (map-append kept_back ((results_format t bytes_format).rows x) g.fresh ∙ ap (λ ks. kept_rows t x ++ ks) (kept_each_err t.alike bytes_format.alike row_eq_exact g.fresh (unsigned_row w8 m) g.alike ∙ ap (λ q. Some (number_of q) ∷ []) (byte_row m l)))
 
--- a row that is the same as none of the last values, and one that is the same as one
+-- a row that is kin to none of the last values, and one that is kin to one
 pub pushed_value : (t : Format) (n : ℕ) {x y : Content} (r : Row) → nearest t.kin n (values_back t x) r ≡ None → Took (results_format t bytes_format) x y (ok r ∷ []) → kept_rows t y ≡ kept_rows t x ++ nearest t.kin n (values_back t x) r ∷ []
 pushed_value t n {x} {y} r e g = kept_value t r g ∙ ap (λ q. kept_rows t x ++ q ∷ []) (sym e)
 
@@ -137,7 +137,7 @@ results_each a b (slice bs) = tt
 results_each a b (part l u x) = tt
 results_each a b (plain rs) = tt
 
--- one row more of those that were pushed in turn
+-- one more row after those pushed in order
 kept_more : (t : Format) (n : ℕ) {x y z : Content} (rs : List Row) (r : Row) → IsSame t.kin → Took (lookbacks_format t bytes_format) x y rs → Took (lookbacks_format t bytes_format) y z (r ∷ [])
     → kept_rows t y ≡ kept_rows t x ++ nearest_each t.kin n (values_back t x) rs
     → kept_rows t z ≡ kept_rows t y ++ nearest t.kin n (values_back t y) r ∷ []
@@ -154,7 +154,7 @@ kept_more t n {x} {y} {z} rs r e g q h k =
     let c : nearest t.kin n (values_back t y) r ≡ nearest t.kin n (values_by vs ns rs) r = ap (λ qs. nearest t.kin n qs r) a ∙ nearest_alike t.kin e n (values_by vs ns g.fresh) (values_by vs ns rs) r b in
     k ∙ (ap (λ ks. ks ++ nearest t.kin n (values_back t y) r ∷ []) h ∙ (append_assoc (map kept_back us) ns (nearest t.kin n (values_back t y) r ∷ []) ∙ ap (λ ks. map kept_back us ++ ks) (ap (λ q. ns ++ q ∷ []) c ∙ sym (nearest_each-append t.kin n vs rs (r ∷ [])))))
 
--- the same of a range, row by row
+-- the same for a range, row by row
 pub kept_step : (t : Format) (n : ℕ) {x y z : Content} (rs : List Row) (start i : ℕ) (r : Row) → IsSame t.kin → start ≤ i → slice_get rs i ≡ Some r → Took (lookbacks_format t bytes_format) x y (take (i - start) (drop start rs)) → Took (lookbacks_format t bytes_format) y z (r ∷ [])
     → kept_rows t y ≡ kept_rows t x ++ nearest_each t.kin n (values_back t x) (take (i - start) (drop start rs))
     → kept_rows t z ≡ kept_rows t y ++ nearest t.kin n (values_back t y) r ∷ []
@@ -169,7 +169,7 @@ kept_step t n rs start i r s l e g w h k =
 pub kept_none : (t : Format) (n : ℕ) (x : Content) (rs : List Row) (start : ℕ) → kept_rows t x ≡ kept_rows t x ++ nearest_each t.kin n (values_back t x) (take (start - start) (drop start rs))
 kept_none t n x rs start = let e : start - start ≡ 0 = omega arith in rw e (sym (append-nil (kept_rows t x)))
 
--- a front that is copied into a column without rows is kept as it was
+-- a range from row 0 that is copied into a column without rows is stored unchanged
 pub kept_front : (t u : Format) {x y : Content} (start n : ℕ) (us : List Row) → recall lookbacks_code [] ((results_format t bytes_format).rows x) ≡ [] → start ≡ 0 → Copied (results_format t bytes_format) x y start (take n (drop start us)) → kept_rows t y ≡ take n (drop start (map kept_back us))
 kept_front t u {x} {y} start n us e z g =
     let m : length ((results_format t bytes_format).rows x) ≡ 0 = sym (length-recall lookbacks_code [] ((results_format t bytes_format).rows x)) ∙ ap length e in

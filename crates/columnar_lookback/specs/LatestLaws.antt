@@ -1,4 +1,4 @@
--- The values that woven rows bring, the last one first.
+-- The values of woven rows, the last one first.
 use Rattle.std.proofs.Common.{◌≡◌, ℕ, zero, suc, ◌+◌, ◌-◌, ◌<◌, List, [], ◌∷◌, length, take, refl, ◌∙◌, arith}
 use Rattle.std.specs.Prelude.{slice_get, Some}
 use Rattle.columnar_base.specs.Row.{Row}
@@ -17,7 +17,7 @@ recent_after : (vs ws : List Row) (m k : ℕ) → k ≡ length vs + m → recent
 recent_after [] ws m k e = let f : k ≡ m = omega arith in rw f refl
 recent_after (v ∷ vs) ws m k e = recent_after vs (v ∷ ws) (suc m) k (omega arith)
 
--- the value that stands m before the last
+-- the value that is m before the last
 pub recent_onto : (vs ws : List Row) (i m : ℕ) (v : Row) → slice_get vs i ≡ Some v → i + suc m ≡ length vs → recent (onto vs ws) m ≡ v
 recent_onto [] ws i m v h e = cc
 recent_onto (w ∷ vs) ws zero m v h e = let q : w ≡ v = cc in recent_after vs (w ∷ ws) 0 m (omega arith) ∙ q

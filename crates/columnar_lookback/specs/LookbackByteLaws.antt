@@ -1,4 +1,4 @@
--- What the test of lookbacks finds.
+-- The results of the test of lookbacks.
 use Rattle.std.proofs.Common.{◌≡◌, ℕ, suc, ◌+◌, ◌-◌, ◌*◌, ◌^◌, ◌<◌, ◌≤◌, Bool, true, false, List, [], ◌∷◌, length, take, drop, refl, ◌∙◌, ap, arith}
 use Rattle.std.specs.Prelude.{slice_get, Some, None, map, not}
 use Rattle.std.specs.Int.{w8}
@@ -26,7 +26,7 @@ use Rattle.columnar_lookback.specs.RepeatLaws.{ones_set, ones_clear}
 use Rattle.columnar_lookback.specs.Lookbacks.{distance, lookbacks_code, lookbacks_format}
 use Rattle.columnar_lookback.specs.LookbackLaws.{latest_first}
 
--- as many values as set bits, as many distances as clear ones
+-- as many values as set bits, as many distances as clear bits
 pub record CountsLevel (b : List Bool) (vs ws : List Row) : Type 0 where
   pub values : ones b (length b) ≡ length vs
   pub distances : zeros b (length b) ≡ length ws
@@ -90,7 +90,7 @@ distance_there b ws i values l h g e =
 
 -- bytes
 
--- eight rows at most for a byte of the bits and their counts
+-- at most eight rows for each byte of the bits and their counts
 pub rows_of_bytes : (x : Content) → IsSound ranks_format x → length (ranks_bits x) ≤ 8 * bytes_held x
 rows_of_bytes x s =
     let f = ranks_form x s in
@@ -121,20 +121,20 @@ results_judged t d o ss l h = fits_from (results_format t d) o ss l h
 pub bits_fit : (t d : Format) (o : ℕ) (ss : List (List ℕ)) → Fits (results_format t d) o ss → Fits ranks_format o ss
 bits_fit t d o ss f = two_fits_left (results_two t d) o ss f
 
--- at most 16 turns for a byte: 5 of the bits, 8 of their rows, and those of the parts
+-- at most 16 steps for each byte: 5 for the bits, 8 for their rows, and those of the parts
 pub lookbacks_turns : (ra rb old mid new m n o k : ℕ) → mid ≤ old + (5 * m + (ra * n + rb * o)) → new ≤ mid + k → k ≤ 8 * m → ra ≤ 16 → rb ≤ 16 → new ≤ old + 16 * (m + (n + o))
 lookbacks_turns ra rb old mid new m n o k p q l a b =
     let t = two_turns 16 ra rb n o a b in
     omega arith
 
--- the turns of the parts, of the slices where they stand
+-- the steps of the parts, for the slices of the store
 pub held_at : (t d : Format) (o : ℕ) (ss : List (List ℕ)) (new old : ℕ) → new ≤ old + (5 * bytes_held (ranks_format.build (drop o ss)) + (t.turns * bytes_held (t.build (drop (o + 3) ss)) + d.turns * bytes_held (d.build (drop (o + 3 + t.count) ss)))) → new ≤ old + (5 * bytes_held (ranks_format.build (drop o ss)) + (t.turns * bytes_held (t.build (drop 3 (drop o ss))) + d.turns * bytes_held (d.build (drop t.count (drop 3 (drop o ss))))))
 held_at t d o ss new old h =
     let e : drop 3 (drop o ss) ≡ drop (o + 3) ss = drop-drop 3 o ss in
     let f : drop t.count (drop (o + 3) ss) ≡ drop (o + 3 + t.count) ss = drop-drop t.count (o + 3) ss in
     rw (e, f) h
 
--- what is so of bits and distances that were read is so of their slices
+-- facts about bits and distances that were read hold for their slices
 
 pub level_at : {x' x : Content} {ws' ws : List Row} → x' ≡ x → ws' ≡ ws → zeros (ranks_bits x) (length (ranks_bits x)) ≡ length ws → zeros (ranks_bits x') (length (ranks_bits x')) ≡ length ws'
 level_at p q h = rw (p, q) h

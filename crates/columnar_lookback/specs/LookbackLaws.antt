@@ -1,4 +1,4 @@
--- A column of values and distances is lawful, and its rows are the values that these lead to.
+-- A column of values and distances is lawful, and its rows are the values that these refer to.
 use Rattle.std.proofs.Common.{◌≡◌, ℕ, zero, suc, ◌+◌, ◌-◌, ◌<◌, ◌≤◌, Bool, true, false, ◌&&◌, List, [], ◌∷◌, ◌++◌, length, take, drop, append-nil, refl, sym, ◌∙◌, ap, arith, ◌⊎◌, inl, inr}
 use Rattle.std.specs.Prelude.{slice_get, Some, None, Option, cond, map, min, option_map, ◌^◌}
 use Rattle.std.proofs.lemmas.Bool.{and_parts, and_from, lt-ltb, cases_lt}
@@ -63,9 +63,9 @@ elements_plain size align row_of = record {
   still = refl;
 }
 
--- what limits see: a distance as 0
+-- limits treat every distance as 0
 
--- it is a value or a distance
+-- the row is a value or a distance
 abbrev pub IsResult : Row → Type 0
 IsResult u = ((r : Row) × (u ≡ ok r)) ⊎ ((w : Row) × (u ≡ err w))
 
@@ -121,7 +121,7 @@ latest_woven (true ∷ b) (v ∷ vs) ws us e f = latest_woven b vs ws (v ∷ us)
 latest_woven (false ∷ b) vs [] us e f = absurd (omega (arith, f, ones_true (turned b) (length b)))
 latest_woven (false ∷ b) vs (w ∷ ws) us e f = latest_woven b vs ws us (omega (arith, e, ones_false b (length b))) (omega (arith, f, ones_true (turned b) (length b)))
 
--- of the first n rows, those of the trues among them
+-- the values of the set bits among the first n rows
 pub latest_first : (b : List Bool) (vs ws : List Row) (n : ℕ) → ones b n ≤ length vs → zeros b n ≤ length ws → latest lookbacks_code [] (take n (weave_results b vs ws)) ≡ onto (take (ones b n) vs) []
 latest_first b vs ws n l k =
     let e = weave_results-take n b vs ws in
@@ -129,7 +129,7 @@ latest_first b vs ws n l k =
     let o = length-take-le (zeros b n) ws k in
     rw (← e) (latest_woven (take n b) (take (ones b n) vs) (take (zeros b n) ws) [] (ones_taken n b ∙ sym m) (zeros_taken n b ∙ sym o))
 
--- the parts, where lookbacks are well formed
+-- the parts of well-formed lookbacks
 pub lookbacks_results : (t d : Format) {c : Content} → IsSound (lookbacks_format t d) c → IsSound (results_format t d) c
 lookbacks_results t d s = (recall_parts lookbacks_code t.kin (results_format t d) s).inner
 
@@ -144,7 +144,7 @@ length-lookbacks t d x y z = length-recall lookbacks_code [] (weave_results (ran
 
 -- reads
 
--- the values up to row i, whose inner row is u: u reaches one of them, and it is the row
+-- the values up to row i with inner row u: u reaches one of them, and it is the row
 record UpTo (t d : Format) (x y z : Content) (i : ℕ) (u : Row) : Type 0 where
   all : ones (ranks_bits x) (i + 1) ≤ length (t.rows y)
   reach : distance u < ones (ranks_bits x) (i + 1)
@@ -178,7 +178,7 @@ lookbacks_reach t d i u s h = (up_to t d i u s h).reach
 pub lookbacks_within : (t d : Format) {x y z : Content} (i k : ℕ) (u : Row) → IsSound (lookbacks_format t d) (both x (both y z)) → slice_get (weave_results (ranks_bits x) (t.rows y) (d.rows z)) i ≡ Some u → k + suc (distance u) ≡ ones (ranks_bits x) (i + 1) → k < length (t.rows y)
 lookbacks_within t d i k u s h e = let a = (up_to t d i u s h).all in omega (arith, a, e)
 
--- Row i is value k where k values stand before the one that it reaches.
+-- Row i is value k if k values precede the one that it refers to.
 pub lookbacks_row : (t d : Format) {x y z : Content} (i k : ℕ) (u v : Row) → IsSound (lookbacks_format t d) (both x (both y z)) → slice_get (weave_results (ranks_bits x) (t.rows y) (d.rows z)) i ≡ Some u → k + suc (distance u) ≡ ones (ranks_bits x) (i + 1) → slice_get (t.rows y) k ≡ Some v → slice_get (recall lookbacks_code [] (weave_results (ranks_bits x) (t.rows y) (d.rows z))) i ≡ Some v
 lookbacks_row t d {x} {y} {z} i k u v s h e g =
     let a = up_to t d i u s h in
@@ -187,7 +187,7 @@ lookbacks_row t d {x} {y} {z} i k u v s h e g =
     let q = recent_onto (take n (t.rows y)) [] k (distance u) v (taken_at n k (t.rows y) v (omega (arith, e)) g) (omega (arith, e, f)) in
     a.row ∙ ap Some q
 
--- the value that stands j before the last
+-- the value that is j before the last
 pub value_before : (t d : Format) {x y z : Content} (i j : ℕ) (v : Row) → IsSound (lookbacks_format t d) (both x (both y z)) → slice_get (t.rows y) i ≡ Some v → i + suc j ≡ length (t.rows y) → recent (latest lookbacks_code [] (weave_results (ranks_bits x) (t.rows y) (d.rows z))) j ≡ v
 value_before t d {x} {y} {z} i j v s h e =
     let p = results_parts t d (lookbacks_results t d s) in
@@ -202,7 +202,7 @@ values_count t d {x} {y} {z} s =
 
 -- the nearest value
 
--- none of the last m values is the same
+-- none of the last m values is kin to r
 abbrev pub NoneNearer : (Row → Row → Bool) → List Row → Row → ℕ → Type 0
 NoneNearer same vs r m = (j : ℕ) → j < m → same (recent vs j) r ≡ false
 
@@ -270,7 +270,7 @@ lookbacks_took_back t d {x} {y} {z} {c} {r} n m l p s h g =
     let q = nearest_some t.kin n vs r m h in
     recall_took_as lookbacks_code t.kin (results_format t d) (err (number m) ∷ []) (err (number 0) ∷ []) (r ∷ []) l.kindred (lookbacks_alike t d l p) s g (λ e ws k. sym (plain_limits t d p x y z (length (weave_results (ranks_bits x) (t.rows y) (d.rows z))) e (err (number m) ∷ []) ws (inr (number m, refl), tt)) ∙ k) (inr (inl refl), tt) (and_from _ _ (lt-ltb m (length vs) q.0) refl) (and_from _ _ q.1 refl)
 
--- of a byte
+-- the row of a byte
 pub byte_row : (m : ℕ) → m < 2 ^ 8 → unsigned_row w8 m ≡ number m
 byte_row m b = ap number (mod-eq_of_lt b)
 
@@ -287,7 +287,7 @@ lookbacks_refused_back t d {x} {y} {z} {c} {r} m p s g =
 pub lookbacks_refused_byte : (t d : Format) {x y z c : Content} {r : Row} (m : ℕ) → m < 2 ^ 8 → {error : GrowError} → IsPlain d → IsSound (lookbacks_format t d) (both x (both y z)) → Refused (results_format t d) (both x (both y z)) c (err (unsigned_row w8 m) ∷ []) error → Refused (lookbacks_format t d) (both x (both y z)) c (r ∷ []) error
 lookbacks_refused_byte t d m b p s g = let e = byte_row m b in lookbacks_refused_back t d m p s (rw e at g)
 
--- a front of a view
+-- a range of a view from row 0
 pub lookbacks_copied_front : (t d u e : Format) {x y z c : Content} (v w a : Content) (start n : ℕ) → IsLawful t → IsPlain d → IsSound (lookbacks_format t d) (both x (both y z)) → IsSound (lookbacks_format u e) (both v (both w a)) → recall lookbacks_code [] (weave_results (ranks_bits x) (t.rows y) (d.rows z)) ≡ [] → start ≡ 0 → Copied (results_format t d) (both x (both y z)) c start (take n (drop start (weave_results (ranks_bits v) (u.rows w) (e.rows a)))) → Copied (lookbacks_format t d) (both x (both y z)) c start (take n (drop start (recall lookbacks_code [] (weave_results (ranks_bits v) (u.rows w) (e.rows a)))))
 lookbacks_copied_front t d u e {x} {y} {z} {c} v w a start n l p s q h o g =
     let all = weave_results (ranks_bits v) (u.rows w) (e.rows a) in
@@ -307,14 +307,14 @@ lookbacks_refused_range t d u e {x} {y} {z} {c} v w a start n p s g =
     let o = append-nil (map plainly us) in
     recall_refused_as lookbacks_code t.kin (results_format t d) us (map plainly us) _ s g (λ x' j. (rw (m, o) at (sym (plain_limits t d p x y z (length (weave_results (ranks_bits x) (t.rows y) (d.rows z))) x' us [] i))) ∙ j) (storing_range (ranks_bits v) (u.rows w) (e.rows a) n start)
 
--- What a read of row i asks whose bit is clear: it reads m values back, of those before it.
+-- The preconditions of a read of row i with a clear bit: it reads m values back, among those before it.
 pub record Referred (t d : Format) (x y z : Content) (i before m : ℕ) : Type 0 where
   pub some_value : 1 ≤ before
   pub near : m ≤ before - 1
   pub within : before - 1 - m < length (t.rows y)
   pub row : slice_get (recall lookbacks_code [] (weave_results (ranks_bits x) (t.rows y) (d.rows z))) i ≡ slice_get (t.rows y) (before - 1 - m)
 
--- the place of the distance
+-- the position of the distance
 pub distance_within : (t d : Format) {x y z : Content} (i before : ℕ) → IsSound (lookbacks_format t d) (both x (both y z)) → i < length (recall lookbacks_code [] (weave_results (ranks_bits x) (t.rows y) (d.rows z))) → slice_get (map truth (ranks_bits x)) i ≡ Some (truth false) → before ≡ ones (ranks_bits x) i → i - before < length (d.rows z)
 distance_within t d {x} {y} {z} i before s l h e =
     let p = lookbacks_results t d s in
@@ -342,7 +342,7 @@ referred t d {x} {y} {z} i before m s l h e b f =
       row = lookbacks_row t d i (before - 1 - m) (err (unsigned_row w8 m)) o.0 s u q o.1 ∙ sym o.1;
     }
 
--- a row whose bit is set is the value at its place
+-- a row with a set bit is the value at its position
 pub set_within : (t d : Format) {x y z : Content} (i : ℕ) → IsSound (lookbacks_format t d) (both x (both y z)) → slice_get (map truth (ranks_bits x)) i ≡ Some (truth true) → ones (ranks_bits x) i < length (t.rows y)
 set_within t d i s h = results_ok_value t d i (lookbacks_results t d s) h
 
@@ -351,7 +351,7 @@ set_row t d {x} {y} {z} i s h =
     let v = slice_get_some (t.rows y) (ones (ranks_bits x) i) (set_within t d i s h) in
     lookbacks_row t d i (ones (ranks_bits x) i) (ok v.0) v.0 s (results_ok t d x y z i v.0 h v.1) (omega (arith, ones_set (ranks_bits x) i h)) v.1 ∙ sym v.1
 
--- What one inner row brings: to the values as many as it has, and to the distances just its own.
+-- The effect of one inner row: it adds its value, if any, to the values, and otherwise its distance.
 
 one_ok : (t d : Format) → IsLawful t → IsPlain d → (fs : List Row) (u : Row) → all_alike (result_alike t.alike d.alike) fs (u ∷ []) ≡ true → length (oks fs) ≡ length (value_of (ok_part u))
 one_ok t d l p [] u h = cc

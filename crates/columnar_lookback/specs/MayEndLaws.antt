@@ -1,4 +1,4 @@
--- What multiples, and offsets in unary, deny of the ends of lists, they deny with more lists too.
+-- Multiples, and offsets in unary, deny the ends of lists also with more lists.
 use Rattle.std.proofs.Common.{◌≡◌, ℕ, zero, suc, ◌+◌, ◌-◌, ◌*◌, Bool, true, false, not, ◌||◌, List, [], ◌∷◌, length, map, refl, sym, ◌∙◌, ap, arith, inl, ⊎_elim, length-append}
 use Rattle.std.specs.Prelude.{nat_eq, nat_lt, ◌&&◌}
 use Rattle.std.proofs.lemmas.Bool.{or_cases, or_left, or_right, or_from, and_parts, eq-eqb, ne_eqb, cases_eq, false≢true, le-ltb}
@@ -23,7 +23,7 @@ abbrev odd : ℕ → List Row → Bool
 odd k [] = false
 odd k (r ∷ rs) = not (nat_eq (length (items_of r)) k) || odd k rs
 
--- after lists of k items each an end is out of place where the list has another number of them
+-- after lists of k items each, an end is misplaced if the list has another number of items
 same_test : (k n m : ℕ) → nat_eq (k * n + m) (k * suc n) ≡ nat_eq m k
 same_test k n m = ⊎_elim
     (λ (e : m ≡ k). let h : k * n + m ≡ k * suc n = omega (arith, e) in eq-eqb (k * n + m) (k * suc n) h ∙ sym (eq-eqb m k e))

@@ -1,4 +1,4 @@
--- What columns refuse in which a row may stand for an earlier one, their limit denies.
+-- Limits of columns in which a row may refer to an earlier one: they deny what the columns refuse.
 use Rattle.std.proofs.Common.{◌≡◌, ℕ, suc, ◌+◌, ◌≤◌, Bool, true, List, [], ◌∷◌, ◌++◌, length, refl, sym, ◌∙◌, ap, subst, arith, ◌⊎◌, inl, inr, ⊎_elim, length-append, append_assoc}
 use Rattle.std.proofs.lemmas.Bool.{or_cases, false≢true}
 use Rattle.columnar_base.specs.Row.{Row, none, some, ok, err, number}
@@ -16,12 +16,12 @@ use Rattle.columnar_lookback.specs.Recall.{Code, recent, recall, any_row, some_s
 use Rattle.columnar_lookback.specs.RecallLaws.{Among, IsStoring, length-recall, recall_parts}
 use Rattle.columnar_lookback.specs.Repeats.{repeats_code, repeats_format}
 
--- A row is stored as itself or as no value, and an inner row that brings a value stands for it.
+-- A row is stored as itself or as no value, and an inner row that adds a value reads as it.
 pub record IsPlainCode (k : Code) : Type 0 where
   pub kept : (r u : Row) → Among u (k.forms r) → AreAmong (k.value u) (r ∷ [])
   pub here : (u : Row) → (k.value u ≡ []) ⊎ ((v : Row) × ((k.value u ≡ v ∷ []) × (k.back u ≡ 0)))
 
--- the values that inner rows bring
+-- the values that inner rows add
 abbrev pub brought : Code → List Row → List Row
 brought k [] = []
 brought k (u ∷ us) = k.value u ++ brought k us
@@ -30,7 +30,7 @@ brought-append : (k : Code) (us ws : List Row) → brought k (us ++ ws) ≡ brou
 brought-append k [] ws = refl
 brought-append k (u ∷ us) ws = ap (λ t. k.value u ++ t) (brought-append k us ws) ∙ sym (append_assoc (k.value u) (brought k us) (brought k ws))
 
--- a way of storing rows in which it is so
+-- some way of storing the rows satisfies p
 
 some_where : (p : Row → Bool) (us : List Row) → any_row p us ≡ true → (u : Row) × (Among u us × (p u ≡ true))
 some_where p [] h = absurd (false≢true h)
@@ -71,7 +71,7 @@ recall_brought k law vs (u ∷ us) = ⊎_elim
     (subst (λ b. AreAmong (w.0 ∷ brought k us) (recent (w.0 ∷ vs) b ∷ recall k (w.0 ∷ vs) us)) (sym w.1.1) (inl (refl, recall_brought k law (w.0 ∷ vs) us))))
     (law.here u)
 
--- What the inner column denies is that there are too many rows, or is denied of the values.
+-- The inner column denies only that there are too many rows, or what is denied of the values.
 pub recalled_limited : (k : Code) (kin : Row → Row → Bool) (o : Format) {inner t : Limit} → IsPlainCode k → IsLimited o inner → ((e : Excess) (ws : List Row) → inner e ws → count_limit e ws ⊎ t e (brought k ws)) → IsLimited (recalled k kin o) (recall_limit t)
 recalled_limited k kin o {inner} {t} law l from = record {
   denied = λ e c rs s h.
@@ -138,7 +138,7 @@ length-errs : (us : List Row) → length (errs us) ≤ length us
 length-errs [] = omega arith
 length-errs (u ∷ us) = let a = length-append (value_of (err_part u)) (errs us) in let b = one_value (err_part u) in let c = length-errs us in omega (arith, a, b, c)
 
--- The distances are limited by their number alone.
+-- The limit of the distances depends only on their number.
 pub lookbacks_limited : (t d : Format) {m : Limit} → IsLimited t m → IsLimited d count_limit → IsLimited (lookbacks_format t d) (recall_limit m)
 lookbacks_limited t d {m} l k = recalled_limited lookbacks_code t.kin (results_format t d) {inner = results_limit m count_limit} {t = m} lookbacks_plain (results_limited t d l k) (λ e ws h. ⊎_elim
     (λ (i : count_limit e ws). inl i)

@@ -1,4 +1,4 @@
--- What holds of all columns in which a row may stand for an earlier one.
+-- Laws of all columns in which a row may refer to an earlier one.
 use Rattle.std.proofs.Common.{◌≡◌, ℕ, zero, suc, ◌+◌, ◌-◌, ◌<◌, ◌≤◌, Bool, true, false, List, [], ◌∷◌, ◌++◌, length, take, drop, refl, sym, ◌∙◌, ap, arith, ◌⊎◌, inl, inr}
 use Rattle.std.specs.Prelude.{slice_get, Some, None, nat_lt}
 use Rattle.std.proofs.lemmas.Bool.{and_parts, and_from, or_left, or_right, lt-ltb, ltb-true}
@@ -94,14 +94,14 @@ pub storing_same : (k : Code) (p q : List Row → Bool) (rs : List Row) → ((us
 storing_same k p q [] e = e []
 storing_same k p q (r ∷ rs) e = any_same (λ u. some_storing k (λ us. p (u ∷ us)) rs) (λ u. some_storing k (λ us. q (u ∷ us)) rs) (k.forms r) (λ u. storing_same k (λ us. p (u ∷ us)) (λ us. q (u ∷ us)) rs (λ us. e (u ∷ us)))
 
--- one way is some way
+-- a particular way of storing the rows is some way
 pub storing_is : (k : Code) (p : List Row → Bool) (us rs : List Row) → IsStoring k us rs → p us ≡ true → some_storing k p rs ≡ true
 storing_is k p [] [] s h = h
 storing_is k p [] (r ∷ rs) s h = absurd s
 storing_is k p (u ∷ us) [] s h = absurd s
 storing_is k p (u ∷ us) (r ∷ rs) s h = any_found (λ w. some_storing k (λ ws. p (w ∷ ws)) rs) u (k.forms r) s.0 (storing_is k (λ ws. p (u ∷ ws)) us rs s.1 h)
 
--- with more rows after it too
+-- also with more rows after them
 pub storing_before : (k : Code) (p : List Row → Bool) (us rs ss : List Row) → IsStoring k us rs → some_storing k (λ ws. p (us ++ ws)) ss ≡ true → some_storing k p (rs ++ ss) ≡ true
 storing_before k p [] [] ss s h = h
 storing_before k p [] (r ∷ rs) ss s h = absurd s
@@ -159,7 +159,7 @@ recall_storable k kin o l = record {
   built = l.built;
 }
 
--- what a test answers that found no fault of the inner column
+-- the answer of a test that found no fault of the inner column
 pub recall_fine : (k : Code) (kin : Row → Row → Bool) (o : Format) (c : Content) (at : ℕ) → None ≡ first (moved at (o.broken c)) → reaches k [] (o.rows c) ≡ true → None ≡ first (moved at ((recalled k kin o).broken c))
 recall_fine k kin o c at h r =
     let e = nothing_moved at (o.broken c) (first_none (moved at (o.broken c)) (sym h)) in
@@ -206,7 +206,7 @@ recall_cut k kin o {x} {y} {n} s g =
       kept = recall_keeps k kin o g.kept;
     }
 
--- Inner rows that are alike read as far back, and bring values that are kin.
+-- Inner rows that represent each other have equal distances, and add values that are kin.
 pub record ReadsAlike (k : Code) (kin alike : Row → Row → Bool) : Type 0 where
   pub back : (u v : Row) → alike u v ≡ true → k.back u ≡ k.back v
   pub value : (u v : Row) → alike u v ≡ true → all_alike kin (k.value u) (k.value v) ≡ true
@@ -239,8 +239,8 @@ reaches_alike k kin alike e a vs ws (u ∷ us) (t ∷ ts) h g r =
     let z = and_parts (nat_lt (k.back t) (length (k.value t ++ ws))) (reaches k (k.value t ++ ws) ts) r in
     and_from _ _ (rw (a.back u t p.0, n) z.0) (reaches_alike k kin alike e a (k.value u ++ vs) (k.value t ++ ws) us ts q p.1 z.1)
 
--- What the inner column took stands for the rows that were added. What limits see of `us` they see of `ts`, which is a
--- way of storing these rows.
+-- The inner column accepted rows that read as the added rows. `ts` is a way of storing these rows, and limits do not
+-- distinguish it from `us`.
 pub recall_took_as : (k : Code) (kin : Row → Row → Bool) (o : Format) {x y : Content} (us ts added : List Row) → IsSame kin → ReadsAlike k kin o.alike → IsSound (recalled k kin o) x → Took o x y us → ((e : Excess) (ws : List Row) → refuses_more o e x (us ++ ws) ≡ true → refuses_more o e x (ts ++ ws) ≡ true) → IsStoring k ts added → reaches k (latest k [] (o.rows x)) us ≡ true → all_alike kin (recall k (latest k [] (o.rows x)) us) added ≡ true → Took (recalled k kin o) x y added
 recall_took_as k kin o {x} {y} us ts added e a s g i st r h =
     let p = recall_parts k kin o s in
@@ -273,7 +273,7 @@ recall_refused_as k kin o {x} {y} us ts added {error} s g i st =
 pub recall_refused : (k : Code) (kin : Row → Row → Bool) (o : Format) {x y : Content} (us added : List Row) {error : GrowError} → IsSound (recalled k kin o) x → Refused o x y us error → IsStoring k us added → Refused (recalled k kin o) x y added error
 recall_refused k kin o us added s g st = recall_refused_as k kin o us us added s g (λ e h. h) st
 
--- A front that is copied into a column without rows is there as it was.
+-- A range from row 0 that is copied into a column without rows is unchanged.
 pub recall_front : (k : Code) (kin : Row → Row → Bool) (o : Format) {x y : Content} (us ts added : List Row) (start : ℕ) → IsSame kin → ReadsAlike k kin o.alike → IsSound (recalled k kin o) x → recall k [] (o.rows x) ≡ [] → start ≡ 0 → Copied o x y start us → ((e : Excess) (ws : List Row) → refuses_more o e x (us ++ ws) ≡ true → refuses_more o e x (ts ++ ws) ≡ true) → IsStoring k ts added → reaches k [] us ≡ true → recall k [] us ≡ added → Copied (recalled k kin o) x y start added
 recall_front k kin o {x} {y} us ts added start e a s h z g i st r l =
     let m : length (o.rows x) ≡ 0 = sym (length-recall k [] (o.rows x)) ∙ ap length h in
@@ -283,7 +283,7 @@ recall_front k kin o {x} {y} us ts added start e a s h z g i st r l =
       front = λ p q. ap (recall k []) (g.front n z) ∙ l;
     }
 
--- lists of which each row is so
+-- lists in which each row satisfies a predicate
 
 abbrev pub Each : (Row → Type 0) → List Row → Type 0
 Each P [] = Unit {0}
@@ -299,18 +299,18 @@ each_dropped P zero us a = a
 each_dropped P (suc n) [] a = tt
 each_dropped P (suc n) (u ∷ us) a = each_dropped P n us a.1
 
--- the rows that a range of inner rows stands for, after the values before it
+-- the rows as which a range of inner rows reads, after the values before it
 pub range_recalled : (k : Code) (n start : ℕ) (us : List Row) → recall k (latest k [] (take start us)) (take n (drop start us)) ≡ take n (drop start (recall k [] us))
 range_recalled k n start us = recall-take k n (latest k [] (take start us)) (drop start us) ∙ ap (take n) (recall-drop k start [] us)
 
--- rows that were pushed one by one, as a copy of their range
+-- rows that were pushed one by one are a copy of their range
 pub copied_rows : {f : Format} {x y : Content} (rs : List Row) (start i end : ℕ) → Took f x y (take (i - start) (drop start rs)) → i ≡ end → (f.rows x ≡ [] → start ≡ 0 → ⊥) → Copied f x y start (take (end - start) (drop start rs))
 copied_rows rs start i end g e h = rw (← e) (record { took = g; front = λ p q. absurd (h p q) })
 
 pub refused_rows : {f : Format} {x y m z : Content} {error : GrowError} (rs : List Row) (start i end : ℕ) (r : Row) → IsLawful f → IsSound f x → start ≤ i → i < end → slice_get rs i ≡ Some r → Took f x y (take (i - start) (drop start rs)) → Refused f y m (r ∷ []) error → WasCut f m z (length (f.rows x)) → Refused f x z (take (end - start) (drop start rs)) error
 refused_rows rs start i end r l s a b h g k c = refused_more rs start i end r l a b h g k.cause (undone l s (grew_stayed g.grew k.stayed) c)
 
--- what taking rows back asks
+-- the precondition of removing rows again
 pub rows_kept : {f : Format} {x y m : Content} (added ws : List Row) {error : GrowError} → Took f x y added → Refused f y m ws error → length (f.rows x) ≤ length (f.rows m)
 rows_kept {f} {x} {y} {m} added ws g k =
     let n = ap length k.stayed.rows in
@@ -320,7 +320,7 @@ rows_kept {f} {x} {y} {m} added ws g k =
 pub recall_nothing : (k : Code) (us : List Row) → length us ≡ 0 → recall k [] us ≡ []
 recall_nothing k us e = ap (recall k []) (nil_from_length us e)
 
--- the rows up to the next one reach a value, where it does
+-- the rows up to the next one reach a value, if it does
 pub reaches_next : (k : Code) (vs us : List Row) (i : ℕ) (u : Row) → slice_get us i ≡ Some u → k.back u < length (latest k vs (take (suc i) us)) → reaches k vs (take i us) ≡ true → reaches k vs (take (suc i) us) ≡ true
 reaches_next k vs [] i u h l p = cc
 reaches_next k vs (w ∷ us) zero u h l p =
@@ -334,7 +334,7 @@ not_true : (b : Bool) → (b ≡ true → ⊥) → false ≡ b
 not_true true h = absurd (h refl)
 not_true false h = refl
 
--- where it does not, not all rows do
+-- if it does not, not all rows do
 pub reaches_not : (k : Code) (vs us : List Row) (i : ℕ) (u : Row) → slice_get us i ≡ Some u → length (latest k vs (take (suc i) us)) ≤ k.back u → false ≡ reaches k vs us
 reaches_not k vs us i u h l = not_true (reaches k vs us) (λ p. let q = reaches_at k vs us i u p h in omega (arith, q, l))
 

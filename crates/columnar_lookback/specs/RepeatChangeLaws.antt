@@ -1,4 +1,4 @@
--- What pushes to and copies of repeats leave.
+-- Columns of repeats after pushes and copies.
 use Rattle.std.proofs.Common.{◌≡◌, ℕ, zero, suc, ◌+◌, ◌-◌, ◌<◌, ◌≤◌, Bool, true, false, List, [], ◌∷◌, ◌++◌, length, take, drop, append-nil, refl, sym, ◌∙◌, ap, arith, ◌⊎◌, inl, inr}
 use Rattle.std.specs.Prelude.{slice_get, Some, nat_lt, cond}
 use Rattle.std.proofs.lemmas.Bool.{and_parts, and_from, lt-ltb, ltb-true}
@@ -51,7 +51,7 @@ repeats_refused_value t {x} {y} {r} s g = recall_refused repeats_code t.kin (opt
 pub repeats_refused_none : (t : Format) {x y : Content} {r : Row} {error : GrowError} → IsSound (repeats_format t) x → Refused (options_format t) x y (none ∷ []) error → Refused (repeats_format t) x y (r ∷ []) error
 repeats_refused_none t {x} {y} {r} s g = recall_refused repeats_code t.kin (options_format t) (none ∷ []) (r ∷ []) s g (inr (inl refl), tt)
 
--- the values that inner rows bring
+-- the values that inner rows add
 same_values : (t : Format) → IsLawful t → (fs us : List Row) → all_alike (option_alike t.alike) fs us ≡ true → length (somes fs) ≡ length (somes us)
 same_values t l [] [] h = refl
 same_values t l [] (u ∷ us) h = cc
@@ -60,7 +60,7 @@ same_values t l (f ∷ fs) (u ∷ us) h =
     let p = and_parts (option_alike t.alike f u) (all_alike (option_alike t.alike) fs us) h in
     omega (arith, length-append (value_of f) (somes fs), length-append (value_of u) (somes us), alike_length t.kin (value_of f) (value_of u) (option_values t l f u p.0), same_values t l fs us p.1)
 
--- As many values are stored as the inner rows bring.
+-- As many values are stored as the inner rows add.
 pub values_stored : (t : Format) {x y v w : Content} (us : List Row) → IsLawful t → IsSound (options_format t) (both x y) → Took (options_format t) (both x y) (both v w) us → length (t.rows w) ≡ length (t.rows y) + length (somes us)
 values_stored t {x} {y} {v} {w} us l s g =
     let a = options_somes t s in
@@ -72,7 +72,7 @@ values_stored t {x} {y} {v} {w} us l s g =
 pub values_pushed : (t : Format) {x y v w : Content} (u : Row) → IsLawful t → IsSound (options_format t) (both x y) → Took (options_format t) (both x y) (both v w) (u ∷ []) → length (t.rows w) ≡ length (t.rows y) + length (value_of u)
 values_pushed t {x} {y} {v} {w} u l s g = values_stored t (u ∷ []) l s g ∙ ap (λ (vs : List Row). length (t.rows y) + length vs) (append-nil (value_of u))
 
--- a range has at least the values that stand after its first row
+-- a range has at least the values after its first row
 values_after : (us : List Row) (n start : ℕ) → length (somes (take n (drop (suc start) us))) ≤ length (somes (take (suc n) (drop start us)))
 values_after us zero start = omega arith
 values_after [] (suc n) start = omega arith
@@ -93,14 +93,14 @@ values_copied us start end old middle new b i p q =
     let f : values_between us start end ≡ length (somes (take (suc n) (drop start us))) = ap (λ (m : ℕ). length (somes (take m (drop start us)))) e in
     omega (arith, p, q, d, f, values_after us n start, at_most_one b)
 
--- the same, for the row that stands there
+-- the same, for that row
 pub values_counted : (same : Row → Row → Bool) (xs : List Row) (q r : Row) (old middle new rest : ℕ) → Some q ≡ Some r → middle ≡ old + cond (last_is same xs q) 0 1 → new ≡ middle + rest → new ≡ old + cond (last_is same xs r) 0 1 + rest
 values_counted same xs q r old middle new rest h p e =
     let d : q ≡ r = cc in
     let m : middle ≡ old + cond (last_is same xs r) 0 1 = rw d at p in
     rw (← m) e
 
--- a column without rows has no values, and those of a front that it takes are its values
+-- a column without rows has no values; after a copy of a range from row 0, its values are those of the range
 no_values_held : (t : Format) {x y : Content} → IsSound (repeats_format t) (both x y) → (repeats_format t).rows (both x y) ≡ [] → length (t.rows y) ≡ 0
 no_values_held t {x} {y} s e =
     let n : weave (ranks_bits x) (t.rows y) ≡ [] = nil_from_length (weave (ranks_bits x) (t.rows y)) (sym (length-recall repeats_code [] (weave (ranks_bits x) (t.rows y))) ∙ ap length e) in
@@ -118,7 +118,7 @@ values_front t {x} {y} {v} {w} us start end l s e z g =
 
 -- ranges
 
--- it is a value or none
+-- the row is a value or none
 abbrev IsOption : Row → Type 0
 IsOption u = ((r : Row) × (u ≡ some r)) ⊎ (u ≡ none)
 
@@ -128,7 +128,7 @@ woven (false ∷ b) vs = (inr refl, woven b vs)
 woven (true ∷ b) (v ∷ vs) = (inl (v, refl), woven b vs)
 woven (true ∷ b) [] = (inl (unit, refl), woven b [])
 
--- what a row that is a value or none stands for may be stored as it
+-- a row that an inner row reads as may be stored as that inner row
 form_of : (u : Row) (vs : List Row) → IsOption u → Among u (repeats_code.forms (recent (value_of u ++ vs) 0))
 form_of u vs a = elim a [ inl p ↦ inl (rw p.1 refl) | inr e ↦ inr (inl e) ]
 
@@ -140,7 +140,7 @@ storing_recalled vs (u ∷ us) a = (form_of u vs a.0, storing_recalled (value_of
 storing_range : (b : List Bool) (vs : List Row) (n start : ℕ) → IsStoring repeats_code (take n (drop start (weave b vs))) (take n (drop start (recall repeats_code [] (weave b vs))))
 storing_range b vs n start = rw (range_recalled repeats_code n start (weave b vs)) at (storing_recalled (latest repeats_code [] (take start (weave b vs))) (take n (drop start (weave b vs))) (each_taken IsOption n (drop start (weave b vs)) (each_dropped IsOption start (weave b vs) (woven b vs))))
 
--- a range begins with its first row
+-- a range starts with its first row
 drop_first : (rs : List Row) (i : ℕ) (r : Row) → slice_get rs i ≡ Some r → drop i rs ≡ r ∷ drop (suc i) rs
 drop_first [] i r h = cc
 drop_first (x ∷ rs) zero r h = let e : x ≡ r = cc in rw e refl
@@ -158,7 +158,7 @@ copied_nothing {f} {c} start end rs s l =
     let e : end - start ≡ 0 = omega arith in
     rw e (record { took = took_none s; front = λ n z. n })
 
--- A front that is copied into a column without rows is there as it was.
+-- A range from row 0 that is copied into a column without rows is unchanged.
 pub repeats_copied_front : (t u : Format) {x x' : Content} (v w : Content) (start n : ℕ) → IsLawful t → IsSound (repeats_format t) x → IsSound (repeats_format u) (both v w) → recall repeats_code [] ((options_format t).rows x) ≡ [] → start ≡ 0 → Copied (options_format t) x x' start (take n (drop start (weave (ranks_bits v) (u.rows w)))) → Copied (repeats_format t) x x' start (take n (drop start (recall repeats_code [] (weave (ranks_bits v) (u.rows w)))))
 repeats_copied_front t u {x} {x'} v w start n l s q h z g =
     let all = weave (ranks_bits v) (u.rows w) in
@@ -177,7 +177,7 @@ one_alike_row same (f ∷ []) (x ∷ y ∷ xs) r h = one_alike_row same (f ∷ [
 pub repeats_refused_range : (t u : Format) {x y : Content} (v w : Content) (start n : ℕ) {error : GrowError} → IsSound (repeats_format t) x → Refused (options_format t) x y (take n (drop start (weave (ranks_bits v) (u.rows w)))) error → Refused (repeats_format t) x y (take n (drop start (recall repeats_code [] (weave (ranks_bits v) (u.rows w))))) error
 repeats_refused_range t u v w start n s g = recall_refused repeats_code t.kin (options_format t) _ _ s g (storing_range (ranks_bits v) (u.rows w) n start)
 
--- The inner rows after the first row of a range stand for the same rows after a row that is kin to it.
+-- The inner rows after the first row of a range read as the same rows after a row that is kin to it.
 took_rest : (t u : Format) {x m x' : Content} (v w : Content) (start from n : ℕ) (r : Row) → from ≡ suc start → IsLawful t → slice_get (recall repeats_code [] (weave (ranks_bits v) (u.rows w))) start ≡ Some r → start < length (weave (ranks_bits v) (u.rows w)) → Took (repeats_format t) x m (r ∷ []) → Took (options_format t) m x' (take n (drop from (weave (ranks_bits v) (u.rows w)))) → Took (repeats_format t) m x' (take n (drop from (recall repeats_code [] (weave (ranks_bits v) (u.rows w)))))
 took_rest t u {x} {m} {x'} v w start from n r z l h i g k =
     let all = weave (ranks_bits v) (u.rows w) in
@@ -211,7 +211,7 @@ repeats_refused_first t {x} {y} rs start end r {error} l i h g =
       cause = rw (range_first rs start end r i h) (true_from (repeats_format t) (repeats_format t) x x (r ∷ []) (r ∷ rest) error (λ e k. (repeats_lawful t l).more e x (length ((repeats_format t).rows x)) (r ∷ []) rest k) g.cause);
     }
 
--- the rows after it were refused, and it was taken back
+-- the rows after it were refused, and it was removed again
 pub repeats_refused_rest : (t u : Format) {x m y z : Content} (v w : Content) (start end : ℕ) (r : Row) {error : GrowError} → IsLawful t → start < end → slice_get (recall repeats_code [] (weave (ranks_bits v) (u.rows w))) start ≡ Some r → IsSound (repeats_format t) x → Took (repeats_format t) x m (r ∷ []) → Refused (options_format t) m y (take (end - (start + 1)) (drop (start + 1) (weave (ranks_bits v) (u.rows w)))) error → WasCut (repeats_format t) y z (length ((repeats_format t).rows x)) → Refused (repeats_format t) x z (take (end - start) (drop start (recall repeats_code [] (weave (ranks_bits v) (u.rows w))))) error
 repeats_refused_rest t u {x} {m} {y} {z} v w start end r {error} l i h s g k c =
     let rs = recall repeats_code [] (weave (ranks_bits v) (u.rows w)) in
@@ -222,7 +222,7 @@ repeats_refused_rest t u {x} {m} {y} {z} v w start end r {error} l i h s g k c =
       cause = rw (range_first rs start end r i h) (true_from (repeats_format t) (repeats_format t) m x rest (r ∷ rest) error (λ e n. g.adds e rest n) q.cause);
     }
 
--- what taking it back asks
+-- the precondition of removing it again
 pub repeats_taken_back : (t : Format) {x m y : Content} (us : List Row) {r : Row} {error : GrowError} → IsSound (repeats_format t) x → Took (repeats_format t) x m (r ∷ []) → Refused (options_format t) m y us error → IsSound (repeats_format t) y × (length ((options_format t).rows x) ≤ length (recall repeats_code [] ((options_format t).rows y)))
 repeats_taken_back t {x} {m} {y} us s g k =
     let q = recall_stayed repeats_code t.kin (options_format t) g.grew.sound k.stayed in

@@ -1,4 +1,4 @@
--- A column of values and repeats is lawful, and each repeat is the row before it.
+-- A column of values and repeats is lawful, and each repeat reads as the row before it.
 use Rattle.std.proofs.Common.{◌≡◌, ℕ, zero, suc, ◌+◌, ◌-◌, ◌<◌, ◌≤◌, Bool, true, false, List, [], ◌∷◌, ◌++◌, length, take, refl, sym, ◌∙◌, ap, arith, inl, inr}
 use Rattle.std.specs.Prelude.{slice_get, Some, None, nat_lt, cond, map}
 use Rattle.std.proofs.lemmas.Bool.{and_parts, and_from, lt-ltb, ltb-true}
@@ -27,7 +27,7 @@ is_some : Row → Bool
 is_some (some r) = true
 is_some _ = false
 
--- the value of a row, by what is left of the row without it
+-- the value of a row, from the row without it
 value_bare : (u : Row) → value_of u ≡ cond (is_some (bare_option u)) (inner_of u ∷ []) []
 unfolding is_some
 value_bare (number n) = refl
@@ -52,7 +52,7 @@ one_alike : (kin : Row → Row → Bool) (b : Bool) (r s : Row) → kin r s ≡ 
 one_alike kin true r s h = and_from _ _ h refl
 one_alike kin false r s h = refl
 
--- the values of options that are alike are kin
+-- the values of options that represent each other are kin
 pub option_values : (t : Format) → IsLawful t → (u v : Row) → option_alike t.alike u v ≡ true → all_alike t.kin (value_of u) (value_of v) ≡ true
 option_values t l u v h =
     let p = and_parts (row_eq (bare_option u) (bare_option v)) (t.alike (inner_of u) (inner_of v)) h in
@@ -78,7 +78,7 @@ some_bare (solo r) h = cc
 some_bare (team r) h = cc
 some_bare (tree r s) h = cc
 
--- what is alike to a value is it, where alike is equality
+-- a row that represents a value equals it, if only equal rows represent each other
 pub option_is : (same : Row → Row → Bool) → IsExact same → (u w : Row) → option_alike same u (some w) ≡ true → u ≡ some w
 option_is same e u w h =
     let p = and_parts (row_eq (bare_option u) (some unit)) (same (inner_of u) w) h in
@@ -108,7 +108,7 @@ pub reaches_near : (us ws : List Row) → 1 ≤ length ws → reaches repeats_co
 reaches_near [] ws h = refl
 reaches_near (u ∷ us) ws h = let m = more_values (value_of u) ws h in and_from _ _ (lt-ltb 0 (length (value_of u ++ ws)) (omega (arith, m))) (reaches_near us (value_of u ++ ws) m)
 
--- the last value alone counts
+-- only the last value matters
 nearest_kin : (kin : Row → Row → Bool) → IsSame kin → (ts vs ws : List Row) → kin (recent vs 0) (recent ws 0) ≡ true → kin (recent (ts ++ vs) 0) (recent (ts ++ ws) 0) ≡ true
 nearest_kin kin e [] vs ws h = h
 nearest_kin kin e (t ∷ ts) vs ws h = e.reflexive t
@@ -117,7 +117,7 @@ pub recall_near : (kin : Row → Row → Bool) → IsSame kin → (us vs ws : Li
 recall_near kin e [] vs ws h = refl
 recall_near kin e (u ∷ us) vs ws h = let m = nearest_kin kin e (value_of u) vs ws h in and_from _ _ m (recall_near kin e us (value_of u ++ vs) (value_of u ++ ws) m)
 
--- Each row reaches a value where the first one is a value.
+-- Each row reaches a value if the first one is a value.
 pub starts_reaches : (b : List Bool) (vs : List Row) → reaches repeats_code [] (weave b vs) ≡ starts_set b
 starts_reaches [] vs = refl
 starts_reaches (true ∷ b) (v ∷ vs) = reaches_near (weave b vs) (v ∷ []) (omega arith)
@@ -131,7 +131,7 @@ latest_weave (false ∷ b) vs ws e = latest_weave b vs ws (omega (arith, e, ones
 latest_weave (true ∷ b) [] ws e = absurd (omega (arith, e, ones_true b (length b)))
 latest_weave (true ∷ b) (v ∷ vs) ws e = latest_weave b vs (v ∷ ws) (omega (arith, e, ones_true b (length b)))
 
--- of the first n rows, those of the trues among them
+-- the values of the set bits among the first n rows
 latest_taken : (b : List Bool) (vs : List Row) (n : ℕ) → ones b n ≤ length vs → latest repeats_code [] (take n (weave b vs)) ≡ onto (take (ones b n) vs) []
 latest_taken b vs n l =
     let e = weave-take n b vs in
@@ -174,7 +174,7 @@ repeats_some t i s l = (up_to t i s l).some_value
 pub repeats_within : (t : Format) {x y : Content} (i k : ℕ) → IsSound (repeats_format t) (both x y) → i < length (recall repeats_code [] (weave (ranks_bits x) (t.rows y))) → k + 1 ≡ ones (ranks_bits x) (i + 1) → k < length (t.rows y)
 repeats_within t i k s l e = let a = (up_to t i s l).all in omega (arith, a, e)
 
--- Row i is value k where k + 1 values stand up to it.
+-- Row i is value k if there are k + 1 values up to it.
 pub repeats_row : (t : Format) {x y : Content} (i k : ℕ) → IsSound (repeats_format t) (both x y) → i < length (recall repeats_code [] (weave (ranks_bits x) (t.rows y))) → k + 1 ≡ ones (ranks_bits x) (i + 1) → slice_get (recall repeats_code [] (weave (ranks_bits x) (t.rows y))) i ≡ slice_get (t.rows y) k
 repeats_row t {x} {y} i k s l e =
     let a = up_to t i s l in
@@ -185,7 +185,7 @@ repeats_row t {x} {y} i k s l e =
     let g = recent_onto (take n (t.rows y)) [] k 0 h.0 (taken_at n k (t.rows y) h.0 (omega (arith, e)) h.1) (omega (arith, e, f)) in
     a.row ∙ ap Some g ∙ sym h.1
 
--- the values up to row i, which brings one or not
+-- the values up to row i, which adds one or not
 ones_next : (b : List Bool) (i : ℕ) (z : Bool) → slice_get b i ≡ Some z → ones b (i + 1) ≡ ones b i + cond z 1 0
 ones_next [] i z h = cc
 ones_next (true ∷ b) zero z h = let e : true ≡ z = cc in rw (← e) (omega (arith, ones_true b 0, ones_zero b, ones_zero (true ∷ b)))
@@ -215,7 +215,7 @@ last_latest : (kin : Row → Row → Bool) (us : List Row) (r : Row) → 1 ≤ l
 last_latest kin [] r h = absurd (omega arith)
 last_latest kin (u ∷ us) r h = last_of kin [] us u r
 
--- The item is the same as the last row where it is so of the last value.
+-- The item is the same as the last row if it is the same as the last value.
 pub repeats_last : (t : Format) {x y : Content} (i : ℕ) (v r : Row) → IsSound (repeats_format t) (both x y) → i + 1 ≡ length (t.rows y) → slice_get (t.rows y) i ≡ Some v → t.kin v r ≡ last_is t.kin (recall repeats_code [] (weave (ranks_bits x) (t.rows y))) r
 repeats_last t {x} {y} i v r s l h =
     let b = ranks_bits x in
@@ -244,7 +244,7 @@ repeats_last_none t {x} {y} r s e =
     let z = no_rows (weave b vs) p.reached (rw d (omega (arith, n, e))) in
     rw z refl
 
--- the parts, where the repeats are well formed
+-- the parts of well-formed repeats
 pub repeats_options : (t : Format) {c : Content} → IsSound (repeats_format t) c → IsSound (options_format t) c
 repeats_options t s = (recall_parts repeats_code t.kin (options_format t) s).inner
 
@@ -254,6 +254,6 @@ repeats_values t s = (options_parts t (repeats_options t s)).values
 pub length-repeats : (t : Format) (x y : Content) → length (recall repeats_code [] (weave (ranks_bits x) (t.rows y))) ≡ length (ranks_bits x)
 length-repeats t x y = length-recall repeats_code [] (weave (ranks_bits x) (t.rows y)) ∙ length-weave (ranks_bits x) (t.rows y)
 
--- what a test answers that found no fault of the options
+-- the answer of a test that found no fault of the options
 pub repeats_fine : (t : Format) (x y : Content) (at : ℕ) → None ≡ first (moved at ((options_format t).broken (both x y))) → starts_set (ranks_bits x) ≡ true → None ≡ first (moved at ((repeats_format t).broken (both x y)))
 repeats_fine t x y at h e = recall_fine repeats_code t.kin (options_format t) (both x y) at h (starts_reaches (ranks_bits x) (t.rows y) ∙ e)

@@ -1,4 +1,4 @@
--- What tests for equal rows answer, part by part.
+-- The answers of tests for equal rows, for each part.
 use Rattle.std.proofs.Common.{◌≡◌, ℕ, Bool, true, false, ◌&&◌, List, [], ◌∷◌, refl, sym, ◌∙◌, ap}
 use Rattle.std.specs.Prelude.{slice_get, Some, not, map}
 use Rattle.columnar_base.specs.Row.{Row, unit, truth, tuple, none, some, empty, list, items_of, list_end, row_eq}
@@ -12,7 +12,7 @@ use Rattle.columnar_sums.specs.RankColumns.{ranks_bits}
 use Rattle.columnar_sums.specs.Options.{weave, option_alike, options_format}
 use Rattle.columnar_sums.specs.OptionLaws.{options_value, options_some, options_absent}
 
--- a place has one row
+-- a position has one row
 pub one_row : (rs : List Row) (i : ℕ) (u r : Row) → slice_get rs i ≡ Some u → slice_get rs i ≡ Some r → r ≡ u
 one_row rs i u r h k = cc
 
@@ -60,6 +60,6 @@ list_rows (u ∷ us) (v ∷ vs) =
     let h = list_rows us vs in
     ap (λ (b : Bool). row_eq u v && b) h ∙ and_swap (row_eq u v) (row_eq (list_end (list us)) (list_end (list vs))) (all_alike row_eq (items_of (list us)) (items_of (list vs)))
 
--- a text that stands at a place is the same as another where the rows are equal
+-- a text at a position is the same as another if the rows are equal
 pub text_at : (rs : List Row) (i : ℕ) (us vs : List Row) (r s : Row) → slice_get rs i ≡ Some (list us) → slice_get rs i ≡ Some r → s ≡ list vs → row_eq (list us) (list vs) ≡ list_alike row_eq r s
 text_at rs i us vs r s h k e = rw (one_row rs i (list us) r h k, e) (list_rows us vs)

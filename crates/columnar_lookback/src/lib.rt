@@ -1,4 +1,4 @@
-//! Columns in which a row may stand for an earlier one.
+//! Columns in which a row may refer to an earlier one.
 #![tactic(auto)]
 
 pub mod lookbacks;

@@ -1,13 +1,13 @@
-//! Columns that refer back to one of the last values.
+//! Columns whose rows refer to one of the last values.
 ghost use Rattle.std.specs.Prelude.{◌≡◌, ◌<◌, [], drop, length, slice_get, IsTrue};
 ghost use Rattle.std.specs.Int.{to_le_bytes, w8};
 ghost use Rattle.columnar_base.specs.Elements.{elements, bytes_format};
 ghost use Rattle.columnar_base.specs.Numbers.{unsigned_row_of};
 ghost use Rattle.columnar_base.specs.Format.{IsSound, Fits, representable};
 ghost use Rattle.columnar_core.specs.Store.{slices_in};
-ghost use Rattle.columnar_sums.specs.Results.{results_content, weave_results};
+ghost use Rattle.columnar_sums.specs.Results.{results_content, results_format, weave_results};
 ghost use Rattle.columnar_sums.specs.RankColumns.{ranks_bits, ranks_content};
-ghost use Rattle.columnar_lookback.specs.Recall.{latest};
+ghost use Rattle.columnar_lookback.specs.Recall.{latest, recall};
 ghost use Rattle.columnar_lookback.specs.Lookbacks.{lookbacks_code, lookbacks_format, nearest, IsPlain};
 ghost use Rattle.columnar_lookback.specs.LookbackLaws.{elements_plain};
 
@@ -23,7 +23,10 @@ use columnar_sums::result::Results;
 
 /// A column of distances: a `Vec` of bytes, or a slice of them.
 pub trait Distances: IndexAs<u8> + Len + Stored {
-    /// The distances in the slices from `offset` on, which were accepted.
+    /// Returns the distances in the slices from `offset` on, which were accepted.
+    ///
+    /// # Requires
+    /// The format is representable, and the slices from `offset` on were accepted.
     fn distances_in<'s>(store: &DecodedStore<'s>, offset: usize) -> &'s [u8]
         requires representable { IsTrue (representable Self.format) }
         requires fits { Fits Self.format offset (slices_in store.now) }
@@ -53,11 +56,11 @@ impl<'v> Distances for &'v [u8] {
     }
 }
 
-/// Rows of which one that is the same as one of the last `N` values is kept as its distance from the last of them, the
-/// least, and reads as that value.
+/// A column that stores a row that is the same as one of the last `N` values (`SameAs`) as its distance from the last
+/// of them. It stores the least such distance; the row reads as that value.
 #[derive(Clone, Copy, PartialEq, Drop)]
 pub struct Lookbacks<TC, const N: u8, VC = Vec<u8>, CC = Vec<u64>, RC = Vec<u64>, WC = [u64; 2]> {
-    /// For each row its value, or how many values stand between the one that is meant and the end, at that row.
+    /// For each row its value, or how many of the values before that row follow the one it refers to.
     pub inner: Results<TC, VC, CC, RC, WC>,
 }
 
@@ -66,6 +69,28 @@ impl<TC: Column, VC: Column, CC: Words, RC: Words, WC: Words, const N: u8> Colum
     ghost format = { lookbacks_format TC.format VC.format };
 
     ghost content = { λ c. results_content TC.content VC.content CC.bytes RC.bytes WC.bytes c.inner };
+}
+
+impl<TC: Column, VC: Column, CC: Words, RC: Words, WC: Words, const N: u8> Lookbacks<
+    TC,
+    N,
+    VC,
+    CC,
+    RC,
+    WC,
+> {
+    /// Returns the column of results in which the rows are stored: a value, or the distance to an earlier one.
+    ///
+    /// # Requires
+    /// The column is well-formed.
+    pub fn into_inner(self) -> Results<TC, VC, CC, RC, WC>
+        requires { IsSound (lookbacks_format TC.format VC.format) (results_content TC.content VC.content CC.bytes RC.bytes WC.bytes self.inner) }
+        ensures sound { IsSound (results_format TC.format VC.format) (results_content TC.content VC.content CC.bytes RC.bytes WC.bytes result) }
+        ensures rows { (lookbacks_format TC.format VC.format).rows (results_content TC.content VC.content CC.bytes RC.bytes WC.bytes self.inner) ≡ recall lookbacks_code [] ((results_format TC.format VC.format).rows (results_content TC.content VC.content CC.bytes RC.bytes WC.bytes result)) }
+        ensures inner { result ≡ self.inner }
+    {
+        self.inner
+    }
 }
 
 impl<TC: Len, VC: Len, CC: Words, RC: Words, WC: Words, const N: u8> Len
@@ -84,7 +109,7 @@ impl<TC: Index, VC: Distances, CC: Words, RC: Words, WC: Words, const N: u8> Ind
     }
 }
 
-/// Rows are read through a reference as the values are through one.
+/// Rows are read through a reference if the values are.
 impl<'a, TC: Len, VC: Distances, CC: Words, RC: Words, WC: Words, const N: u8> Index
     for &'a Lookbacks<TC, N, VC, CC, RC, WC>
 where
@@ -107,7 +132,7 @@ impl<TC: Column, VC: Distances, CC: Words, RC: Words, WC: Words, const N: u8> Lo
     RC,
     WC,
 > {
-    // Which of the values row `index` is.
+    // Returns the number of the value that row `index` reads as.
     fn value_index(&self, index: usize) -> usize
         requires sound { IsSound (lookbacks_format TC.format VC.format) (results_content TC.content VC.content CC.bytes RC.bytes WC.bytes self.now.inner) }
         requires in_range { index < length ((lookbacks_format TC.format VC.format).rows (results_content TC.content VC.content CC.bytes RC.bytes WC.bytes self.now.inner)) }
@@ -132,8 +157,11 @@ impl<TC: Len, VC: Distances, CC: Words, RC: Words, WC: Words, const N: u8> Lookb
     RC,
     WC,
 > {
-    /// The least distance below `N` at which a value is the same as the item, 0 for the last value; None where the item is
-    /// the same as none of these. Takes no memory.
+    /// Returns the least distance below `N` at which a value is the same as the item, 0 for the last value; `None` if
+    /// none of them is. Allocates nothing.
+    ///
+    /// # Requires
+    /// The column is well-formed, and `item` is valid.
     pub fn distance_to<T: Item>(&self, item: &T) -> Option<u8>
     where
         TC: SameAs<T>,

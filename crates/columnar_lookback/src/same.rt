@@ -1,4 +1,4 @@
-//! Columns that tell whether a row is the same as an item.
+//! Columns that test whether a row is the same as an item.
 ghost use Rattle.std.specs.Prelude.{◌≡◌, ◌<◌, length, slice_get, Some};
 ghost use Rattle.columnar_base.specs.Row.{Row, row_eq, tuple};
 ghost use Rattle.columnar_base.specs.Format.{both, IsSound};
@@ -24,10 +24,13 @@ use columnar_sums::option::Options;
 use columnar_sums::unaries::Unaries;
 use std::time::Duration;
 
-/// A column that tells whether a row is the same as an item: whether the relation of its format, an equivalence that
-/// holds wherever rows are alike, holds of the two.
+/// A column that tests whether a row is the same as an item by `kin`, the relation of its format. `kin` is an
+/// equivalence that holds whenever a stored row represents the item.
 pub trait SameAs<T: Item>: Column {
-    /// Is row `at` the same as the item?
+    /// Tests whether row `at` and the item are `kin`.
+    ///
+    /// # Requires
+    /// The column is well-formed, `at` is less than its length, and `item` is valid.
     fn same(&self, at: usize, item: &T) -> bool
         requires sound { IsSound Self.format (Self.content self.now) }
         requires in_range { at < length (Self.format.rows (Self.content self.now)) }
@@ -35,7 +38,7 @@ pub trait SameAs<T: Item>: Column {
         ensures { (r : Row) → slice_get (Self.format.rows (Self.content self.now)) at ≡ Some r → result ≡ Self.format.kin r (T.meaning item.now) };
 }
 
-// Is row `at` equal to the item?
+// Tests whether row `at` equals the item.
 fn equals<C: Index<Ref: OrderedRow>>(column: &C, at: usize, item: &C::Ref) -> bool
     requires sound { IsSound C.format (C.content column.now) }
     requires in_range { at < length (C.format.rows (C.content column.now)) }
@@ -86,14 +89,14 @@ impl<CC: Words, VC: Words, WC: Words> SameAs<u64> for Unaries<CC, VC, WC> {
     }
 }
 
-/// The same in its part.
+/// Tests the field in its part.
 impl<P: Item, A: SameAs<P>> SameAs<(P,)> for (A,) {
     fn same(&self, at: usize, item: &(P,)) -> bool {
         self.0.same(at, &item.0)
     }
 }
 
-// The same in both parts.
+// Tests both fields in their parts.
 fn same_two<P: Item, Q: Item, A: SameAs<P>, B: SameAs<Q>>(
     first: &A,
     second: &B,
@@ -110,14 +113,14 @@ fn same_two<P: Item, Q: Item, A: SameAs<P>, B: SameAs<Q>>(
     first.same(at, p) && second.same(at, q)
 }
 
-/// The same in both parts.
+/// Tests both fields in their parts.
 impl<P: Item, Q: Item, A: SameAs<P>, B: SameAs<Q>> SameAs<(P, Q)> for (A, B) {
     fn same(&self, at: usize, item: &(P, Q)) -> bool {
         same_two(&self.0, &self.1, at, &item.0, &item.1)
     }
 }
 
-/// Both absent, or both there and the same.
+/// Both are absent, or both are present and their values are the same.
 impl<T: Item, TC: SameAs<T> + Truncate, CC: Words, VC: Words, WC: Words> SameAs<Option<T>>
     for Options<TC, CC, VC, WC> {
     fn same(&self, at: usize, item: &Option<T>) -> bool {
@@ -134,21 +137,21 @@ impl<R: Item, C: SameAs<R>> SameAs<Boxed<R>> for Boxed<C> {
     }
 }
 
-/// The same as what lies in the box.
+/// Tests the content of the box.
 impl<T: Item, C: SameAs<T>> SameAs<Box<T>> for Boxed<C> {
     fn same(&self, at: usize, item: &Box<T>) -> bool {
         self.0.same(at, &**item)
     }
 }
 
-/// The same bytes.
+/// Tests the bytes.
 impl<T: Text, BC: Offsets> SameAs<T> for Strings<BC, Vec<u8>> {
     fn same(&self, at: usize, item: &T) -> bool {
         Index::get(&self, at).same_row(&item.text_bytes())
     }
 }
 
-// The same of items that are lent.
+// Items that are references.
 
 impl<'x, T: Element + OrderedRow> SameAs<&'x T> for Vec<T> {
     fn same(&self, at: usize, item: &&'x T) -> bool {

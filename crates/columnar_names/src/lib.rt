@@ -1,6 +1,7 @@
-//! Names of slices: for a type with bytes, the path of fields at which each of its slices is reached.
+//! Names of slices: for a type with bytes, the path of fields that leads to each of its slices.
 #![tactic(auto)]
 
+pub mod fault;
 pub mod lists;
 pub mod names;
 pub mod plain;

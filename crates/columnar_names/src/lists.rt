@@ -1,4 +1,4 @@
-//! Columns of lists, of strings and of trees.
+//! Names of the slices of columns of lists, of strings and of trees.
 use crate::names::{SliceNames, push_field, push_slice};
 use columnar_base::fault::GrowError;
 use columnar_core::offsets::StoredOffsets;

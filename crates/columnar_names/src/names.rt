@@ -1,21 +1,28 @@
 //! Types whose slices have names.
 ghost use Rattle.std.specs.Prelude.{◌≡◌, ◌+◌, length, OnOk, IfOk, IfErr};
+ghost use Rattle.columnar_names.specs.Kept.{KeepsItems};
 
 use columnar_base::fault::GrowError;
 use columnar_core::bytes::Stored;
 use std::alloc::Global;
 
-/// A type with bytes, each slice of which has a name: the fields by which it is reached, with points between them, as
-/// `values` of lists of numbers and `1.indexes.counts` of pairs with options. A column that is one slice has an empty name.
+/// A type with bytes whose slices all have names: the fields that lead to a slice, separated by dots. Examples are
+/// `values` of lists of numbers, and `1.indexes.counts` of pairs with options. The name of a column that is a single
+/// slice is empty.
 pub trait SliceNames: Stored {
-    /// Adds the names of the slices, in their order, of a column that stands at `path`. Where memory is refused, those of its
-    /// first slices may have been added.
+    /// Appends the names of the slices, in order, of a column at `path`.
+    ///
+    /// # Errors
+    /// `Memory`, and no other error. The old names stay; those of its first slices may have been appended.
     fn push_names(alloc: Global, path: &str, names: &mut Vec<String>) -> Result<(), GrowError>
         ensures count { OnOk result (length names.new.items ≡ length names.old.items + Self.format.count) }
+        ensures kept { KeepsItems names.old.items names.new.items }
         ensures memory { IfErr result (λ e. e ≡ GrowError.Memory) };
 
-    /// The name of each slice of the type, in their order: as many as it has slices. Slice i of a fault, or of a store, has
-    /// name i. Refused where memory is.
+    /// Returns the names of the type's slices in order, one each. Slice i of a fault, or of a store, has name i.
+    ///
+    /// # Errors
+    /// `Memory`, and no other error.
     final fn slice_names(alloc: Global) -> Result<Vec<String>, GrowError>
         ensures count { IfOk result (λ names. length names.items ≡ Self.format.count) }
         ensures memory { IfErr result (λ e. e ≡ GrowError.Memory) }
@@ -26,7 +33,10 @@ pub trait SliceNames: Stored {
     }
 }
 
-/// Adds the names of the slices of the column that is the field `field` of the one at `path`.
+/// Appends the names of the slices of the column that is the field `field` of the column at `path`.
+///
+/// # Errors
+/// `Memory`, and no other error. The old names stay.
 pub fn push_field<C: SliceNames>(
     alloc: Global,
     path: &str,
@@ -34,12 +44,17 @@ pub fn push_field<C: SliceNames>(
     names: &mut Vec<String>,
 ) -> Result<(), GrowError>
     ensures count { OnOk result (length names.new.items ≡ length names.old.items + C.format.count) }
+    ensures kept { KeepsItems names.old.items names.new.items }
     ensures memory { IfErr result (λ e. e ≡ GrowError.Memory) }
 {
     C::push_names(alloc, joined(alloc, path, field)?.as_str(), names)
 }
 
-/// Adds the name of the one slice that is the field `field` of the column at `path`.
+/// Appends the name of the only slice that is the field `field` of the column at `path`.
+///
+/// # Errors
+/// `Memory`, and no other error. The old names stay.
+#[tactic(auto, using(crate::proofs::Keeping::begins_longer))]
 pub fn push_slice(
     alloc: Global,
     path: &str,
@@ -47,13 +62,18 @@ pub fn push_slice(
     names: &mut Vec<String>,
 ) -> Result<(), GrowError>
     ensures count { OnOk result (length names.new.items ≡ length names.old.items + 1) }
+    ensures kept { KeepsItems names.old.items names.new.items }
     ensures memory { IfErr result (λ e. e ≡ GrowError.Memory) }
 {
     names.push(joined(alloc, path, field)?)?;
     Ok(())
 }
 
-/// The path of a field of the column at `path`, which is empty for the whole; the path itself, if the field is empty.
+/// Returns the path of a field of the column at `path`, which is empty for the whole; `path` itself if the field is
+/// empty.
+///
+/// # Errors
+/// `Memory`, and no other error.
 pub fn joined(alloc: Global, path: &str, field: &str) -> Result<String, GrowError>
     ensures memory { IfErr result (λ e. e ≡ GrowError.Memory) }
 {
@@ -67,23 +87,27 @@ pub fn joined(alloc: Global, path: &str, field: &str) -> Result<String, GrowErro
 
 /// The names of parts: of the fields of a struct, or of the variants of an enum.
 pub trait PartNames {
-    /// The name of part `index`, counted from 0; empty where there is none.
+    /// Returns the name of part `index`, counted from 0; empty if there is no such part.
     fn part_name(index: usize) -> &'static str;
 }
 
-/// Columns of parts, the names of which are given.
+/// Columns of parts whose names are given.
 pub trait NamedParts: Stored {
-    /// As `push_names`, with the names that `N` gives the parts.
+    /// Does what `push_names` does, with the names that `N` gives the parts.
+    ///
+    /// # Errors
+    /// As `SliceNames::push_names`.
     fn push_parts_names<N: PartNames>(
         alloc: Global,
         path: &str,
         names: &mut Vec<String>,
     ) -> Result<(), GrowError>
         ensures count { OnOk result (length names.new.items ≡ length names.old.items + Self.format.count) }
+        ensures kept { KeepsItems names.old.items names.new.items }
         ensures memory { IfErr result (λ e. e ≡ GrowError.Memory) };
 }
 
-/// Parts that have numbers, counted from 0, and no names: those of a tuple.
+/// Parts with numbers, counted from 0, as names: those of a tuple.
 pub struct Numbered;
 
 impl PartNames for Numbered {

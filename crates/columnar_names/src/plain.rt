@@ -1,4 +1,4 @@
-//! Columns of a few slices that hold no other column.
+//! Names of the slices of columns that contain no other column.
 use crate::names::{SliceNames, push_field, push_slice};
 use columnar_base::element::Element;
 use columnar_base::fault::GrowError;

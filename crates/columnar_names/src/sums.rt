@@ -1,4 +1,4 @@
-//! Bits with their counts, and columns of options, results, repeats and bounds in unary over them.
+//! Names of the slices of counted bits, and of columns of options, results, repeats and bounds in unary over them.
 use crate::names::{SliceNames, push_field, push_slice};
 use columnar_base::fault::GrowError;
 use columnar_bits::bools::Bools;

@@ -1,4 +1,4 @@
-//! Tuples of one and two.
+//! Names of the slices of tuples of one and two columns.
 use crate::names::{NamedParts, Numbered, PartNames, SliceNames, push_field};
 use columnar_base::fault::GrowError;
 use std::alloc::Global;

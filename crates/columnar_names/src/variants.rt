@@ -1,5 +1,6 @@
-//! Columns of the values of a sum type, and the variants of its rows.
+//! Names of the slices of the values of a sum type, and of the variants of its rows.
 ghost use Rattle.std.specs.Prelude.{◌≡◌, ◌+◌, length, OnOk, IfErr};
+ghost use Rattle.columnar_names.specs.Kept.{KeepsItems};
 
 use crate::names::{NamedParts, PartNames, SliceNames, joined, push_field};
 use columnar_base::fault::GrowError;
@@ -11,12 +12,20 @@ use std::alloc::Global;
 
 /// The columns of the values of a sum type, whose slices have names.
 pub trait NamedBank: StoredBank {
-    /// Adds the names of the slices, in their order, of the nested tuples that stand at `path`, the first at field 0.
+    /// Appends the names of the slices, in order, of the nested tuples at `path`, the first at field 0.
+    ///
+    /// # Errors
+    /// As `SliceNames::push_names`.
     fn push_columns(alloc: Global, path: &str, names: &mut Vec<String>) -> Result<(), GrowError>
         ensures count { OnOk result (length names.new.items ≡ length names.old.items + Self.bank.sides.count) }
+        ensures kept { KeepsItems names.old.items names.new.items }
         ensures memory { IfErr result (λ e. e ≡ GrowError.Memory) };
 
-    /// As `push_columns`, with the name of its variant for each column, where the first is that of variant `first`.
+    /// Does what `push_columns` does, with the variant's name for each column; the first column is that of variant
+    /// `first`.
+    ///
+    /// # Errors
+    /// As `SliceNames::push_names`.
     fn push_variants<N: PartNames>(
         alloc: Global,
         path: &str,
@@ -24,6 +33,7 @@ pub trait NamedBank: StoredBank {
         names: &mut Vec<String>,
     ) -> Result<(), GrowError>
         ensures count { OnOk result (length names.new.items ≡ length names.old.items + Self.bank.sides.count) }
+        ensures kept { KeepsItems names.old.items names.new.items }
         ensures memory { IfErr result (λ e. e ≡ GrowError.Memory) };
 }
 

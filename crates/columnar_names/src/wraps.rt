@@ -1,4 +1,4 @@
-//! Columns that hold or lend one other: its slices have the names that it gives them.
+//! Names of the slices of columns that hold or lend one other column: they are those of this column.
 use crate::names::{NamedParts, PartNames, SliceNames};
 use columnar_base::fault::GrowError;
 use columnar_core::boxed::Boxed;

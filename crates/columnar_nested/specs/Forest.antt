@@ -1,12 +1,12 @@
 -- Trees, and their nodes level by level.
 use Rattle.std.specs.Prelude.{ℕ, suc, List, [], ◌∷◌, ◌++◌}
 
--- trees side by side: none, or a tree (its value and its kids) and the rest
+-- a list of trees: empty, or a tree (its value and its children) and the rest
 pub data Forest (A : Type 0) : Type 0 where
   no_trees : Forest A
   tree_and : A → Forest A → Forest A → Forest A
 
--- a node of a tree, with all that is below it
+-- a node of a tree, with all nodes below it
 pub record Node (A : Type 0) : Type 0 where
   pub value : A
   pub kids : Forest A
@@ -21,13 +21,13 @@ abbrev pub roots : {A : Type 0} → Forest A → List (Node A)
 roots no_trees = []
 roots (tree_and v k r) = record { value = v; kids = k } ∷ roots r
 
--- the levels of two forests side by side
+-- the levels of two forests, joined level by level
 abbrev pub side_by_side : {X : Type 0} → List (List X) → List (List X) → List (List X)
 side_by_side [] ys = ys
 side_by_side (x ∷ xs) [] = x ∷ xs
 side_by_side (x ∷ xs) (y ∷ ys) = (x ++ y) ∷ side_by_side xs ys
 
--- level 0 has the roots, level 1 their kids, and so on
+-- level 0 has the roots, level 1 their children, and so on
 abbrev pub levels : {A : Type 0} → Forest A → List (List (Node A))
 levels no_trees = []
 levels (tree_and v k r) = side_by_side ((record { value = v; kids = k } ∷ []) ∷ levels k) (levels r)
@@ -37,6 +37,6 @@ abbrev pub in_line : {X : Type 0} → List (List X) → List X
 in_line [] = []
 in_line (x ∷ xs) = x ++ in_line xs
 
--- all nodes, level 0, then level 1, and so on
+-- all nodes: level 0, then level 1, and so on
 abbrev pub level_order : {A : Type 0} → Forest A → List (Node A)
 level_order f = in_line (levels f)

@@ -1,7 +1,7 @@
 use Rattle.std.proofs.Common.{◌≡◌, ◌+◌, ◌-◌, List, [], ◌∷◌, ◌++◌, refl, sym, ◌∙◌, ap, arith, append_assoc, append-nil}
 use Rattle.columnar_nested.specs.Forest.{Forest, no_trees, tree_and, width, side_by_side, levels, in_line, level_order}
 
--- two forests side by side
+-- two forests, one after the other
 abbrev pub joined_forest : {A : Type 0} → Forest A → Forest A → Forest A
 joined_forest no_trees g = g
 joined_forest (tree_and v k r) g = tree_and v k (joined_forest r g)
@@ -32,7 +32,7 @@ levels-joined no_trees g = refl
 levels-joined (tree_and v k r) g =
     ap (side_by_side ((record { value = v; kids = k } ∷ []) ∷ levels k)) (levels-joined r g) ∙ sym (beside-assoc ((record { value = v; kids = k } ∷ []) ∷ levels k) (levels r) (levels g))
 
--- what stands first in level 0 stands first in all
+-- what is first in level 0 is first in all levels
 pub in_line-first : {X : Type 0} (v x : List X) (xs ys : List (List X)) → in_line (side_by_side ((v ++ x) ∷ xs) ys) ≡ v ++ in_line (side_by_side (x ∷ xs) ys)
 in_line-first v x xs [] = append_assoc v x (in_line xs)
 in_line-first v x xs (y ∷ ys) =
@@ -40,7 +40,7 @@ in_line-first v x xs (y ∷ ys) =
     let f : (v ++ (x ++ y)) ++ in_line (side_by_side xs ys) ≡ v ++ ((x ++ y) ++ in_line (side_by_side xs ys)) = append_assoc v (x ++ y) (in_line (side_by_side xs ys)) in
     cc
 
--- a forest one level down, read after another, is read side_by_side it
+-- a forest one level down, after another one, reads as the two joined
 pub in_line-turn : {X : Type 0} (xs ys : List (List X)) → in_line (side_by_side ([] ∷ xs) ys) ≡ in_line (side_by_side ys xs)
 in_line-turn xs [] = refl
 in_line-turn [] (y ∷ ys) = refl
@@ -51,7 +51,7 @@ in_line-turn (x ∷ xs) (y ∷ ys) =
     let c : (y ++ x) ++ in_line (side_by_side ys xs) ≡ y ++ (x ++ in_line (side_by_side ys xs)) = append_assoc y x (in_line (side_by_side ys xs)) in
     cc
 
--- the first tree's root, and then the rest of the trees with its kids after them
+-- the root of the first tree, then the other trees, followed by its children
 pub level_order-tree : {A : Type 0} (v : A) (k r : Forest A) → level_order (tree_and v k r) ≡ record { value = v; kids = k } ∷ level_order (joined_forest r k)
 level_order-tree v k r =
     let a = in_line-first (record { value = v; kids = k } ∷ []) [] (levels k) (levels r) in

@@ -1,4 +1,4 @@
--- A layout is read as the trees that it is of, and obeys the rule of trees.
+-- The trees of a layout are read back from it, and a layout satisfies the rule of trees.
 use Rattle.std.proofs.Common.{◌≡◌, ℕ, zero, suc, ◌+◌, ◌-◌, ◌<◌, ◌≤◌, true, false, ◌&&◌, List, [], ◌∷◌, length, refl, sym, ◌∙◌, ap, subst, arith}
 use Rattle.std.specs.Prelude.{nat_eq, nat_le, slice_index}
 use Rattle.std.proofs.lemmas.Bool.{and_parts, and_from, eqb-true, eq-eqb, leb-true, false≢true}
@@ -84,7 +84,7 @@ passed_rule {groups = groups} {bounds = b ∷ bs} {n = n} p =
       at_own_places = p.at_own_places;
     }
 
--- the layout of trees keeps the rule
+-- the layout of trees satisfies the rule
 pub layout_passes : {A : Type 0} {ts : Forest A} {groups bounds : List ℕ} {values : List A} → IsLayout ts groups bounds values → IsPassed groups bounds (length values)
 layout_passes {ts = ts} l =
     let k = kept_all 0 no_trees ts in
@@ -102,7 +102,7 @@ width-zero : {A : Type 0} (f : Forest A) → width f ≡ 0 → f ≡ no_trees
 width-zero no_trees h = refl
 width-zero (tree_and v k r) h = absurd (omega (arith, h))
 
--- what keeps the rule is the layout of the trees that are read from it
+-- lists that satisfy the rule are the layout of the trees that are read from them
 pub passed_layout : {A : Type 0} {groups bounds : List ℕ} {values : List A} → IsPassed groups bounds (length values) → IsLayout (trees_of bounds values) groups bounds values
 passed_layout {groups = groups} {bounds = []} {values = values} p = let x = p.keep in absurd (false≢true x)
 passed_layout {groups = groups} {bounds = b ∷ bs} {values = values} p =
@@ -135,6 +135,6 @@ rule_one {bounds = bounds} {values = values} r = record {
 pub one_rule : {A : Type 0} {groups bounds : List ℕ} {values : List A} → IsOne groups bounds values → IsTreeRule groups bounds (length values)
 one_rule o = passed_rule (layout_passes o.has)
 
--- the layout of trees keeps the rule, over the same lists
+-- the layout of trees satisfies the rule for the same lists
 pub layout_rule : {A : Type 0} {ts : Forest A} {groups bounds : List ℕ} {values : List A} → IsLayout ts groups bounds values → IsTreeRule groups bounds (length values)
 layout_rule l = passed_rule (layout_passes l)

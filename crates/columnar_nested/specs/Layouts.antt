@@ -1,9 +1,9 @@
--- The theorem: three lists keep the rule exactly where one and only one list of trees has that layout.
+-- The theorem: three lists satisfy the rule if and only if exactly one list of trees has that layout.
 use Rattle.std.proofs.Common.{◌≡◌, ℕ, ◌-◌, true, List}
 use Rattle.columnar_nested.specs.Forest.{Forest}
 use Rattle.columnar_nested.specs.Layout.{IsLayout, bounds_keep, own_places}
 
--- one and only one list of trees has this layout
+-- exactly one list of trees has this layout
 pub record IsOne {A : Type 0} (groups bounds : List ℕ) (values : List A) : Type 0 where
   pub trees : Forest A
   pub has : IsLayout trees groups bounds values

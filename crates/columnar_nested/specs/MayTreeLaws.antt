@@ -1,4 +1,4 @@
--- What columns of trees refuse, their limit denies.
+-- Their limit denies what columns of trees refuse.
 use Rattle.std.proofs.Common.{◌≡◌, ◌+◌, true, ◌||◌, List, ◌++◌, length, refl, sym, ◌∙◌, ap, subst, inl, inr, ⊎_elim, length-append, append_assoc}
 use Rattle.std.proofs.lemmas.Bool.{or_cases, false≢true}
 use Rattle.std.proofs.lemmas.List.{map-append}
@@ -31,7 +31,7 @@ nodes_denied v l e (plain us) rs s h = absurd (false≢true h)
 pub nodes_limited : (v : Format) {m : Limit} → IsLimited v m → IsLimited (nodes_format v) (nodes_limit m)
 nodes_limited v l = record { denied = nodes_denied v l }
 
--- the values of trees, and then those of others
+-- the values of trees, then those of further trees
 level_values-joined : (f : Forest Row) (rs : List Row) → level_values (tree_rows f ++ rs) ≡ values_of (nodes f) ++ level_values rs
 level_values-joined no_trees rs = refl
 level_values-joined (tree_and v k r) rs =

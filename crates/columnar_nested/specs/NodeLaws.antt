@@ -1,4 +1,4 @@
--- What the numbers of a layout say of its trees and nodes, and the layout of one more tree.
+-- What the numbers of a layout say about its trees and nodes; the layout of one more tree.
 use Rattle.std.proofs.Common.{◌≡◌, ℕ, zero, suc, ◌+◌, ◌-◌, ◌<◌, ◌≤◌, true, false, List, [], ◌∷◌, ◌++◌, length, map, refl, sym, ◌∙◌, ap, subst, arith, inl, inr, append_assoc, length-append, append-nil}
 use Rattle.std.specs.Prelude.{nat_eq, slice_index, slice_get, Some}
 use Rattle.std.proofs.lemmas.Bool.{eq-eqb, cases_eq, ne_eqb}
@@ -11,12 +11,12 @@ use Rattle.columnar_nested.specs.WalkLaws.{walk_nodes-whole, walk_ends-whole}
 use Rattle.columnar_nested.specs.Nodes.{IsTold, first_kid}
 use Rattle.columnar_nested.specs.ToldLaws.{told_all, get-after, first_kid-after}
 
--- node i of the trees ts is x: its value, its number of kids, and each kid's number, by the columns
+-- node i of the trees ts is x: its value, its number of children, and each child's number, from the columns
 pub record IsNode {A : Type 0} (ts : Forest A) (bounds : List ℕ) (values : List A) (i : ℕ) (x : Node A) : Type 0 where
   pub value : slice_get values i ≡ Some x.value
   pub kid_count : slice_index bounds (suc i) ≡ first_kid i (slice_index bounds i) + width x.kids
   pub kid : (c : ℕ) (y : Node A) → slice_get (roots x.kids) c ≡ Some y → slice_get (nodes ts) (first_kid i (slice_index bounds i) + c) ≡ Some y
-  -- a kid has a number greater than its parent's, and is no root
+  -- the number of a child is greater than its parent's, and a child is not a root
   pub later : i < first_kid i (slice_index bounds i)
   pub no_root : (c : ℕ) → c < width x.kids → first_kid i (slice_index bounds i) + c < slice_index bounds (first_kid i (slice_index bounds i) + c)
 
@@ -54,7 +54,7 @@ starts-get at (tree_and v k r) (suc t) n x h g =
     let a = s.1 in
     (length (level_order (tree_and v k no_trees)) + s.0, omega (arith, a), get-after (level_order (tree_and v k no_trees)) (nodes r) (length (level_order (tree_and v k no_trees)) + s.0) s.0 refl ∙ s.2)
 
--- tree t starts at the node that group t names, whose bound is its own number
+-- tree t starts at the node in group t, whose bound is its own number
 pub layout_root : {A : Type 0} {ts : Forest A} {groups bounds : List ℕ} {values : List A} → IsLayout ts groups bounds values → (t n : ℕ) (x : Node A) → slice_get (roots ts) t ≡ Some x → slice_get groups t ≡ Some n → slice_get (nodes ts) n ≡ Some x
 layout_root {ts = ts} l t n x h g =
     let s = starts-get 0 ts t n x h (rw l.at_starts at g) in
@@ -104,7 +104,7 @@ starts-joined at (tree_and w l r) v k =
     let z : (at + length (level_order (tree_and w l no_trees))) + length (nodes r) ≡ at + length (level_order (tree_and w l no_trees) ++ nodes r) = omega (arith, e) in
     ap (λ x. at ∷ x) (starts-joined (at + length (level_order (tree_and w l no_trees))) r v k ∙ ap (λ x. starts (at + length (level_order (tree_and w l no_trees))) r ++ (x + length (level_order (tree_and v k no_trees))) ∷ []) z)
 
--- the layout of one more tree: its nodes level by level after the others
+-- the layout of one more tree: its nodes follow the others, level by level
 pub layout_pushed : {A : Type 0} {ts : Forest A} {groups bounds : List ℕ} {values : List A} (v : A) (k : Forest A) → IsLayout ts groups bounds values
     → IsLayout (joined_forest ts (tree_and v k no_trees)) (groups ++ (length values + length (level_order (tree_and v k no_trees))) ∷ [])
     (bounds ++ totals (suc (length values)) (kid_counts (level_order (tree_and v k no_trees)))) (values ++ values_of (level_order (tree_and v k no_trees)))
@@ -139,7 +139,7 @@ own_has-step at b bs k r = elim (cases_eq b at) [
   | inr f ↦ let c : nat_eq b at ≡ false = ne_eqb b at f in (r.0, rw c r.1)
 ]
 
--- the own places are exactly the places of the numbers that equal their place ..
+-- the own places are exactly the indices of the numbers that equal their index ..
 pub own_has : (at : ℕ) (bs : List ℕ) (i : ℕ) → i < length bs → slice_index bs i ≡ at + i → (t : ℕ) × (slice_get (own_places at bs) t ≡ Some (at + i))
 own_has at [] i h e = absurd (omega (arith, h))
 own_has at (b ∷ bs) zero h e =
@@ -161,7 +161,7 @@ own_rises-here at bs zero m n p q r =
     omega (arith, a, b)
 own_rises-here at bs (suc t) m n p q r = r t m n p q
 
--- .. in rising order
+-- .. in increasing order
 pub own_rises : (at : ℕ) (bs : List ℕ) (t m n : ℕ) → slice_get (own_places at bs) t ≡ Some m → slice_get (own_places at bs) (suc t) ≡ Some n → m < n
 own_rises at [] t m n p q = cc
 own_rises at (b ∷ bs) t m n p q = elim (cases_eq b at) [

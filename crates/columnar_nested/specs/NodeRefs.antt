@@ -1,4 +1,4 @@
--- A node of stored trees: what it means, and what its reads ask.
+-- A node of stored trees: its row, and what its reads require.
 use Rattle.std.specs.Prelude.{ℕ, List, length}
 use Rattle.columnar_base.specs.Row.{Row}
 use Rattle.columnar_base.specs.Format.{Format, Content, IsSound}
@@ -11,11 +11,11 @@ use Rattle.columnar_nested.specs.declared.trees.read.TreesRef.{TreesRef}
 abbrev pub node_number : {V B : Type 0} → TreesRef V B → ℕ
 node_number r = r.index
 
--- the tree below it, as a row
+-- the row of the tree below it
 abbrev pub ref_row : {V B : Type 0} → (B → List ℕ) → (V → List Row) → TreesRef V B → Row
 ref_row bytes rows r = tree_row (node_at (words_in (bytes r.bounds)) (rows r.values) r.index)
 
--- Its values are well formed, its bounds keep the rule of trees, and it knows where its kids begin and end.
+-- Its values are sound, its bounds satisfy the rule of trees, and it has the right range of children.
 pub record IsNodeOf (values : Format) (z : Content) (bounds : List ℕ) (index lower upper : ℕ) : Type 0 where
   pub sound : IsSound values z
   pub stands : IsRef bounds (length (values.rows z)) index lower upper

@@ -4,11 +4,11 @@ use Rattle.std.specs.Prelude.{nat_eq, slice_index, slice_get, Some}
 use Rattle.columnar_nested.specs.Forest.{Node, width, roots, in_line}
 use Rattle.columnar_nested.specs.Layout.{nodes}
 
--- the number of the first kid of the node j, whose bound is b: a root is skipped
+-- the number of the first child of node j, whose bound is b; a root does not count as a child
 abbrev pub first_kid : ℕ → ℕ → ℕ
 first_kid j b = cond (nat_eq b j) (suc b) b
 
--- all nodes but the roots, in order
+-- all nodes except the roots, in order
 abbrev pub below : {X : Type 0} → List (List X) → List X
 below [] = []
 below (x ∷ xs) = in_line xs

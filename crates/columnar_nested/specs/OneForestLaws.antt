@@ -1,4 +1,4 @@
--- The rule of layouts holds exactly where one and only one list of trees has that layout.
+-- The rule of layouts holds if and only if exactly one list of trees has that layout.
 use Rattle.std.proofs.Common.{◌≡◌, ℕ, zero, suc, ◌+◌, ◌-◌, ◌<◌, ◌≤◌, true, false, ◌&&◌, List, [], ◌∷◌, length, refl, sym, ◌∙◌, ap, arith, inl, inr}
 use Rattle.std.specs.Prelude.{nat_eq, nat_le}
 use Rattle.std.proofs.lemmas.Bool.{cases_lt, ne_eqb, and_parts, and_from, eqb-true, eq-eqb, leb-true, le-leb}
@@ -29,7 +29,7 @@ width-first zero f h = refl
 width-first (suc n) no_trees h = absurd (omega arith)
 width-first (suc n) (tree_and v k r) h = ap suc (width-first n r (omega arith))
 
--- one step of the reading, at the start of a tree and within one
+-- one step of reading, at the start of a tree and within one
 pending-root : {A : Type 0} (j b c : ℕ) (cs : List ℕ) (v : A) (vs : List A) → b ≡ j → pending j b (c ∷ cs) (v ∷ vs) ≡ no_trees
 pending-root j b c cs v vs e = let t : nat_eq b j ≡ true = eq-eqb b j e in rw t refl
 
@@ -42,7 +42,7 @@ pending-next j b c cs v vs l = let t : nat_eq b j ≡ false = eq-false b j l in 
 trees-next : {A : Type 0} (j b c : ℕ) (cs : List ℕ) (v : A) (vs : List A) → j < b → trees_from j b (c ∷ cs) (v ∷ vs) ≡ trees_from (suc j) c cs vs
 trees-next j b c cs v vs l = let t : nat_eq b j ≡ false = eq-false b j l in rw t refl
 
--- the reading gives back the trees of a walk
+-- reading returns the trees of a walk
 pub record IsReadForest {A : Type 0} (j : ℕ) (q ts : Forest A) : Type 0 where
   pub queue : pending j (j + width q) (walk_ends j q ts) (values_of (walk_nodes q ts)) ≡ q
   pub trees : trees_from j (j + width q) (walk_ends j q ts) (values_of (walk_nodes q ts)) ≡ ts
@@ -78,7 +78,7 @@ read-next j v k r ts h =
 pub read_all : {A : Type 0} (j : ℕ) (q ts : Forest A) → IsReadForest j q ts
 read_all {A = A} j q ts = walk_all (λ j q ts. IsReadForest {A = A} j q ts) read-done read-root read-next j q ts
 
--- the rule, at node j with the bound b, over the bounds bs that follow
+-- the rule, at node j with the bound b, for the following bounds bs
 pub record IsKept {A : Type 0} (j : ℕ) (q ts : Forest A) : Type 0 where
   pub keep : keeps j (j + width q) (walk_ends j q ts) (j + length (walk_nodes q ts)) ≡ true
   pub groups_at : own_places j ((j + width q) ∷ walk_ends j q ts) ≡ walk_starts j q ts
@@ -124,7 +124,7 @@ kept-next j v k r ts h =
 pub kept_all : {A : Type 0} (j : ℕ) (q ts : Forest A) → IsKept j q ts
 kept_all {A = A} j q ts = walk_all (λ j q ts. IsKept {A = A} j q ts) kept-done kept-root kept-next j q ts
 
--- what was read from bounds that keep the rule has these bounds
+-- the trees that were read from bounds that satisfy the rule have these bounds
 pub record IsMade {A : Type 0} (j b : ℕ) (bs : List ℕ) (vs : List A) : Type 0 where
   pub wide : j + width (pending j b bs vs) ≡ b
   pub bounds_same : walk_ends j (pending j b bs vs) (trees_from j b bs vs) ≡ bs

@@ -1,4 +1,4 @@
--- One pass over the bounds accepts exactly where the rule of trees holds.
+-- One pass over the bounds accepts if and only if the rule of trees holds.
 use Rattle.std.proofs.Common.{◌≡◌, ℕ, zero, suc, ◌+◌, ◌-◌, ◌<◌, ◌≤◌, true, false, ◌&&◌, List, [], ◌∷◌, length, refl, sym, ◌∙◌, ap, arith, inl, inr, get_or, drop}
 use Rattle.std.proofs.Math.Seq.{drop-cons, drop-length}
 use Rattle.std.specs.Prelude.{nat_eq, nat_le, slice_index}
@@ -76,7 +76,7 @@ kept-rest (c ∷ cs) j b n h =
       | inr e ↦ ap (λ x. follow (suc j) b (c ∷ cs) x n) (own-not (suc j) c cs e) ∙ (follow-skip (suc j) b c cs (own_places (suc (suc j)) cs) n e ∙ and_from _ _ q.0 (and_from _ _ q.1 r))
     ]
 
--- the pass accepts exactly where the rule holds
+-- if the pass accepts, the rule holds
 pub accepts_rule : (gs bs : List ℕ) (n : ℕ) → accepts gs bs n ≡ true → IsTreeRule gs bs n
 accepts_rule gs [] n h = absurd (false≢true h)
 accepts_rule [] (b ∷ bs) n h =
@@ -104,7 +104,7 @@ rule_accepts gs (b ∷ bs) n h =
     let r = kept-rest bs 0 b n p.1 in
     and_from _ _ p.0 (ap (λ x. follow 0 0 (b ∷ bs) x n) (k.at_own_places ∙ own-here 0 b bs z) ∙ (follow-meet 0 0 b 0 bs (own_places 1 bs) n z ∙ and_from _ _ (le-leb 0 b (omega arith)) (and_from _ _ (le-leb 0 b (omega arith)) (and_from _ _ refl r))))
 
--- one turn of the pass
+-- one step of the pass
 pub turn_meet : (xs gs : List ℕ) (j last met n : ℕ) → j < length xs → last ≤ get_or xs j 0 → get_or xs j 0 ≡ j → met < length gs → get_or gs met 0 ≡ get_or xs j 0
     → follow j last (drop j xs) (drop met gs) n ≡ follow (j + 1) (get_or xs j 0) (drop (j + 1) xs) (drop (met + 1) gs) n
 turn_meet xs gs j last met n h l e m g =
@@ -141,7 +141,7 @@ turn_end xs gs j last met n h m =
     let b = nil-drop gs met m in
     ap (λ x. follow j last x (drop met gs) n) a ∙ ap (λ x. nat_eq last n && (nat_eq j (suc n) && x)) b
 
--- one turn, with the bound b that was read: it starts a tree, or it does not
+-- one step, with the bound b that was read: it starts a tree, or it does not
 pub met_one : (xs gs : List ℕ) (j last met n b : ℕ) → b ≡ slice_index xs j → j < length xs → last ≤ b → b ≡ j → met < length gs → slice_index gs met ≡ b
     → follow j last (drop j xs) (drop met gs) n ≡ follow (j + 1) b (drop (j + 1) xs) (drop (met + 1) gs) n
 met_one xs gs j last met n b e h l q m k = turn_meet xs gs j last met n h (omega (arith, e, l)) (sym e ∙ q) m (k ∙ e) ∙ ap (λ x. follow (j + 1) x (drop (j + 1) xs) (drop (met + 1) gs) n) (sym e)
@@ -150,7 +150,7 @@ pub met_none : (xs gs : List ℕ) (j last met n b : ℕ) → b ≡ slice_index x
     → follow j last (drop j xs) (drop met gs) n ≡ follow (j + 1) b (drop (j + 1) xs) (drop met gs) n
 met_none xs gs j last met n b e h l k = turn_skip xs (drop met gs) j last n h (omega (arith, e, l)) (omega (arith, e, k)) ∙ ap (λ x. follow (j + 1) x (drop (j + 1) xs) (drop met gs) n) (sym e)
 
--- all bounds were met
+-- all bounds were read
 pub met_all : (xs gs : List ℕ) (j last met n : ℕ) → j ≡ length xs → met ≤ length gs → last ≡ n → length xs ≡ suc n → follow j last (drop j xs) (drop met gs) n ≡ nat_eq met (length gs)
 met_all xs gs j last met n h m e c =
     let p : nat_eq last n ≡ true = eq-eqb last n e in

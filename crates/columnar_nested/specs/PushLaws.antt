@@ -36,7 +36,7 @@ laid_start m before s h e = record {
   valid_left = rw e h;
 }
 
--- one turn, for a node that is met with the trees `rest` after it
+-- one step, for a node, with the trees `rest` after it
 pub laid_more : (T : Type 0) (m : T → Row) {valid : T → Type 0} {v : Format} {old now next : Content} {before bounds bounds' : List ℕ} {root : Tree T} {waiting waiting' : List (Tree T)} (t : Tree T) (rest : List (Tree T)) (b : ℕ)
     → Laid m valid v old now before bounds root waiting → waiting ≡ t ∷ rest → b ≡ (length (v.rows now) + length rest + 1) + length (out-Tree T t).kids.items → b < 2 ^ 64
     → Took v now next (m (out-Tree T t).value ∷ []) → bounds' ≡ bounds ++ b ∷ [] → waiting' ≡ rest ++ (out-Tree T t).kids.items
@@ -62,13 +62,13 @@ laid_more T m {valid} {v} {old} {now} {next} {before} {bounds} {bounds'} {root} 
       valid_left = subst (λ ts. All valid (added_values (λ x. x) ts)) (sym q) (λ k d i. a (suc k) d (omega (arith, i)));
     }
 
--- its value may be pushed
+-- its value is valid
 pub laid_valid : (T : Type 0) {m : T → Row} {valid : T → Type 0} {v : Format} {old now : Content} {before bounds : List ℕ} {root : Tree T} {waiting : List (Tree T)} (t : Tree T) (rest : List (Tree T)) → Laid m valid v old now before bounds root waiting → waiting ≡ t ∷ rest → valid (out-Tree T t).value
 laid_valid T {valid = valid} t rest l e =
     let a : All valid ((out-Tree T t).value ∷ added_values (λ x. x) (rest ++ (out-Tree T t).kids.items)) = subst (All valid) (ap (added_values (λ x. x)) e ∙ turn_values T T (λ x. x) t rest) l.valid_left in
     a 0 (out-Tree T t).value (omega arith)
 
--- nothing is pending
+-- no tree is pending
 pub laid_values : {T : Type 0} {m : T → Row} {valid : T → Type 0} {v : Format} {old now : Content} {before bounds : List ℕ} {root : Tree T} {waiting : List (Tree T)} → Laid m valid v old now before bounds root waiting → waiting ≡ [] → Took v old now (added_values m (root ∷ []))
 laid_values {m = m} {v = v} {old = old} {now = now} {root = root} l e =
     let h : l.taken ≡ added_values m (root ∷ []) = sym (append-nil l.taken) ∙ (ap (λ ts. l.taken ++ added_values m ts) (sym e) ∙ l.values) in
@@ -98,7 +98,7 @@ as_many T m ts =
     let w = width-as_forest m ts in
     omega (arith, c, o, a, r, w)
 
--- the next bound would not fit, so there would be too many nodes
+-- 64 bits cannot hold the next bound, so there would be too many nodes
 pub laid_too_long : (T : Type 0) (m : T → Row) {valid : T → Type 0} {v : Format} {old now : Content} {before bounds : List ℕ} (y : Content) (root : Tree T) {waiting : List (Tree T)} (t : Tree T) (rest : List (Tree T))
     → Laid m valid v old now before bounds root waiting → waiting ≡ t ∷ rest → 2 ^ 64 ≤ (length (v.rows now) + length rest + 1) + length (out-Tree T t).kids.items → refuses_more (nodes_format v) too_many (both y old) (added_values m (root ∷ [])) ≡ true
 laid_too_long T m {valid} {v} {old} {now} y root t rest l e h =

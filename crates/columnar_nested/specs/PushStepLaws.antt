@@ -1,4 +1,4 @@
--- One turn of the loop that pushes trees level by level; m says what a value means.
+-- One step of the loop that pushes trees level by level; m gives the row of a value.
 use Rattle.std.proofs.Common.{◌≡◌, ℕ, suc, ◌+◌, ◌<◌, List, [], ◌∷◌, ◌++◌, map, refl, ap, ◌∙◌, length, arith, sym, length-append}
 use Rattle.std.proofs.lemmas.List.{length-map}
 use Rattle.columnar_nested.specs.Forest.{tree_and, Node, width, level_order}
@@ -28,7 +28,7 @@ in_order-step T B m t ts =
     let j : joined_forest (trees_as_forest m ts) (node_of m t).kids ≡ trees_as_forest m (ts ++ (out-Tree T t).kids.items) = ap (joined_forest (trees_as_forest m ts)) k ∙ sym (as_forest-append m ts (out-Tree T t).kids.items) in
     e ∙ ap (λ x. node_of m t ∷ level_order x) j
 
--- the first tree's value, and then those of the others and of its kids
+-- the value of the first tree, then those of the other trees and of its children
 pub turn_values : (T B : Type 0) (m : T → B) (t : Tree T) (ts : List (Tree T)) → added_values m (t ∷ ts) ≡ m (out-Tree T t).value ∷ added_values m (ts ++ (out-Tree T t).kids.items)
 turn_values T B m t ts =
     let v : (node_of m t).value ≡ m (out-Tree T t).value = ap (λ x. x.value) (node_of-out T B m t) in

@@ -1,4 +1,4 @@
--- Where the loop stands that pushes a tree level by level.
+-- The invariant of the loop that pushes a tree level by level.
 use Rattle.std.specs.Prelude.{ℕ, List, [], ◌∷◌, ◌++◌, All, length, take, ◌≡◌, ◌≤◌}
 use Rattle.columnar_base.specs.Row.{Row}
 use Rattle.columnar_base.specs.Format.{Format, Content}
@@ -7,7 +7,7 @@ use Rattle.columnar_base.specs.WordViews.{words_in, le_bytes}
 use Rattle.columnar_nested.specs.TreeValues.{added_values, added_bounds}
 use Rattle.columnar_nested.specs.declared.tree.Tree.{Tree}
 
--- Some values were taken, and what is pending would add the others; so it is with the bounds.
+-- Some values were taken, and the pending trees would add the others; the same holds for the bounds.
 pub record Laid {T : Type 0} (m : T → Row) (valid : T → Type 0) (v : Format) (old now : Content) (before bounds : List ℕ) (root : Tree T) (waiting : List (Tree T)) : Type 0 where
   pub taken : List Row
   pub took : Took v old now taken

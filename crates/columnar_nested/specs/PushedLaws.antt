@@ -1,4 +1,4 @@
--- What a push of a tree leaves, done and refused.
+-- The effect of a push of a tree, taken or refused.
 use Rattle.std.proofs.Common.{◌≡◌, ℕ, suc, ◌+◌, ◌^◌, ◌<◌, List, [], ◌∷◌, ◌++◌, length, take, refl, ◌∙◌, ap, subst, arith}
 use Rattle.columnar_base.specs.Row.{Row}
 use Rattle.columnar_base.specs.Format.{Format, Content, slice, both, IsSound, IsLawful}
@@ -21,7 +21,7 @@ use Rattle.columnar_nested.specs.declared.tree.Tree.{Tree}
 words_sound : (xs : List ℕ) → IsSound words_format (slice (le_bytes xs))
 words_sound xs = elements_sound word_row_of word_element xs
 
--- the groups, the bounds and the values in their slices
+-- the content of the groups, the bounds and the values
 abbrev pub held_trees : List ℕ → List ℕ → Content → Content
 held_trees groups bounds z = both (slice (le_bytes groups)) (both (slice (le_bytes bounds)) z)
 
@@ -53,7 +53,7 @@ tree_refused m v groups bounds mid {groups'} {bounds'} {z} {w} {z'} t {c} {n} er
 words_of_zero : (xs : List ℕ) → xs ≡ 0 ∷ [] → words_in (le_bytes xs) ≡ 0 ∷ []
 words_of_zero xs e = ap (λ ys. words_in (le_bytes ys)) e ∙ (words_pushed [] 0 (omega arith) ∙ ap (λ ys. ys ++ 0 ∷ []) (words_back []))
 
--- no trees: one 0 each
+-- no trees: groups and bounds of a single 0
 pub none_sound : (v : Format) (groups bounds : List ℕ) (z : Content) → groups ≡ 0 ∷ [] → bounds ≡ 0 ∷ [] → IsSound v z → v.rows z ≡ [] → IsSound (trees_format v) (held_trees groups bounds z)
 none_sound v groups bounds z g b s e =
     let l : IsTreeRule (0 ∷ []) (0 ∷ []) 0 = layout_rule (layout_none Row) in
@@ -67,7 +67,7 @@ none_sound v groups bounds z g b s e =
 pub none_rows : (v : Format) (groups bounds : List ℕ) (z : Content) → bounds ≡ 0 ∷ [] → (trees_format v).rows (held_trees groups bounds z) ≡ []
 none_rows v groups bounds z b = rw (words_of_zero bounds b) refl
 
--- there is at least one word each
+-- groups and bounds have at least one word
 pub groups_there : (v : Format) (groups bounds : List ℕ) (z : Content) → IsSound (trees_format v) (held_trees groups bounds z) → 0 < length groups
 groups_there v groups bounds z s =
     let c = count_trees v (slice (le_bytes groups)) (slice (le_bytes bounds)) z (trees_parts v (slice (le_bytes groups)) (slice (le_bytes bounds)) z s) in

@@ -1,4 +1,4 @@
--- The trees that a layout determines, read from its end: a node's kids have greater numbers than it.
+-- The trees of a layout, read from its end: the numbers of a node's children are greater than its own.
 use Rattle.std.specs.Prelude.{ℕ, suc, zero, List, [], ◌∷◌, ◌-◌, nat_eq, cond}
 use Rattle.columnar_nested.specs.Forest.{Forest, no_trees, tree_and}
 
@@ -8,13 +8,13 @@ first_trees zero f = no_trees
 first_trees (suc n) no_trees = no_trees
 first_trees (suc n) (tree_and v k r) = tree_and v k (first_trees n r)
 
--- the trees but for the first n
+-- all trees except the first n
 abbrev pub later_trees : {A : Type 0} → ℕ → Forest A → Forest A
 later_trees zero f = f
 later_trees (suc n) no_trees = no_trees
 later_trees (suc n) (tree_and v k r) = later_trees n r
 
--- the trees whose roots are the nodes from j up to the bound b of node j; none where a tree starts at j
+-- the trees whose roots are the nodes from j to the bound b of node j; none if a tree starts at j
 abbrev pub pending : {A : Type 0} → ℕ → ℕ → List ℕ → List A → Forest A
 pending j b [] vs = no_trees
 pending j b (c ∷ cs) [] = no_trees

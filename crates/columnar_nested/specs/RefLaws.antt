@@ -20,7 +20,7 @@ length-nodes {groups} {bounds} values r =
     let l : IsLayout (trees_of bounds values) groups bounds values = passed_layout (rule_passed r) in
     sym (ap length l.in_order ∙ length-map (nodes (trees_of bounds values)) (λ x. x.value))
 
--- what the bounds say does not hang on the groups
+-- what the bounds say does not depend on the groups
 pub own_rule : {groups bounds : List ℕ} {n : ℕ} → IsTreeRule groups bounds n → IsTreeRule (own_places 0 bounds) bounds n
 own_rule r = record { count = r.count; first = r.first; last = r.last; never_falls = r.never_falls; ahead = r.ahead; at_own_places = refl }
 
@@ -37,7 +37,7 @@ seen_value values r = (seen_node values r).value
 pub seen_kids : {bounds : List ℕ} (values : List Row) {i lower upper : ℕ} → IsRef bounds (length values) i lower upper → upper ≡ lower + width (node_at bounds values i).kids
 seen_kids {bounds} values {i} r = let k = (seen_node values r).kid_count in rw (r.high, r.low) k
 
--- what reading kid c rests on
+-- the facts for reading child c
 pub record IsKid (bounds : List ℕ) (values : List Row) (i lower upper c : ℕ) : Type 0 where
   pub kid_in : lower + c < length values
   pub bound_in : lower + c + 1 < length bounds
@@ -45,7 +45,7 @@ pub record IsKid (bounds : List ℕ) (values : List Row) (i lower upper c : ℕ)
   pub kid_at : slice_get (roots (node_at bounds values i).kids) c ≡ Some (node_at bounds values (lower + c))
   pub later : i < lower + c
 
--- kid c of a node is node lower + c, whose kids begin at its bound
+-- child c of a node is node lower + c; its own children start at its bound
 pub kid_facts : {bounds : List ℕ} (values : List Row) {i lower upper : ℕ} (c : ℕ) → IsRef bounds (length values) i lower upper → c < width (node_at bounds values i).kids → IsKid bounds values i lower upper c
 kid_facts {bounds} values {i} {lower} {upper} c r d =
     let s = seen_node values r in
@@ -71,7 +71,7 @@ kid_facts {bounds} values {i} {lower} {upper} c r d =
       later = omega (arith, t1);
     }
 
--- what reading tree t rests on
+-- the facts for reading tree t
 pub record IsRoot (groups bounds : List ℕ) (values : List Row) (t : ℕ) : Type 0 where
   pub group_in : t < length groups
   pub node_in : slice_index groups t < length values
@@ -85,7 +85,7 @@ count_groups {groups} {bounds} values r =
     let l : IsLayout (trees_of bounds values) groups bounds values = passed_layout (rule_passed r) in
     ap length l.at_starts ∙ starts-length 0 (trees_of bounds values)
 
--- tree t begins at its root, whose kids begin after its bound
+-- tree t starts at its root, whose children start after its bound
 pub root_facts : {groups bounds : List ℕ} (values : List Row) (t : ℕ) → IsTreeRule groups bounds (length values) → t < width (trees_of bounds values) → IsRoot groups bounds values t
 root_facts {groups} {bounds} values t r h =
     let l : IsLayout (trees_of bounds values) groups bounds values = passed_layout (rule_passed r) in
@@ -112,7 +112,7 @@ root_facts {groups} {bounds} values t r h =
       tree_at = g ∙ ap Some (sym v);
     }
 
--- a group is the number of a node, or of all nodes
+-- a group is the number of a node, or the number of all nodes
 pub group_within : {groups bounds : List ℕ} {n : ℕ} → IsTreeRule groups bounds n → (t : ℕ) → t < length groups → slice_index groups t ≤ n
 group_within {groups} {bounds} {n} r t h =
     let g = slice_get-get_or groups t 0 h in
@@ -134,7 +134,7 @@ group_within {groups} {bounds} {n} r t h =
         here at b bs zero n h r = let a : at ≡ n = cc in omega (arith, a)
         here at b bs (suc t) n h r = let i = r t n h in omega (arith, i)
 
--- a kid is below the number of nodes, and after its parent
+-- a child is below the number of nodes, and after its parent
 pub kid_between : {groups bounds : List ℕ} {n : ℕ} → IsTreeRule groups bounds n → (i k : ℕ) → i < n → IsKidOf bounds i k → (i < k) × (k < n)
 kid_between {groups} {bounds} {n} r i k l h =
     let a = first_kid-after i (slice_index bounds i) (r.ahead i (omega (arith, l))) in
@@ -153,7 +153,7 @@ kid_between {groups} {bounds} {n} r i k l h =
     bounded : {groups bounds : List ℕ} {n : ℕ} → IsTreeRule groups bounds n → (j : ℕ) → j ≤ n → slice_index bounds j ≤ n
     bounded {groups} {bounds} {n} r j l = bounded_by r (n - j) j (omega (arith, l))
 
--- a walk down takes fewer steps than there are nodes after its start
+-- a walk down takes fewer steps than there are nodes from its start on
 pub walk_ends_soon : {groups bounds : List ℕ} {n : ℕ} → IsTreeRule groups bounds n → (i : ℕ) (ks : List ℕ) → i < n → IsWalkFrom bounds i ks → i + length ks < n
 walk_ends_soon r i [] l w = omega (arith, l)
 walk_ends_soon {groups} {bounds} {n} r i (k ∷ ks) l w =
@@ -162,6 +162,6 @@ walk_ends_soon {groups} {bounds} {n} r i (k ∷ ks) l w =
     let c = b.0 in
     omega (arith, h, c)
 
--- a number of a kid, where kids are rows
+-- the index of a child, for children as rows
 pub kid_in_range : (bounds : List ℕ) (values : List Row) (i : ℕ) {c : ℕ} → c < length (kids_of (tree_row (node_at bounds values i))) → c < width (node_at bounds values i).kids
 kid_in_range bounds values i {c} h = let l = length-kids (node_at bounds values i) in omega (arith, h, l)

@@ -1,4 +1,4 @@
--- Trees of one shape: other values in the same places.
+-- Trees of one shape: other values at the same nodes.
 use Rattle.std.proofs.Common.{◌≡◌, ℕ, zero, suc, ◌+◌, ◌-◌, Bool, true, false, cond, List, [], ◌∷◌, map, length, refl, sym, ◌∙◌, ap, subst, arith, append-nil}
 use Rattle.std.specs.Prelude.{nat_eq}
 use Rattle.columnar_base.specs.Row.{Row, more, unit, list}
@@ -9,7 +9,7 @@ use Rattle.columnar_nested.specs.LayoutLaws.{layout_read, layout_rule, passed_la
 use Rattle.columnar_nested.specs.NodeLaws.{starts-length}
 use Rattle.columnar_nested.specs.TreeRows.{tree_rows, tree_row, bare_tree}
 
--- the same trees, with f of each value
+-- the same trees, with f applied to each value
 abbrev pub forest_map : {A B : Type 0} → (A → B) → Forest A → Forest B
 forest_map f no_trees = no_trees
 forest_map f (tree_and v k r) = tree_and (f v) (forest_map f k) (forest_map f r)
@@ -28,7 +28,7 @@ cond-map : {A B : Type 0} (f : A → B) (b : Bool) (x y : Forest A) → cond b (
 cond-map f true x y = refl
 cond-map f false x y = refl
 
--- other values in the same places are read as trees of the same shape
+-- other values at the same nodes read as trees of the same shape
 pending-map : {A B : Type 0} (f : A → B) (j b : ℕ) (bs : List ℕ) (vs : List A) → pending j b bs (map f vs) ≡ forest_map f (pending j b bs vs)
 pending-map f j b [] vs = refl
 pending-map f j b (c ∷ cs) [] = refl
@@ -50,7 +50,7 @@ pub trees_of-map : {A B : Type 0} (f : A → B) (bs : List ℕ) (vs : List A) �
 trees_of-map f [] vs = refl
 trees_of-map f (b ∷ bs) vs = trees_from-map f 0 b bs vs
 
--- the shape of a tree, as a row
+-- the row of the shape of a tree
 pub bare_rows : (f : Forest Row) → bare_tree (list (tree_rows f)) ≡ list (tree_rows (forest_map (λ v. unit) f))
 bare_rows no_trees = refl
 bare_rows (tree_and v k r) =
@@ -82,7 +82,7 @@ totals-same from (c ∷ cs) (d ∷ ds) e =
     let u = totals-same (from + d) cs ds t in
     rw (s, u) refl
 
--- a tree with other values in the same places
+-- a tree with other values at the same nodes
 pub record Refit (n : Node Row) (vs : List Row) : Type 0 where
   pub is : Node Row
   pub values : values_of (level_order (tree_and is.value is.kids no_trees)) ≡ vs

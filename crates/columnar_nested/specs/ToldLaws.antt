@@ -1,4 +1,4 @@
--- What a walk over nodes tells of their bounds.
+-- What a walk over nodes says about their bounds.
 use Rattle.std.proofs.Common.{◌≡◌, ℕ, zero, suc, ◌+◌, ◌-◌, ◌<◌, ◌≤◌, true, false, List, [], ◌∷◌, ◌++◌, length, refl, sym, ◌∙◌, ap, arith, inl, inr, append_assoc, append-nil}
 use Rattle.std.specs.Prelude.{nat_eq, slice_index, slice_get, Some}
 use Rattle.std.proofs.lemmas.Bool.{eq-eqb, cases_lt}
@@ -30,7 +30,7 @@ head-levels : {A : Type 0} (f : Forest A) → head_level (levels f) ≡ roots f
 head-levels no_trees = refl
 head-levels (tree_and v k r) = head-beside (record { value = v; kids = k } ∷ []) (levels k) (levels r) ∙ ap (λ x. record { value = v; kids = k } ∷ x) (head-levels r)
 
--- the roots stand first
+-- the roots come first
 pub order-roots : {A : Type 0} (f : Forest A) → level_order f ≡ roots f ++ below (levels f)
 order-roots f = in_line-parts (levels f) ∙ ap (λ x. x ++ below (levels f)) (head-levels f)
 
@@ -95,7 +95,7 @@ told-step : {A : Type 0} (j b : ℕ) (x : Node A) (ns : List (Node A)) (bs : Lis
 told-step {A = A} j b x ns bs l e k h =
     record { ahead = told-ahead j b ns bs l h; ends = told-ends j b x ns bs e h; kid = told-kid j b x ns bs l k h }
 
--- the nodes that are pending have bounds beyond them
+-- pending nodes have bounds beyond their index
 pending-beyond : {A : Type 0} (i j : ℕ) (q ts : Forest A) → i < width q → j + i < slice_index ((j + width q) ∷ walk_ends j q ts) i
 pending-beyond i j no_trees ts h = absurd (omega (arith, h))
 pending-beyond zero j (tree_and v k r) ts h = omega arith

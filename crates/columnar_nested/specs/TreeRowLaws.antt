@@ -24,11 +24,11 @@ pub length-tree_rows : (f : Forest Row) → length (tree_rows f) ≡ width f
 length-tree_rows no_trees = refl
 length-tree_rows (tree_and v k r) = ap suc (length-tree_rows r)
 
--- tree i of trees side by side
+-- tree i of a list of trees
 pub tree_rows_get : (f : Forest Row) (i : ℕ) (n : Node Row) → slice_get (roots f) i ≡ Some n → slice_get (tree_rows f) i ≡ Some (tree_row n)
 tree_rows_get f i n h = rw (tree_rows-roots f, slice_get-map, h) refl
 
--- the kids of a node
+-- the children of a node
 pub kids_are : (n : Node Row) → kids_of (tree_row n) ≡ tree_rows n.kids
 kids_are n = items_of-list (tree_rows n.kids)
 
@@ -43,7 +43,7 @@ forest_back (tree_and v k r) =
     let b = forest_back r in
     cc
 
--- the values of a tree and of rows after it
+-- the values of a tree, then of the rows after it
 pub level_values-more : (n : Node Row) (rs : List Row) → level_values (tree_row n ∷ rs) ≡ values_of (level_order (tree_and n.value n.kids no_trees)) ++ level_values rs
 level_values-more n rs =
     let k = forest_back n.kids in
@@ -66,6 +66,6 @@ tree_same same e =
           and_from _ _ (p.transitive r s t u.0 w.0) (alike_on same e (level_values (r ∷ [])) (level_values (s ∷ [])) (level_values (t ∷ [])) u.1 w.1);
     }
 
--- kid i of a node
+-- child i of a node
 pub kid_row : (n : Node Row) (i : ℕ) {k : Node Row} → slice_get (roots n.kids) i ≡ Some k → slice_get (kids_of (tree_row n)) i ≡ Some (tree_row k)
 kid_row n i {k} h = ap (λ rs. slice_get rs i) (kids_are n) ∙ tree_rows_get n.kids i k h

@@ -1,4 +1,4 @@
--- Columns of trees: where each tree begins, where the kids of each node end, and the values of the nodes.
+-- Columns of trees: the start of each tree, the end of each node's children, and the values of the nodes.
 use Rattle.std.specs.Prelude.{ℕ, suc, Bool, true, false, List, [], ◌∷◌, length, ◌+◌, ◌*◌, drop, ◌||◌, slice_index, Vec}
 use Rattle.std.specs.Global.{Global}
 use Rattle.columnar_base.specs.Row.{Row}
@@ -14,14 +14,14 @@ use Rattle.columnar_nested.specs.declared.trees.Trees.{Trees}
 abbrev pub words_of : Content → List ℕ
 words_of x = words_in (bytes_of x)
 
--- nodes, each with the bound of its kids and a value: the values are their rows
+-- nodes, each with a value and the bound of its children: their rows are the values
 abbrev pub nodes_rows : Format → Content → List Row
 nodes_rows v (both y z) = v.rows z
 nodes_rows v (slice bs) = []
 nodes_rows v (part l u x) = []
 nodes_rows v (plain rs) = []
 
--- there are too many nodes, or their values may not be held
+-- there are too many nodes, or their values are refused
 abbrev pub nodes_refuses : Format → Excess → Content → ℕ → List Row → Bool
 nodes_refuses v e (both y z) n rs = past_count e (n + length rs) || v.refuses e z n rs
 nodes_refuses v e (slice bs) n rs = false
@@ -34,7 +34,7 @@ nodes_extent v (slice bs) n = []
 nodes_extent v (part l u x) n = []
 nodes_extent v (plain rs) n = []
 
--- bounds and values, with no rule of their own
+-- bounds and values, without a rule of their own
 abbrev pub nodes_format : Format → Format
 nodes_format v = record {
   count = 1 + v.count;
@@ -57,7 +57,7 @@ bounds_of (slice bs) = []
 bounds_of (part l u x) = []
 bounds_of (plain rs) = []
 
--- do groups and bounds keep the rule of trees
+-- whether groups and bounds satisfy the rule of trees
 abbrev pub trees_keep : Format → Content → Content → Bool
 trees_keep v x n = accepts (words_of x) (bounds_of n) (length (nodes_rows v n))
 
@@ -77,7 +77,7 @@ trees_extent v (slice bs) t = []
 trees_extent v (part l u x) t = []
 trees_extent v (plain rs) t = []
 
--- there are too many trees, or their nodes, pushed level by level, may not be held
+-- there are too many trees, or the values of their nodes, level by level, are refused
 abbrev pub trees_refuses : Format → Excess → Content → ℕ → List Row → Bool
 trees_refuses v e (both x n) t rs = past_count e (t + length rs) || nodes_refuses v e n (end_of_trees x t) (level_values rs)
 trees_refuses v e (slice bs) t rs = false
@@ -100,10 +100,10 @@ trees_format v = record {
   refuses = trees_refuses v;
 }
 
--- what a column of trees holds
+-- the content of a column of trees
 abbrev pub trees_content : {V B : Type 0} → (B → List ℕ) → (V → Content) → Trees V B → Content
 trees_content bytes values t = both (slice (bytes t.groups)) (both (slice (bytes t.bounds)) (values t.values))
 
--- what one holds that owns its words
+-- the content of a column that owns its words
 abbrev pub owned_trees : {V : Type 0} → (V → Content) → Trees V (Vec ℕ Global) → Content
 owned_trees values t = trees_content (λ (v : Vec ℕ Global). le_bytes v.items) values t

@@ -1,4 +1,4 @@
--- What the soundness of a column of trees is made of, and what its growth and a refusal leave.
+-- The soundness of a column of trees, and the effects of growth and of a refusal.
 use Rattle.std.proofs.Common.{◌≡◌, ℕ, suc, ◌+◌, ◌-◌, ◌<◌, ◌≤◌, true, ◌||◌, List, [], ◌∷◌, ◌++◌, map, length, refl, sym, ◌∙◌, ap, arith, length-append}
 use Rattle.std.specs.Prelude.{slice_index, slice_get, Some}
 use Rattle.std.proofs.lemmas.Bool.{and_from, or_right}
@@ -38,7 +38,7 @@ trees_two v = record { count = omega arith; sizes = refl; aligns = refl; build =
 pub trees_storable : (v : Format) → IsStorable v → IsStorable (trees_format v)
 trees_storable v s = two_storable (trees_two v) (omega arith) (elements_storable 8 8 word_row_of) (two_storable (nodes_two v) (omega arith) (elements_storable 8 8 word_row_of) s)
 
--- what the soundness of trees is made of
+-- the soundness of trees
 pub record SoundTrees (v : Format) (x y z : Content) : Type 0 where
   pub groups : IsSound words_format x
   pub bounds : IsSound words_format y
@@ -58,7 +58,7 @@ trees_sound v x y z s = two_sound (trees_two v) x (both y z) (record {
   own = rule_accepts (words_of x) (words_of y) (length (v.rows z)) s.rule;
 })
 
--- how many trees there are
+-- the number of trees
 pub count_trees : (v : Format) (x y z : Content) → SoundTrees v x y z → length (words_of x) ≡ suc (length (trees_rows v (both x (both y z))))
 count_trees v x y z s = count_groups (v.rows z) s.rule ∙ ap suc (sym (length-tree_rows (trees_of (words_of y) (v.rows z))))
 
@@ -69,7 +69,7 @@ last-start at (tree_and v k r) =
     let e = length-append (level_order (tree_and v k no_trees)) (nodes r) in
     omega (arith, h, e)
 
--- all trees end where the values do
+-- the last tree ends where the values end
 pub tree_last_end : (v : Format) (x y z : Content) → SoundTrees v x y z → end_of_trees x (length (trees_rows v (both x (both y z)))) ≡ length (v.rows z)
 tree_last_end v x y z s =
     let l : IsLayout (trees_of (words_of y) (v.rows z)) (words_of x) (words_of y) (v.rows z) = passed_layout (rule_passed s.rule) in
@@ -91,7 +91,7 @@ pub record OneMore (v : Format) (x x' y y' z z' : Content) (n : Node Row) : Type
 fresh_count : (v : Format) {x x' y y' z z' : Content} {n : Node Row} → (m : OneMore v x x' y y' z z' n) → length m.values.fresh ≡ length (values_of (level_order (tree_and n.value n.kids no_trees)))
 fresh_count v {n = n} m = alike_length v.alike m.values.fresh (values_of (level_order (tree_and n.value n.kids no_trees))) m.values.alike
 
--- the tree that was added: of the same shape, with the values as they are stored
+-- the tree that was added: of the same shape, with its values as they are stored
 added_tree : (v : Format) {x x' y y' z z' : Content} {n : Node Row} → (m : OneMore v x x' y y' z z' n) → Refit n m.values.fresh
 added_tree v {n = n} m = refit n m.values.fresh (fresh_count v m)
 
@@ -124,7 +124,7 @@ added_rows v {y = y} {z = z} s m =
     let g = added_tree v m in
     ap tree_rows (layout_read (added_layout v s m g)) ∙ tree_rows-joined (trees_of (words_of y) (v.rows z)) (tree_and g.is.value g.is.kids no_trees)
 
--- the first trees end where they did
+-- the first trees end where they ended before
 ends_kept : (v : Format) {x x' y y' z z' : Content} {n : Node Row} → SoundTrees v x y z → (m : OneMore v x x' y y' z z' n) → (t : ℕ) → t ≤ length (trees_rows v (both x (both y z))) → end_of_trees x' t ≡ end_of_trees x t
 ends_kept v {x} {x'} {y} {y'} {z} {z'} s m t l =
     let c = count_trees v x y z s in
@@ -153,7 +153,7 @@ added_alike v {n} {vs} g h =
     and_from _ _ (and_from _ _ (is-row_eq (bare_tree (tree_row g.is)) (bare_tree (tree_row n)) g.shape)
     (ap (λ us. all_alike v.alike us (level_values (tree_row n ∷ []))) a ∙ (ap (λ us. all_alike v.alike vs us) b ∙ h))) refl
 
--- what the new columns can't hold, the old ones could not hold with the tree
+-- what the new column refuses, the old one refused after the tree
 added_refuses : (v : Format) {x x' y y' z z' : Content} {n : Node Row} → SoundTrees v x y z → (m : OneMore v x x' y y' z z' n) → (e : Excess) (rs : List Row)
     → refuses_more (trees_format v) e (both x' (both y' z')) rs ≡ true → refuses_more (trees_format v) e (both x (both y z)) (tree_row n ∷ rs) ≡ true
 added_refuses v {x} {x'} {y} {y'} {z} {z'} {n} s m e rs h =
@@ -192,7 +192,7 @@ trees_took v {x} {x'} {y} {y'} {z} {z'} {n} i m =
       adds = λ e rs h. added_refuses v s m e rs h;
     }
 
--- a refused tree: the groups and the bounds are as before, and the values are
+-- a refused tree: the groups and the bounds are unchanged, and the values stayed
 pub trees_stayed : (v : Format) {x y z z' : Content} → IsSound (trees_format v) (both x (both y z)) → Stayed v z z' → Stayed (trees_format v) (both x (both y z)) (both x (both y z'))
 trees_stayed v {x} {y} {z} {z'} i t =
     let s = trees_parts v x y z i in
@@ -207,7 +207,7 @@ trees_stayed v {x} {y} {z} {z'} i t =
       };
     }
 
--- what the bounds and the values can't take, the trees can't
+-- the trees refuse what the bounds or the values refuse
 pub trees_refused : (v : Format) {x y z z' : Content} (n : Node Row) {error : GrowError} → IsSound (trees_format v) (both x (both y z)) → Stayed v z z'
     → IsTrueOf error (nodes_format v) (both y z) (values_of (level_order (tree_and n.value n.kids no_trees)))
     → Refused (trees_format v) (both x (both y z)) (both x (both y z')) (tree_row n ∷ []) error
@@ -227,7 +227,7 @@ trees_refused v {x} {y} {z} {z'} n {error} i t c =
 pub same_trees : {v w : Format} → v ≡ w → trees_format v ≡ trees_format w
 same_trees e = ap trees_format e
 
--- what reading tree t rests on
+-- the facts for reading tree t
 pub tree_facts : (v : Format) (x y z : Content) (t : ℕ) → IsSound (trees_format v) (both x (both y z)) → t < length (trees_rows v (both x (both y z))) → IsRoot (words_of x) (words_of y) (v.rows z) t
 tree_facts v x y z t s h =
     let w = length-tree_rows (trees_of (words_of y) (v.rows z)) in
@@ -239,7 +239,7 @@ tree_read v x y z t s h = tree_rows_get (trees_of (words_of y) (v.rows z)) t (no
 pub tree_values : (v : Format) (x y z : Content) → IsSound (trees_format v) (both x (both y z)) → IsSound v z
 tree_values v x y z s = (trees_parts v x y z s).values
 
--- the root is the node before its first kid
+-- the root is the node before its first child
 pub root_ref : {bounds : List ℕ} {n g r u : ℕ} → slice_index bounds g ≡ g → IsRef bounds n g (slice_index bounds g + 1) (slice_index bounds (g + 1)) → r ≡ g → u ≡ slice_index bounds (r + 1) → IsRef bounds n r (r + 1) u
 root_ref {bounds} {n} {g} {r} {u} o f e h = record {
   rule = f.rule;
@@ -253,7 +253,7 @@ len_trees v x y z {n} s e =
     let k = count_trees v x y z (trees_parts v x y z s) in
     omega (arith, k, e)
 
--- the number after a root's is at most the number of bounds
+-- the number after a root's is below the number of bounds
 pub root_next : (v : Format) (x y z : Content) (t : ℕ) {r m : ℕ} → IsSound (trees_format v) (both x (both y z)) → t < length (trees_rows v (both x (both y z))) → r ≡ slice_index (words_of x) t → m ≡ length (words_of y) → r + 1 < m
 root_next v x y z t {r} {m} s h e f =
     let b = (tree_facts v x y z t s h).bound_in in

@@ -1,4 +1,4 @@
--- A walk over the nodes of a layout: at node j the trees q of the current tree are still to be met, and after it the trees ts.
+-- A walk over the nodes of a layout: at node j the trees q of the current tree remain, and after it the trees ts.
 use Rattle.std.proofs.Common.{◌≡◌, ℕ, zero, suc, ◌+◌, ◌-◌, ◌<◌, List, [], ◌∷◌, ◌++◌, length, refl, ◌∙◌, ap, arith}
 use Rattle.columnar_nested.specs.Forest.{Forest, no_trees, tree_and, Node, width, level_order}
 use Rattle.columnar_nested.specs.Layout.{nodes, kid_counts, totals, starts, kid_ends}
@@ -91,7 +91,7 @@ size-joined : {A : Type 0} (f g : Forest A) → size (joined_forest f g) ≡ siz
 size-joined no_trees g = omega arith
 size-joined (tree_and v k r) g = let e = size-joined r g in omega arith
 
--- what holds at the end of a walk, and at a node where it holds at the next, holds all along
+-- a property holds all along a walk if it holds at its end, and at each node if it holds at the next
 module _ {A : Type 0} (P : ℕ → Forest A → Forest A → Type 0)
     (done : (j : ℕ) → P j no_trees no_trees)
     (root : (j : ℕ) (v : A) (k r : Forest A) → P (suc j) k r → P j no_trees (tree_and v k r))

@@ -14,7 +14,7 @@ total-append : {X : Type 0} (h : X → ℕ) (xs ys : List X) → total h (xs ++ 
 total-append h [] ys = omega arith
 total-append h (x ∷ xs) ys = let e = total-append h xs ys in omega (arith, e)
 
--- levels side by side weigh what they weigh apart
+-- the weight of joined levels is the sum of their weights
 total-beside : {X : Type 0} (h : X → ℕ) (xs ys : List (List X)) → total h (in_line (side_by_side xs ys)) ≡ total h (in_line xs) + total h (in_line ys)
 total-beside h [] ys = omega arith
 total-beside h (x ∷ xs) [] = omega arith
@@ -32,7 +32,7 @@ weight-append T h ts us =
     ∙ (ap (λ l. total h (in_line l)) (levels-joined (trees_as_forest (λ x. x) ts) (trees_as_forest (λ x. x) us))
     ∙ total-beside h (levels (trees_as_forest (λ x. x) ts)) (levels (trees_as_forest (λ x. x) us)))
 
--- a tree weighs what its root and its kids do
+-- the weight of a tree is that of its root and its children
 pub weight-step : (T : Type 0) (h : Node T → ℕ) (t : Tree T) (ts : List (Tree T)) → weight h (t ∷ ts) ≡ h (node_of (λ x. x) t) + (weight h (out-Tree T t).kids.items + weight h ts)
 weight-step T h t ts =
     let e = ap (total h) (in_order-step T T (λ x. x) t ts) in
@@ -45,11 +45,12 @@ count-step T t ts = weight-step T (λ n. 1) t ts
 pub count-append : (T : Type 0) (ts us : List (Tree T)) → count (ts ++ us) ≡ count ts + count us
 count-append T ts us = weight-append T (λ n. 1) ts us
 
--- the first weighs no more than all
+-- the first tree weighs no more than all
 pub count-first : (T : Type 0) (t : Tree T) (ts : List (Tree T)) → count (t ∷ ts) ≡ count (t ∷ []) + count ts
 count-first T t ts = count-append T (t ∷ []) ts
 
--- steps of loops that go over nodes: all weigh at most n, and the kids of the one that is met go after the others, or not
+-- steps of loops over nodes: all weigh at most n, and the children of the current node are pushed after the others, or
+-- not
 pub kids_lighter : (T : Type 0) (t : Tree T) (waiting us : List (Tree T)) {n : ℕ} → us ≡ (out-Tree T t).kids.items → count (t ∷ waiting) ≤ n → count us < n
 kids_lighter T t waiting us e l =
     let s = count-step T t waiting in
@@ -111,7 +112,7 @@ sum-first t ts = weight-append ℕ (λ n. n.value) (t ∷ []) ts
 pub total-push : {X : Type 0} (h : X → ℕ) (xs : List X) (x : X) → total h (xs ++ x ∷ []) ≡ total h xs + h x
 total-push h xs x = let e = total-append h xs (x ∷ []) in omega (arith, e)
 
--- where the loop stands that sums a tree: the trees `rest` come next, and then those on the stack
+-- the invariant of the loop that sums a tree: the trees `rest` come next, then those on the stack
 pub record IsSummed (self : Tree ℕ) (sum : ℕ) (rest : List (Tree ℕ)) (later_sum later_count : ℕ) : Type 0 where
   pub summed : sum + (value_sum rest + later_sum) ≡ value_sum (self ∷ [])
   pub fewer : count rest + later_count < count (self ∷ [])
@@ -124,7 +125,7 @@ summed_start t v kids e f =
     let n = ap count f in
     record { summed = omega (arith, e, s, k); fewer = omega (arith, c, n) }
 
--- a node is met, and its kids come next
+-- the current node is added, and its children come next
 pub summed_kids : (self node : Tree ℕ) (sum : ℕ) (rest later : List (Tree ℕ)) (a b : ℕ) {next : List (Tree ℕ)} {p a' b' more : ℕ} → IsSummed self sum rest a b → rest ≡ node ∷ later → next ≡ (out-Tree ℕ node).kids.items → p ≡ (out-Tree ℕ node).value → a' ≡ a + value_sum later → b' ≡ b + count later → more ≡ sum + p → IsSummed self more next a' b'
 summed_kids self node sum rest later a b {next} {p} {a'} {b'} {more} i e n v f g m =
     let s = sum-step node later in
@@ -144,7 +145,7 @@ summed_later self node sum rest later a b {p} {more} i e v m =
     let q = ap count e in
     record { summed = omega (arith, i.summed, s, r, v, m); fewer = omega (arith, i.fewer, c, q) }
 
--- a part is no more than the whole
+-- a part is at most the whole
 pub summed_within : (self node : Tree ℕ) (sum : ℕ) (rest later : List (Tree ℕ)) (a b : ℕ) → IsSummed self sum rest a b → rest ≡ node ∷ later → sum + value_sum (node ∷ []) ≤ value_sum (self ∷ [])
 summed_within self node sum rest later a b i e =
     let s = sum-first node later in
@@ -160,7 +161,7 @@ node_fewer self node sum rest later a b i e =
     let q = ap count e in
     omega (arith, i.fewer, c, q)
 
--- nothing is left of these trees, and the last ones on the stack come next
+-- none of these trees remains, and the last ones on the stack come next
 pub summed_pop : (self : Tree ℕ) (sum : ℕ) (rest next : List (Tree ℕ)) {a b a' b' : ℕ} → IsSummed self sum rest a b → length rest ≡ 0 → a ≡ a' + value_sum next → b ≡ b' + count next → IsSummed self sum next a' b'
 summed_pop self sum [] next i e f g = record { summed = omega (arith, i.summed, f); fewer = omega (arith, i.fewer, g) }
 summed_pop self sum (t ∷ ts) next i e f g = absurd (omega (arith, e))
@@ -169,13 +170,13 @@ pub popped_fewer : (rest next : List (Tree ℕ)) (b b' m m' : ℕ) → length re
 popped_fewer [] next b b' m m' e f g = omega (arith, f, g)
 popped_fewer (t ∷ ts) next b b' m m' e f g = absurd (omega (arith, e))
 
--- nothing is left at all
+-- no tree remains at all
 pub summed_all : {X : Type 0} (self : Tree ℕ) (sum : ℕ) (rest : List (Tree ℕ)) (f g : X → ℕ) (waiting : List X) → IsSummed self sum rest (total f waiting) (total g waiting) → length rest ≡ 0 → length waiting ≡ 0 → sum ≡ value_sum (self ∷ [])
 summed_all self sum [] f g [] i e h = omega (arith, i.summed)
 summed_all self sum (t ∷ ts) f g waiting i e h = absurd (omega (arith, e))
 summed_all self sum [] f g (x ∷ xs) i e h = absurd (omega (arith, h))
 
--- the kids of a node come next: it is met no more
+-- the children of a node come next, and the node does not occur again
 pub kids_fewer : (node : Tree ℕ) (rest later next : List (Tree ℕ)) (b b' m m' : ℕ) → rest ≡ node ∷ later → next ≡ (out-Tree ℕ node).kids.items → b' ≡ b + count later → m' ≤ m + 1 → (count next + b') + ((count next + b') + m') < (count rest + b) + ((count rest + b) + m)
 kids_fewer node rest later next b b' m m' e n f l =
     let c = count-step ℕ node later in
@@ -191,7 +192,7 @@ later_fewer node rest later b m e =
 
 -- ---- copies
 
--- a kid is copied next, and its node goes on the stack
+-- a child is copied next, and its node goes on the stack
 pub down_fewer : (T : Type 0) (kids : List (Tree T)) (d : ℕ) (kid : Tree T) (fresh : List (Tree T)) (b b' m m' : ℕ) → d < length kids → kid ≡ slice_index_or kids d kid → fresh ≡ [] → b' ≡ b + uncopied kids (d + 1) → m' ≡ m + 1
     → (uncopied (out-Tree T kid).kids.items (length fresh) + b') + ((uncopied (out-Tree T kid).kids.items (length fresh) + b') + m') < (uncopied kids d + b) + ((uncopied kids d + b) + m)
 down_fewer T kids d kid fresh b b' m m' l e z f g =
@@ -201,7 +202,7 @@ down_fewer T kids d kid fresh b b' m m' l e z f g =
     let n : uncopied (out-Tree T kid).kids.items (length fresh) ≡ count (out-Tree T kid).kids.items = ap (λ us. uncopied (out-Tree T kid).kids.items (length us)) z in
     omega (arith, h, k, s, n, f, g)
 
--- all kids of a node were copied, and it is a kid of the one on the stack
+-- all children of a node were copied; the node is a child of the one on the stack
 pub up_fewer : (T : Type 0) (kids pk copied : List (Tree T)) (d n : ℕ) (b b' m m' : ℕ) → length copied ≡ n + 1 → b ≡ b' + uncopied pk (n + 1) → m ≡ m' + 1
     → (uncopied pk (length copied) + b') + ((uncopied pk (length copied) + b') + m') < (uncopied kids d + b) + ((uncopied kids d + b) + m)
 up_fewer T kids pk copied d n b b' m m' e f g =

@@ -1,4 +1,4 @@
--- What the nodes of trees weigh together.
+-- The total weight of the nodes of trees.
 use Rattle.std.specs.Prelude.{ℕ, List, [], ◌∷◌, ◌+◌, drop}
 use Rattle.columnar_nested.specs.Forest.{Node}
 use Rattle.columnar_nested.specs.TreeValues.{in_order}
@@ -8,7 +8,7 @@ abbrev pub total : {X : Type 0} → (X → ℕ) → List X → ℕ
 total h [] = 0
 total h (x ∷ xs) = h x + total h xs
 
--- h says what a node weighs
+-- h gives the weight of a node
 abbrev pub weight : {T : Type 0} → (Node T → ℕ) → List (Tree T) → ℕ
 weight h ts = total h (in_order (λ x. x) ts)
 
@@ -20,6 +20,6 @@ count ts = weight (λ n. 1) ts
 abbrev pub value_sum : List (Tree ℕ) → ℕ
 value_sum ts = weight (λ n. n.value) ts
 
--- how many nodes are still to be copied of the kids of a node, where n kids were copied
+-- the number of nodes that remain to be copied after n of a node's children
 abbrev pub uncopied : {T : Type 0} → List (Tree T) → ℕ → ℕ
 uncopied kids n = count (drop n kids)

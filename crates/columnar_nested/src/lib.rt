@@ -1,4 +1,4 @@
-//! Trees: their nodes level by level in one column, and where each node's kids and each tree begin.
+//! Trees: their nodes level by level in one column, with the first child of each node and the start of each tree.
 #![tactic(auto)]
 
 pub mod laws;

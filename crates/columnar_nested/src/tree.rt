@@ -10,15 +10,15 @@ use columnar_base::traits::Item;
 use std::alloc::{AllocError, Global};
 use std::collections::VecDeque;
 
-/// A value, and the trees below it. A tree is dropped by a queue, so that a long line of nodes takes no deep stack.
+/// A value, and the trees below it. It is dropped with a queue, so that a long chain of nodes needs no deep stack.
 pub struct Tree<T> {
-    /// The root's value.
+    /// The value of the root.
     pub value: T,
-    /// The trees below it, in their order.
+    /// The trees below it, in order.
     pub kids: Vec<Tree<T>>,
 }
 
-/// As a row, it is its value and the list of its kids.
+/// Its row is its value and the list of its children.
 impl<T: Item> Item for Tree<T> {
     ghost meaning = { tree_meaning T.meaning };
 
@@ -26,7 +26,7 @@ impl<T: Item> Item for Tree<T> {
 }
 
 impl<T> Tree<T> {
-    /// The value and the kids.
+    /// Returns the value and the children.
     pub fn into_parts(self) -> (T, Vec<Tree<T>>)
         ensures value { result.0 ≡ (out-Tree T self).value }
         ensures kids { result.1 ≡ (out-Tree T self).kids }
@@ -36,7 +36,7 @@ impl<T> Tree<T> {
     }
 }
 
-/// Where memory for the queue is refused, the trees that found no place in it are dropped one by one.
+/// If the queue cannot grow, the trees that found no place in it are dropped recursively, one by one.
 impl<T: Drop> Drop for Tree<T> {
     fn drop(mut self) {
         let mut waiting = VecDeque::new(*self.kids.allocator());
@@ -60,7 +60,8 @@ impl<T: Drop> Drop for Tree<T> {
     }
 }
 
-// Puts trees on the stack, if there are any and it has room for them: how much h they weigh is then added to it.
+// Pushes trees to the stack if there are any and the stack has capacity; then their weight, for any weight h, is added
+// to the stack's.
 fn keep<'a>(waiting: &mut Vec<&'a [Tree<usize>]>, later: &'a [Tree<usize>]) -> bool
     ensures kept { result ≡ true → (h : List (Tree ℕ) → ℕ) → h [] ≡ 0 → total (λ ts. h ts.now) waiting.new.items ≡ total (λ ts. h ts.now) waiting.old.items + h later.now }
     ensures refused { result ≡ false → waiting.new.items ≡ waiting.old.items }
@@ -70,8 +71,11 @@ fn keep<'a>(waiting: &mut Vec<&'a [Tree<usize>]>, later: &'a [Tree<usize>]) -> b
 }
 
 impl Tree<usize> {
-    /// The sum of all values; Overflow exactly where it passes the largest `usize`. It goes over the nodes by a stack of
-    /// its own; where memory for that is refused, it calls itself for a node that has later siblings.
+    /// Returns the sum of all values. Visits the nodes with a stack of its own; if that cannot be allocated, it calls
+    /// itself for a node that has later siblings.
+    ///
+    /// # Errors
+    /// `Overflow` if and only if the sum exceeds the largest `usize`.
     pub fn sum(&self) -> Result<usize, SumError>
         ensures ok { IfOk result (λ n. n ≡ sum (values_in self.now)) }
         ensures err { OnErr result (2 ^ 64 ≤ sum (values_in self.now)) }
@@ -103,7 +107,7 @@ impl Tree<usize> {
     }
 }
 
-/// A copy, node by node, without a deep stack: the nodes above the one that is copied are kept in a `Vec`.
+/// Copies node by node without a deep stack: a `Vec` holds the nodes above the copied one.
 impl<T: Clone> Clone for Tree<T> {
     fn clone(&self) -> Result<Self, AllocError> {
         let alloc = *self.kids.allocator();
@@ -129,7 +133,7 @@ impl<T: Clone> Clone for Tree<T> {
     }
 }
 
-// A tree of one node, with a copy of the value.
+// Returns a tree of one node, with a copy of the value.
 fn leaf<T: Clone>(alloc: Global, value: &T) -> Result<Tree<T>, AllocError>
     ensures { IfOk result (λ t. (out-Tree T t).kids.items ≡ []) }
 {
@@ -140,7 +144,7 @@ fn leaf<T: Clone>(alloc: Global, value: &T) -> Result<Tree<T>, AllocError>
     })
 }
 
-// The tree with one more kid after the others.
+// Returns the tree with one more child after the others.
 fn with_kid<T: Drop>(tree: Tree<T>, kid: Tree<T>) -> Result<Tree<T>, AllocError>
     ensures { IfOk result (λ t. length (out-Tree T t).kids.items ≡ length (out-Tree T tree).kids.items + 1) }
 {

@@ -16,14 +16,17 @@ pub use read::TreesRef;
 
 /// Words that can be the groups and the bounds of trees: those of a `Vec`, of a view, or of a reference to either.
 pub trait NodeBounds {
-    // the bytes of the words, each lowest first
+    // the bytes of the words, lowest first within a word
     ghost bytes: { Self → List ℕ };
 
-    /// The view of the words. Needs no memory.
+    /// Returns a view of the words; allocates nothing.
     fn words(&self) -> View<'_, u64>
         ensures { view_bytes result ≡ bytes self.now };
 
-    /// Word `index`. Asks that it is there.
+    /// Returns word `index`.
+    ///
+    /// # Requires
+    /// `index` below the number of words.
     final fn bound(&self, index: usize) -> u64
         requires { index < length (words_in (bytes self.now)) }
         ensures { result ≡ slice_index (words_in (bytes self.now)) index }
@@ -56,12 +59,12 @@ impl<'x, B: NodeBounds> NodeBounds for &'x B {
     }
 }
 
-/// A column of trees. The nodes of a tree stand level by level, tree after tree.
+/// A column of trees. It stores the nodes of each tree level by level, tree after tree.
 #[derive(Clone, Copy, Drop)]
 pub struct Trees<TC, BC = Vec<u64>> {
-    /// The number of the node at which each tree begins, and then the number of all nodes.
+    /// The number of the first node of each tree, then the number of all nodes.
     pub groups: BC,
-    /// After a first 0, for each node where the kids of its tree's nodes up to and with it end.
+    /// A first 0, then for each node the number at which the children of its tree's nodes, up to and including it, end.
     pub bounds: BC,
     /// The value of each node.
     pub values: TC,

@@ -1,4 +1,4 @@
-//! Columns of one's own in slices of bytes: those of the parts.
+//! The bytes of columns of your own rows: those of the parts.
 use crate::rows::OwnRows;
 use columnar_base::fault::{GrowError, StoreFault};
 use columnar_base::tally::Tally;
@@ -63,7 +63,7 @@ impl<P: ContainerBytes, K> ContainerBytes for OwnRows<P, K> {
     }
 }
 
-/// The earlier form is that of the parts.
+/// The earlier form is the same type over the earlier form of the parts.
 impl<P: Earlier, K> Earlier for OwnRows<P, K> {
     type Old = OwnRows<P::Old, K>;
 

@@ -1,4 +1,4 @@
-//! How a column of one's own grows, is cut and is borrowed: as its parts.
+//! Growth, cuts and views of columns of your own rows: those of the parts.
 use crate::rows::{OwnRow, OwnRows};
 use columnar_base::fault::GrowError;
 use columnar_base::traits::{Clear, Column};

@@ -1,4 +1,4 @@
-//! Rows of one's own: a struct or an enum as the rows of a column, kept in a column of what it is made of.
+//! Your own rows: a struct or an enum as the rows of a column, stored as a column of their parts.
 #![tactic(auto)]
 
 pub mod bytes;

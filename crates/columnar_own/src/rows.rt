@@ -1,33 +1,39 @@
-//! Columns whose rows are values of one's own.
+//! Columns whose rows are values of your own type.
 ghost use Rattle.std.specs.Prelude.{◌≡◌};
 
 use columnar_base::traits::{Column, Index, Item, Len};
+use columnar_core::ordered::OrderedRow;
+use std::cmp::Ordering;
 use std::fmt::{self, Debug, Formatter, Write};
+use std::hash::Hasher;
 use std::marker::PhantomData;
 
-/// How a type whose values are kept shows rows of what they are made of, which are read as `R`.
+/// A type of values that shows a row of their parts, read as `R`, with the names of the parts.
 pub trait MakeRow<R: Item> {
-    /// What stands for a row, with the parts by their names.
+    /// A row with named parts.
     type Row: Item;
 
-    /// A row of the parts, as a row of one's own, which means the same.
+    /// Makes a row with named parts from a row of the parts; both mean the same.
+    ///
+    /// # Requires
+    /// A valid row.
     fn make_row(row: R) -> Self::Row
         requires { R.valid row }
         ensures row { Self.Row.meaning result ≡ R.meaning row }
         ensures valid { Self.Row.valid result };
 }
 
-/// A row of a column of values of the type `K`: a row of what they are made of.
+/// A row of a column of values of type `K`: a row of their parts.
 #[derive(Drop)]
 #[derive_where(Clone, Copy, PartialEq; R)]
 pub struct OwnRow<R, K> {
-    /// The row of what the values are made of.
+    /// The row of the parts.
     pub parts: R,
     kind: PhantomData<K>,
 }
 
 impl<R, K> OwnRow<R, K> {
-    /// The row of these parts.
+    /// Makes a row of these parts.
     pub fn new(parts: R) -> OwnRow<R, K>
         ensures { result.parts ≡ parts }
     {
@@ -39,7 +45,10 @@ impl<R, K> OwnRow<R, K> {
 }
 
 impl<R: Item, K: MakeRow<R>> OwnRow<R, K> {
-    /// The row with its parts by their names, as the type shows it.
+    /// Returns the row with named parts.
+    ///
+    /// # Requires
+    /// A valid row of the parts.
     pub fn show(self) -> K::Row
         requires { R.valid self.parts }
         ensures row { K.Row.meaning result ≡ R.meaning self.parts }
@@ -49,11 +58,29 @@ impl<R: Item, K: MakeRow<R>> OwnRow<R, K> {
     }
 }
 
-/// As a row, it is that of its parts.
+/// The row means the same as the row of its parts.
 impl<R: Item, K> Item for OwnRow<R, K> {
     ghost meaning = { λ r. R.meaning r.parts };
 
     ghost valid = { λ r. R.valid r.parts };
+}
+
+/// Rows compare as their parts do. The row of a struct is the tuple of its fields, so the first field that differs decides.
+/// The row of an enum is a row of variants, so the variant decides before the value.
+impl<R: OrderedRow, K> OrderedRow for OwnRow<R, K> {
+    ghost row_input = { R.row_input };
+
+    fn same_row(&self, other: &Self) -> bool {
+        self.parts.same_row(&other.parts)
+    }
+
+    fn compare_row(&self, other: &Self) -> Ordering {
+        self.parts.compare_row(&other.parts)
+    }
+
+    fn hash_row<H: Hasher>(&self, state: &mut H) {
+        self.parts.hash_row(state);
+    }
 }
 
 /// Prints the parts.
@@ -63,18 +90,18 @@ impl<R: Debug, K> Debug for OwnRow<R, K> {
     }
 }
 
-/// A column of values of one's own, of the type `K`, or a view of one: it is kept in a column of what they are made of, with
-/// the same slices and the same rows.
+/// A column of values of your own type `K`, or a view of one. It is stored as a column of their parts, with the same
+/// slices and rows.
 #[derive(Drop)]
 #[derive_where(Clone, Copy, PartialEq; P)]
 pub struct OwnRows<P, K> {
-    /// The column of what the values are made of. Of a struct it is a tuple of columns, one for each field.
+    /// The column of the parts; for a struct, a tuple with a column for each field.
     pub parts: P,
     kind: PhantomData<K>,
 }
 
 impl<P, K> OwnRows<P, K> {
-    /// The column whose parts are these.
+    /// Makes a column of these parts.
     pub fn new(parts: P) -> OwnRows<P, K>
         ensures { result.parts ≡ parts }
     {
@@ -105,7 +132,7 @@ impl<P: Index, K> Index for OwnRows<P, K> {
     }
 }
 
-/// Rows are read through a reference as those of the parts are through one.
+/// Reads rows through a reference, as the parts do.
 impl<'x, P: Column, K> Index for &'x OwnRows<P, K>
 where
     &'x P: Index,

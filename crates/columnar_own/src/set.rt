@@ -1,4 +1,4 @@
-//! Rows of one's own that are written in place: in the parts.
+//! Writes in place of your own rows: in the parts.
 ghost use Rattle.std.specs.Prelude.{◌≡◌};
 
 use crate::rows::{OwnRow, OwnRows};
@@ -8,7 +8,7 @@ use columnar_cells::items::SetItem;
 use columnar_cells::row_mut::RowMut;
 use columnar_cells::set::{SetAny, SetRow};
 
-/// Takes rows of what the values are made of.
+/// Takes rows of the parts.
 impl<R: Item, P: SetRow<R>, K> SetRow<OwnRow<R, K>> for OwnRows<P, K> {
     ghost fits = { λ r item. P.fits r item.parts };
 

@@ -15,7 +15,7 @@ use Rattle.columnar_primitive.specs.Mapped.{all_pass, IsFlat}
 use Rattle.columnar_primitive.specs.MappedLaws.{mapped_parts, mapped_lawful, mapped_storable, mapped_took, mapped_copied, mapped_refused, mapped_stayed, mapped_cut, mapped_none, mapped_piece, mapped_get, mapped_fits, mapped_fine, mapped_own, same_mapped, pass_get, pass_take, pass_drop}
 use Rattle.columnar_primitive.specs.Durations.{is_part_second, is_duration, as_duration, durations_format}
 
--- two flat columns side by side are flat
+-- a pair of flat columns is flat
 
 twice : (b : Bool) → (b || b) ≡ b
 twice true = refl
@@ -50,7 +50,7 @@ pair_flat a b p q = record {
   short = pair_short a b p q;
 }
 
--- seconds and nanoseconds are those of durations where the nanoseconds are below a second
+-- seconds and nanoseconds are durations if and only if the nanoseconds are below a second
 pub pass_seconds : (rs ss : List Row) → length rs ≡ length ss → all_pass is_duration (tuples rs ss) ≡ all_pass is_part_second ss
 pass_seconds [] [] e = refl
 pass_seconds [] (s ∷ ss) e = absurd (omega arith)
@@ -61,7 +61,7 @@ pass_seconds (r ∷ rs) (s ∷ ss) e = ap (λ t. is_part_second s && t) (pass_se
 pub durations_parts : (a b : Format) {x y : Content} → IsSound (durations_format a b) (both x y) → SoundPair a b x y
 durations_parts a b s = pair_parts a b (mapped_parts (pair_format a b) as_duration is_duration s).values
 
--- as many rows as there are seconds
+-- as many rows as seconds
 pub length-durations : (a b : Format) {x y : Content} → IsSound (durations_format a b) (both x y) → length (map as_duration (tuples (a.rows x) (b.rows y))) ≡ length (a.rows x)
 length-durations a b {x} {y} s = length-map (tuples (a.rows x) (b.rows y)) as_duration ∙ length-pair a b (mapped_parts (pair_format a b) as_duration is_duration s).values
 
@@ -71,7 +71,7 @@ durations_within a b {x} {y} i s l = pair_within a b i (mapped_parts (pair_forma
 pub durations_top : (a b : Format) {x y : Content} (i : ℕ) → IsSound (durations_format a b) (both x y) → i ≤ length (map as_duration (tuples (a.rows x) (b.rows y))) → (i ≤ length (a.rows x)) × (i ≤ length (b.rows y))
 durations_top a b {x} {y} i s l = pair_top a b i (mapped_parts (pair_format a b) as_duration is_duration s).values (rw (length-map (tuples (a.rows x) (b.rows y)) as_duration) at l)
 
--- row i, whose nanoseconds are below a second
+-- row i, with its nanoseconds
 pub durations_get : (i : ℕ) (rs ss : List Row) (r t : Row) → slice_get rs i ≡ Some r → slice_get ss i ≡ Some t → slice_get (map as_duration (tuples rs ss)) i ≡ Some (duration (number_of r) (number_of t))
 durations_get i rs ss r t p q = mapped_get as_duration i (tuples rs ss) (tuple r t) (slice_get-tuples i rs ss r t p q)
 
@@ -110,7 +110,7 @@ durations_stayed a b s g h = mapped_stayed (pair_format a b) as_duration is_dura
 pub durations_cut : (a b : Format) {x x' y y' : Content} {n : ℕ} → IsSound (durations_format a b) (both x y) → WasCut a x x' n → WasCut b y y' n → WasCut (durations_format a b) (both x y) (both x' y') n
 durations_cut a b s g h = mapped_cut (pair_format a b) as_duration is_duration s (pair_cut a b (mapped_parts (pair_format a b) as_duration is_duration s).values g h)
 
--- the same of a range of the rows of other columns
+-- the same for a range of the rows of other columns
 
 pub durations_copied : (a b : Format) {x x' y y' : Content} (a' b' : Format) (v w : Content) (start n : ℕ) → IsFlat a → IsFlat b → IsSound (durations_format a b) (both x y) → IsSound (durations_format a' b') (both v w) → Copied a x x' start (take n (drop start (a'.rows v))) → Copied b y y' start (take n (drop start (b'.rows w))) → Copied (durations_format a b) (both x y) (both x' y') start (take n (drop start (map as_duration (tuples (a'.rows v) (b'.rows w)))))
 durations_copied a b {x} {x'} {y} {y'} a' b' v w start n p q s t g h =
@@ -139,7 +139,7 @@ durations_fits a b o ss h = pair_fits a b o ss (mapped_fits (pair_format a b) as
 pub durations_level : (a b : Format) (o : ℕ) (ss : List (List ℕ)) → Fits (durations_format a b) o ss → length (map as_duration (tuples (a.rows (a.build (drop o ss))) (b.rows (b.build (drop a.count (drop o ss)))))) ≡ length (a.rows (a.build (drop o ss)))
 durations_level a b o ss h = length-map (tuples (a.rows (a.build (drop o ss))) (b.rows (b.build (drop a.count (drop o ss))))) as_duration ∙ fits_level a b o ss (mapped_fits (pair_format a b) as_duration is_duration o ss h)
 
--- the parts break no rule, and are as long as each other
+-- the parts break no rule and have equal lengths
 
 pub durations_fine : (a b : Format) (x y : Content) (o : ℕ) → None ≡ first (both_broken a b x y o) → length (a.rows x) ≡ length (b.rows y) → all_pass is_part_second (b.rows y) ≡ true → None ≡ first (moved o ((durations_format a b).broken (both x y)))
 durations_fine a b x y o n l p = mapped_fine (pair_format a b) as_duration is_duration (both x y) o (judged_fine (pair_two a b) x y o n (eq-eqb _ _ l)) (pass_seconds (a.rows x) (b.rows y) l ∙ p)
@@ -147,7 +147,7 @@ durations_fine a b x y o n l p = mapped_fine (pair_format a b) as_duration is_du
 pub durations_own : (a b : Format) (x y : Content) (o : ℕ) → None ≡ first (both_broken a b x y o) → length (a.rows x) ≡ length (b.rows y) → all_pass is_part_second (b.rows y) ≡ false → Some (fault 14 o) ≡ first (moved o ((durations_format a b).broken (both x y)))
 durations_own a b x y o n l p = mapped_own (pair_format a b) as_duration is_duration (both x y) o (judged_fine (pair_two a b) x y o n (eq-eqb _ _ l)) (pass_seconds (a.rows x) (b.rows y) l ∙ p)
 
--- the same over the slices of a store
+-- the same for the slices of a store
 
 pub durations_fine_at : (a b : Format) (ss : List (List ℕ)) (o : ℕ) → None ≡ first (both_broken a b (a.build (drop o ss)) (b.build (drop (o + a.count) ss)) o) → length (a.rows (a.build (drop o ss))) ≡ length (b.rows (b.build (drop (o + a.count) ss))) → all_pass is_part_second (b.rows (b.build (drop (o + a.count) ss))) ≡ true → None ≡ first (moved o ((durations_format a b).broken ((durations_format a b).build (drop o ss))))
 durations_fine_at a b ss o n l p =
@@ -159,13 +159,13 @@ durations_own_at a b ss o n l p =
     let d : drop a.count (drop o ss) ≡ drop (o + a.count) ss = drop-drop a.count o ss in
     rw d (durations_own a b (a.build (drop o ss)) (b.build (drop (o + a.count) ss)) o n l p)
 
--- tests of the parts that take no turn, and then a turn for each row of the second
+-- validation of the parts takes no steps, then one for each row of the second
 pub durations_turns : (old next new s t m n rows : ℕ) → s ≡ 0 → t ≡ 0 → next ≤ old + (s * m + t * n) → new ≤ next + rows → rows ≤ n → new ≤ old + 1 * (m + n)
 durations_turns old next new s t m n rows e f p q l =
     let u : next ≤ old + (0 * m + 0 * n) = rw (e, f) at p in
     omega arith
 
--- the same over the slices of a store
+-- the same for the slices of a store
 pub durations_turns_at : (a b : Format) (ss : List (List ℕ)) (o old next new : ℕ) → a.turns ≡ 0 → b.turns ≡ 0 → next ≤ old + (a.turns * bytes_held (a.build (drop o ss)) + b.turns * bytes_held (b.build (drop (o + a.count) ss))) → new ≤ next + length (b.rows (b.build (drop (o + a.count) ss))) → length (b.rows (b.build (drop (o + a.count) ss))) ≤ bytes_held (b.build (drop (o + a.count) ss)) → new ≤ old + 1 * bytes_held ((durations_format a b).build (drop o ss))
 durations_turns_at a b ss o old next new e f p q l =
     let d : drop a.count (drop o ss) ≡ drop (o + a.count) ss = drop-drop a.count o ss in

@@ -1,15 +1,15 @@
--- Durations, by their whole seconds and the nanoseconds besides.
+-- Durations: whole seconds and remaining nanoseconds.
 use Rattle.std.specs.Prelude.{Bool, nat_lt}
 use Rattle.columnar_base.specs.Row.{Row, duration, number_of, first_of, second_of}
 use Rattle.columnar_base.specs.Format.{Format}
 use Rattle.columnar_base.specs.Tuples.{pair_format}
 use Rattle.columnar_primitive.specs.Mapped.{mapped_format}
 
--- is a row a number of nanoseconds below a second
+-- whether a row is a number of nanoseconds below a second
 abbrev pub is_part_second : Row → Bool
 is_part_second r = nat_lt (number_of r) 1000000000
 
--- is a tuple of seconds and nanoseconds that of a duration
+-- whether a tuple of seconds and nanoseconds is a duration
 abbrev pub is_duration : Row → Bool
 is_duration r = is_part_second (second_of r)
 
@@ -17,6 +17,6 @@ is_duration r = is_part_second (second_of r)
 abbrev pub as_duration : Row → Row
 as_duration r = duration (number_of (first_of r)) (number_of (second_of r))
 
--- seconds and nanoseconds side by side
+-- columns of seconds and of nanoseconds
 abbrev pub durations_format : Format → Format → Format
 durations_format a b = mapped_format (pair_format a b) as_duration is_duration

@@ -8,7 +8,7 @@ use Rattle.columnar_core.specs.declared.fault.GrowError.{GrowError}
 use Rattle.columnar_core.specs.declared.fault.GrowError.TheVariants.{Memory, Length, Offset, Format as FormatError}
 use Rattle.columnar_primitive.specs.Multiples.{multiples}
 
--- one word, the count, and the last of so many multiples fits a word
+-- one word, the count; and the last multiple fits a word
 abbrev pub fixed_broken : ℕ → Content → List Fault
 fixed_broken k (slice bs) = cond (nat_eq (length bs) 8) (unless (nat_le (k * word bs 0) (2 ^ 64 - 1)) (fault 16 0)) (fault 9 0 ∷ [])
 fixed_broken k (both x y) = misfit
@@ -21,21 +21,21 @@ fixed_rows k (both x y) = []
 fixed_rows k (part l u x) = []
 fixed_rows k (plain rs) = []
 
--- one of the rows, which come after n others, isn't k times its place
+-- one of the rows, after n others, is not k times its place
 abbrev pub strays : ℕ → ℕ → List Row → Bool
 strays k n [] = false
 strays k n (r ∷ rs) = not (row_eq r (number (k * suc n))) || strays k (suc n) rs
 
--- Their number, or k times it, does not fit a word.
+-- their number, or k times it, does not fit a word
 abbrev pub passes : ℕ → ℕ → Bool
 passes k n = nat_lt (2 ^ 64 - 1) n || nat_lt (2 ^ 64 - 1) (k * n)
 
--- The rows, after n others, may not be held.
+-- The rows are refused after n others.
 abbrev pub fixed_refuses : ℕ → Excess → ℕ → List Row → Bool
 fixed_refuses k too_many n rs = passes k (n + length rs)
 fixed_refuses k misplaced n rs = strays k n rs
 
--- a count alone, of the rows k, 2k, ..
+-- only a count, of the rows k, 2k, ..
 abbrev pub fixed_format : ℕ → Format
 fixed_format k = record {
   count = 1;
@@ -51,14 +51,14 @@ fixed_format k = record {
   refuses = λ e c n rs. fixed_refuses k e n rs;
 }
 
--- a limit was passed: no want of memory
+-- not an allocation failure: a limit was exceeded
 abbrev pub IsLimit : GrowError → Type 0
 IsLimit Memory = ⊥
 IsLimit Length = Unit {0}
 IsLimit Offset = Unit {0}
 IsLimit FormatError = ⊥
 
--- The error names a true cause: the rows, after n others, may not be held.
+-- The error has a true cause: the rows are refused after n others.
 abbrev pub IsFixedCause : ℕ → GrowError → ℕ → List Row → Type 0
 IsFixedCause k Memory n rs = Unit {0}
 IsFixedCause k Length n rs = fixed_refuses k too_many n rs ≡ true

@@ -20,12 +20,12 @@ use Rattle.columnar_primitive.specs.Multiples.{multiples}
 use Rattle.columnar_primitive.specs.MultipleLaws.{multiples_numbers, multiples-none, multiples-more, length-multiples, multiples-append, multiples-take, multiples-piece, multiples_get, multiples-shift, multiples_end}
 use Rattle.columnar_primitive.specs.Fixed.{fixed_broken, fixed_rows, strays, passes, fixed_refuses, fixed_format, IsFixedCause}
 
--- what the soundness of a column of multiples is made of
+-- the soundness of a column of multiples
 pub record SoundFixed (k : ℕ) (bs : List ℕ) : Type 0 where
   pub size : length bs ≡ 8
   pub fits : k * word bs 0 ≤ 2 ^ 64 - 1
 
--- a test of two rules, the second where the first is kept
+-- a test of two rules, the second only if the first is satisfied
 pub both_kept : (b : Bool) (xs : List Fault) (x : Fault) → cond b xs (x ∷ []) ≡ [] → (b ≡ true) × (xs ≡ [])
 both_kept true xs x h = (refl, h)
 both_kept false xs x h = cc
@@ -47,7 +47,7 @@ fixed_sound k {bs} s = record {
       (eq-eqb (length bs) 8 s.size) (true_unless (nat_le (k * word bs 0) (2 ^ 64 - 1)) (fault 16 0) (le-leb (k * word bs 0) (2 ^ 64 - 1) s.fits));
 }
 
--- what its test answers
+-- the result of its test
 
 pub fixed_fine : (k : ℕ) (bs : List ℕ) (o : ℕ) → length bs ≡ 8 → k * word bs 0 ≤ 2 ^ 64 - 1 → None ≡ first (moved o (fixed_broken k (slice bs)))
 fixed_fine k bs o l h =
@@ -67,7 +67,7 @@ fixed_too_long k bs o l h =
     let z : o + 0 ≡ o = omega arith in
     rw (e, f, z) refl
 
--- which rows may not be held
+-- which rows are refused
 
 pub strays-more : (k n : ℕ) (rs ss : List Row) → strays k n rs ≡ true → strays k n (rs ++ ss) ≡ true
 strays-more k n [] ss h = cc
@@ -155,7 +155,7 @@ fixed_bounds k = record { exact = row_eq_exact; swift = omega arith; are_numbers
 fixed_keeps : (k : ℕ) (old new : Content) (n : ℕ) → Keeps (fixed_format k) old new n
 fixed_keeps k old new n = record { extents = λ m l. refl; limits = λ m l e rs. refl }
 
--- the next m multiples came
+-- the next m multiples follow
 pub fixed_grew : (k : ℕ) {old new : List ℕ} (n m : ℕ) → word old 0 ≡ n → word new 0 ≡ n + m → SoundFixed k new → Grew (fixed_format k) (slice old) (slice new) (multiples k n m)
 fixed_grew k {old} {new} n m p q s = record {
   sound = fixed_sound k s;
@@ -177,11 +177,11 @@ fixed_copied k {old} {new} n m start p q s = record {
   front = λ none z. (fixed_grew k n m p q s).rows ∙ ap (λ rs. rs ++ multiples k n m) none;
 }
 
--- a range of another column's multiples, of which the first comes to its place
+-- a range of another column's multiples, the first of which is the next one here
 pub fixed_piece : (k start n m top : ℕ) → start + m ≤ top → k * suc start ≡ k * suc n → take m (drop start (multiples k 0 top)) ≡ multiples k n m
 fixed_piece k start n m top l e = multiples-piece k start m top l ∙ multiples-shift k start n m e
 
--- nothing came
+-- no multiples follow
 pub fixed_copied_none : (k : ℕ) {bs : List ℕ} (start : ℕ) → IsSound (fixed_format k) (slice bs) → Copied (fixed_format k) (slice bs) (slice bs) start []
 fixed_copied_none k {bs} start s =
     let e : word bs 0 + 0 ≡ word bs 0 = omega arith in
@@ -200,21 +200,21 @@ fixed_cut k {old} {new} n l e m s =
 
 -- refusals
 
--- one row more than may be counted
+-- one more row than can be counted
 pub fixed_past : (k n : ℕ) (r : Row) (rs : List Row) → 2 ^ 64 - 1 < n + 1 ⊎ 2 ^ 64 - 1 < k * (n + 1) → fixed_refuses k too_many n (r ∷ rs) ≡ true
 fixed_past k n r rs h = passes-more k (n + 1) (n + length (r ∷ rs)) (omega arith) (⊎_elim
     (λ (p : 2 ^ 64 - 1 < n + 1). or_left (nat_lt (2 ^ 64 - 1) (n + 1)) (nat_lt (2 ^ 64 - 1) (k * (n + 1))) (lt-ltb (2 ^ 64 - 1) (n + 1) p))
     (λ (p : 2 ^ 64 - 1 < k * (n + 1)). or_right (nat_lt (2 ^ 64 - 1) (n + 1)) (nat_lt (2 ^ 64 - 1) (k * (n + 1))) (lt-ltb (2 ^ 64 - 1) (k * (n + 1)) p))
     h)
 
--- a row that isn't the next multiple
+-- a row that is not the next multiple
 pub fixed_stray : (k n x : ℕ) (rs : List Row) → (x ≡ k * (n + 1) → ⊥) → fixed_refuses k misplaced n (number x ∷ rs) ≡ true
 fixed_stray k n x rs h =
     let e : k * suc n ≡ k * (n + 1) = omega arith in
     let f : nat_eq x (k * suc n) ≡ false = rw e (ne_eqb x (k * (n + 1)) h) in
     or_left (not (row_eq (number x) (number (k * suc n)))) (strays k (suc n) rs) (not_from_false (row_eq (number x) (number (k * suc n))) f)
 
--- calls of a column of its own, which holds the count n
+-- calls of an owned column with the count n
 
 pub count_sound : (k n : ℕ) → n < 2 ^ 64 → k * n < 2 ^ 64 → SoundFixed k (le_bytes (n ∷ []))
 count_sound k n l h = record { size = refl; fits = rw (count-word n l) (omega arith) }
@@ -249,7 +249,7 @@ fixed_pushed k n m x l h e f g =
     let w : multiples k n 1 ≡ word_row x ∷ [] = multiples-more k n 0 ∙ (rw (multiples-none k (suc n), r, word_number x g) refl) in
     rw w at t
 
--- the cause of an error, of a column that holds the count n
+-- the cause of an error, at a column with the count n
 pub fixed_true : (k : ℕ) (bs : List ℕ) (n : ℕ) (rs : List Row) (error : GrowError) → word bs 0 ≡ n → IsFixedCause k error n rs → IsTrueOf error (fixed_format k) (slice bs) rs
 fixed_true k bs n rs Memory e h = h
 fixed_true k bs n rs Length e h = rw (length-multiples k 0 (word bs 0), e) h
@@ -262,7 +262,7 @@ fixed_refused k n x rs error l h s cause = record {
   cause = rw (word_number x h) (fixed_true k (le_bytes (n ∷ [])) n (number x ∷ rs) error (count-word n l) cause);
 }
 
--- the range that a bulk copy takes, of which x is the first
+-- the range of a bulk copy, whose first offset is x
 piece_first : (k start m top x : ℕ) → start + suc m ≤ top → x < 2 ^ 64 → slice_get (multiples k 0 top) start ≡ Some (word_row x) → (k * suc start ≡ x) × (take (suc m) (drop start (multiples k 0 top)) ≡ word_row x ∷ multiples k (suc start) m)
 piece_first k start m top x l h g =
     let a : 0 + start ≡ start = omega arith in
@@ -277,7 +277,7 @@ fixed_copy_refused k n start zero top x error l h m pos s g cause = absurd (omeg
 fixed_copy_refused k n start (suc added) top x error l h m pos s g cause =
     rw (piece_first k start added top x m h g).1 (fixed_refused k n x (multiples k (suc start) added) error l h s (cause (multiples k (suc start) added) (omega (arith, length-multiples k (suc start) added))))
 
--- a range of which the first is the next multiple, and where it isn't
+-- a range whose first offset is the next multiple, or is not
 pub first_next : (k n start added top x : ℕ) → x < 2 ^ 64 → start + added ≤ top → 0 < added → slice_get (multiples k 0 top) start ≡ Some (word_row x) → x ≡ k * (n + 1) → strays k n (take added (drop start (multiples k 0 top))) ≡ false
 first_next k n start zero top x h t pos g e = absurd (omega arith)
 first_next k n start (suc added) top x h t pos g e =
@@ -291,7 +291,7 @@ first_stray k n start (suc added) top x h t pos g e =
     let p = (piece_first k start added top x t h g).1 ∙ ap (λ r. r ∷ multiples k (suc start) added) (word_number x h) in
     rw p (fixed_stray k n x (multiples k (suc start) added) e)
 
--- what it holds does not pass
+-- the count of a sound column passes no limit
 pub fixed_within : (k n added : ℕ) → n < 2 ^ 64 → added ≡ 0 → IsSound (fixed_format k) (counted n) → passes k (n + added) ≡ false
 fixed_within k n added l e s =
     let m : n + added ≡ n = omega arith in

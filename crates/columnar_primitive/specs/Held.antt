@@ -1,8 +1,8 @@
--- What a count of its own holds.
+-- The content of an owned count.
 use Rattle.std.specs.Prelude.{ℕ, [], ◌∷◌}
 use Rattle.columnar_core.specs.Format.{Content, slice}
 use Rattle.columnar_core.specs.Bytes.{le_bytes}
 
--- a word alone, as a column of a count holds it
+-- the content of a count: one word
 abbrev pub counted : ℕ → Content
 counted n = slice (le_bytes (n ∷ []))

@@ -6,12 +6,12 @@ use Rattle.columnar_core.specs.Bytes.{word, word_bytes, le_bytes, AreBytes}
 use Rattle.columnar_core.specs.WordLaws.{word-front}
 use Rattle.columnar_core.specs.ByteLaws.{bytes-word}
 
--- the number of a word alone
+-- the number of a single word
 pub count-word : (n : ℕ) → n < 2 ^ 64 → word (le_bytes (n ∷ [])) 0 ≡ n
 unfolding word_bytes
 count-word n l = word-front n [] l
 
--- a number of 64 bits, as a row
+-- the row of a 64-bit number
 pub word_number : (n : ℕ) → n < 2 ^ 64 → word_row n ≡ number n
 word_number n l = let e : n % 2 ^ 64 ≡ n = omega arith in ap number e
 

@@ -21,7 +21,7 @@ bytes_same (x ∷ xs) h =
     let t : map number_of (map (unsigned_row w8) xs) ≡ xs = bytes_same xs (λ i. h (suc i)) in
     rw (e, t) refl
 
--- an array of sixteen bytes holds them
+-- an array of sixteen bytes has these bytes
 pub bytes_held_by : (xs : List ℕ) → length xs ≡ 16 → ((i : ℕ) → get_or xs i 0 < 256) → large_bytes (array_row 16 1 (to_le_bytes w8) (unsigned_row_of w8) xs) ≡ xs
 bytes_held_by xs l h = ap large_bytes (array_row_is 16 (unsigned_element w8) xs l) ∙ (ap (map number_of) (items_of-list (map (unsigned_row w8) xs)) ∙ bytes_same xs h)
 
@@ -29,13 +29,13 @@ bytes_held_by xs l h = ap large_bytes (array_row_is 16 (unsigned_element w8) xs 
 abbrev pub large_row : List ℕ → Row
 large_row xs = array_row 16 1 (to_le_bytes w8) (unsigned_row_of w8) xs
 
--- an array of the bytes of a number holds them
+-- an array of the bytes of a number has these bytes
 number_held : (n : ℕ) (xs : List ℕ) → xs ≡ to_le_bytes w128 n → from_le_bytes w128 (large_bytes (large_row xs)) ≡ wrapped w128 n
 number_held n xs e =
     ap (λ bs. from_le_bytes w128 (large_bytes (large_row bs))) e
     ∙ (ap (from_le_bytes w128) (bytes_held_by (to_le_bytes w128 n) refl (bytes_of_number w128 n)) ∙ number_back w128 n)
 
--- the bytes of a number are kept for it
+-- the bytes of a number represent it
 
 pub u128_code : (n : ℕ) (xs : List ℕ) → xs ≡ to_le_bytes w128 n → as_u128 (large_row xs) ≡ unsigned_row w128 n
 u128_code n xs e = ap number (number_held n xs e)

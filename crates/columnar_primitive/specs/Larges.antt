@@ -1,13 +1,13 @@
--- Numbers of 128 bits, kept as arrays of their bytes.
+-- Numbers of 128 bits, stored as arrays of their bytes.
 use Rattle.std.specs.Prelude.{ℕ, List, map}
 use Rattle.std.specs.Int.{from_le_bytes, cast_signed, w128}
 use Rattle.columnar_base.specs.Row.{Row, number, integer, number_of, items_of}
 
--- the bytes that an array holds
+-- the bytes of an array
 abbrev pub large_bytes : Row → List ℕ
 large_bytes r = map number_of (items_of r)
 
--- the number that they are
+-- the number of these bytes
 abbrev pub as_u128 : Row → Row
 as_u128 r = number (from_le_bytes w128 (large_bytes r))
 

@@ -9,6 +9,8 @@ pub mod Durations
 pub mod DurationLaws
 pub mod Larges
 pub mod LargeLaws
+pub mod Reals
+pub mod RealLaws
 pub mod Held
 pub mod Multiples
 pub mod MultipleLaws

@@ -1,22 +1,22 @@
--- Columns whose rows are read off the rows of another column, which holds their values.
+-- Columns whose rows are computed from the rows of another column, which stores their values.
 use Rattle.std.specs.Prelude.{ℕ, Bool, true, List, [], ◌∷◌, ◌++◌, length, ◌≡◌, ◌≤◌, ◌+◌, ◌&&◌, map}
 use Rattle.columnar_base.specs.Row.{Row, row_eq}
 use Rattle.columnar_base.specs.Format.{Format, Content, IsSound, IsExact, Excess, bytes_held, fault, unless}
 use Rattle.columnar_base.specs.Elements.{past_count}
 
--- does each row pass
+-- whether each row passes
 abbrev pub all_pass : (Row → Bool) → List Row → Bool
 all_pass test [] = true
 all_pass test (r ∷ rs) = test r && all_pass test rs
 
--- What holds of columns that keep each row in bytes of its own: rows are kept as they are pushed, nothing but their
--- number limits them, and each takes a byte at least.
+-- The laws of columns that store each row in bytes of its own: rows are stored as they are pushed, only their number
+-- limits them, and each takes at least one byte.
 pub record IsFlat (f : Format) : Type 0 where
   pub exact : IsExact f.alike
   pub limits : (e : Excess) (c : Content) → IsSound f c → (n : ℕ) (rs : List Row) → f.refuses e c n rs ≡ past_count e (n + length rs)
   pub short : (c : Content) → IsSound f c → length (f.rows c) ≤ bytes_held c
 
--- The rows of f, each read by `to`. Those of f are values: each has to pass the test.
+-- The rows of f, mapped by `to`. The rows of f are values, and each must pass the test.
 abbrev pub mapped_format : Format → (Row → Row) → (Row → Bool) → Format
 mapped_format f to test = record {
   count = f.count;

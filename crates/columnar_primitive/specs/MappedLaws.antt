@@ -40,19 +40,19 @@ and_false : (b : Bool) → (b && false) ≡ false
 and_false true = refl
 and_false false = refl
 
--- one that fails
+-- a row that fails
 pub fail_get : (test : Row → Bool) (i : ℕ) (rs : List Row) (r : Row) → slice_get rs i ≡ Some r → test r ≡ false → all_pass test rs ≡ false
 fail_get test i [] r h f = cc
 fail_get test zero (s ∷ rs) r h f = let e : s ≡ r = cc in rw (e, f) refl
 fail_get test (suc i) (s ∷ rs) r h f = rw (fail_get test i rs r h f) (and_false (test s))
 
--- one more that passes
+-- one more row that passes
 pub pass_more : (test : Row → Bool) (i : ℕ) (rs : List Row) (r : Row) → slice_get rs i ≡ Some r → test r ≡ true → all_pass test (take i rs) ≡ true → all_pass test (take (i + 1) rs) ≡ true
 pass_more test i rs r h t p =
     let e : suc i ≡ i + 1 = omega arith in
     rw (← e, take-suc_get i rs r h) (pass-append test (take i rs) (r ∷ []) p (and_from _ _ t refl))
 
--- where each row passes, all do
+-- if every row passes, all do
 pub pass_always : (test : Row → Bool) → ((r : Row) → test r ≡ true) → (rs : List Row) → all_pass test rs ≡ true
 pass_always test h [] = refl
 pass_always test h (r ∷ rs) = and_from _ _ (h r) (pass_always test h rs)
@@ -74,7 +74,7 @@ mapped_piece to start n rs = rw (map_drop to start rs) (take-map to n (drop star
 pub mapped_get : (to : Row → Row) (i : ℕ) (rs : List Row) (r : Row) → slice_get rs i ≡ Some r → slice_get (map to rs) i ≡ Some (to r)
 mapped_get to i rs r h = rw (slice_get-map, h) refl
 
--- what the soundness of a mapped column is made of
+-- the soundness of a mapped column
 pub record SoundValues (f : Format) (test : Row → Bool) (c : Content) : Type 0 where
   pub values : IsSound f c
   pub pass : all_pass test (f.rows c) ≡ true
@@ -171,7 +171,7 @@ mapped_fits f to test o ss h = record { room = h.room; sound = (mapped_parts f t
 moved-append : (o : ℕ) (xs ys : List Fault) → moved o (xs ++ ys) ≡ moved o xs ++ moved o ys
 moved-append o xs ys = map-append (moved_one o) xs ys
 
--- a broken rule of the values is one of the whole
+-- a broken rule of the values is a broken rule of the whole
 pub mapped_broken : (f : Format) (to : Row → Row) (test : Row → Bool) (c : Content) (o : ℕ) (z : Fault) → Some z ≡ first (moved o (f.broken c)) → Some z ≡ first (moved o ((mapped_format f to test).broken c))
 mapped_broken f to test c o z h = rw (moved-append o (f.broken c) (unless (all_pass test (f.rows c)) (fault 14 0))) (sym (first_found (moved o (f.broken c)) (moved o (unless (all_pass test (f.rows c)) (fault 14 0))) z (sym h)))
 
@@ -207,7 +207,7 @@ elements_flat size align row_of l = record {
   short = elements_short size row_of l;
 }
 
--- a test of the values that takes no turn, and then a turn for each row
+-- validation of the values takes no steps, then one for each row
 pub turns_fit : (old mid new turns bytes rows : ℕ) → turns ≡ 0 → mid ≤ old + turns * bytes → new ≤ mid + rows → rows ≤ bytes → new ≤ old + 1 * bytes
 turns_fit old mid new turns bytes rows e p q r =
     let k : mid ≤ old + 0 * bytes = rw e at p in

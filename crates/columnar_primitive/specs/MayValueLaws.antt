@@ -1,4 +1,4 @@
--- What columns of values by their codes, of units and of offsets refuse, their limits deny.
+-- Limits deny what columns of coded values, of units and of offsets refuse.
 use Rattle.std.proofs.Common.{◌≡◌, ℕ, ◌+◌, Bool, true, ◌++◌, List, refl, sym, ◌∙◌, ap, arith}
 use Rattle.columnar_core.specs.Row.{Row}
 use Rattle.columnar_core.specs.Format.{Format, Content, slice, both, part, plain, Excess, refuses_more}
@@ -42,7 +42,7 @@ fixed_denied k e (plain us) rs h = h
 pub fixed_limited : (k : ℕ) → IsLimited (fixed_format k) (multiples_limit k)
 fixed_limited k = record { denied = λ e c rs s h. fixed_denied k e c rs h }
 
--- what lists over these stand on: their rows are numbers
+-- what lists over these require: their rows are numbers
 
 pub strides_numbered : AreNumbers strides_format
 strides_numbered = strides_bounds.are_numbers

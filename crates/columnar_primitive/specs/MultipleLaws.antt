@@ -1,4 +1,4 @@
--- Multiples in a row: how many they are, their pieces, and that they rise.
+-- Consecutive multiples: their number, their ranges, and that they increase.
 use Rattle.std.proofs.Common.{◌≡◌, ℕ, zero, suc, ◌+◌, ◌-◌, ◌*◌, ◌<◌, ◌≤◌, true, List, [], ◌∷◌, ◌++◌, length, take, drop, map, refl, ◌∙◌, ap, arith, append-nil}
 use Rattle.std.specs.Prelude.{slice_get, Some, nat_eq, nat_le}
 use Rattle.std.proofs.lemmas.Bool.{le-leb}
@@ -19,7 +19,7 @@ unfolding multiples
 length-multiples k from zero = refl
 length-multiples k from (suc n) = ap suc (length-multiples k (suc from) n)
 
--- they are numbers
+-- multiples are numbers
 pub multiples_numbers : (k from n : ℕ) → multiples k from n ≡ map number (numbers (multiples k from n))
 unfolding multiples
 multiples_numbers k from zero = refl
@@ -58,7 +58,7 @@ multiples_get k from i zero l = absurd (omega arith)
 multiples_get k from zero (suc n) l = let a : from + zero ≡ from = omega arith in rw a refl
 multiples_get k from (suc i) (suc n) l = let b : from + suc i ≡ suc from + i = omega arith in rw b (multiples_get k (suc from) i n (omega arith))
 
--- where one multiple is in its place, all after it are
+-- if one multiple is at its place, so are all after it
 pub multiples-shift : (k m n r : ℕ) → k * suc m ≡ k * suc n → multiples k m r ≡ multiples k n r
 unfolding multiples
 multiples-shift k m n zero e = refl
@@ -67,7 +67,7 @@ multiples-shift k m n (suc r) e =
     let t = multiples-shift k (suc m) (suc n) r a in
     rw (e, t) refl
 
--- multiples never fall
+-- multiples never decrease
 pub multiples-rise : (k from n : ℕ) (rest : List Row) (end : ℕ) → rises (k * from) (numbers (multiples k from n ++ rest)) end ≡ rises (k * (from + n)) (numbers rest) end
 unfolding multiples
 multiples-rise k from zero rest end = let a : from + zero ≡ from = omega arith in rw a refl
@@ -76,7 +76,7 @@ multiples-rise k from (suc n) rest end =
     let b : nat_le (k * from) (k * suc from) ≡ true = le-leb (k * from) (k * suc from) (omega arith) in
     rw (a, b) (multiples-rise k (suc from) n rest end)
 
--- they end at the last of them
+-- multiples end at the last of them
 pub multiples_end : (k n end : ℕ) → rises 0 (numbers (multiples k 0 n)) end ≡ nat_eq (k * n) end
 multiples_end k n end =
     let z : k * 0 ≡ 0 = omega arith in

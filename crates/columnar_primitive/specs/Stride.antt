@@ -1,4 +1,4 @@
--- Columns of offsets that follow a stride as far as they go, and then stand as they are.
+-- Columns of offsets: multiples of a stride as long as they can, then explicit offsets.
 use Rattle.std.specs.Prelude.{ℕ, Bool, true, List, [], ◌∷◌, ◌++◌, length, take, drop, ◌+◌, ◌-◌, ◌*◌, ◌^◌, ◌&&◌, ◌||◌, cond, nat_eq, nat_le, Option, Some, None, slice_index}
 use Rattle.columnar_core.specs.Row.{Row, row_eq}
 use Rattle.columnar_core.specs.Format.{Format, Content, slice, both, part, plain, Fault, fault, moved, unless, misfit}
@@ -8,7 +8,7 @@ use Rattle.columnar_core.specs.WordViews.{bytes_of}
 use Rattle.columnar_core.specs.Bounds.{numbers}
 use Rattle.columnar_primitive.specs.Multiples.{multiples}
 
--- a head is two words, the stride and how many offsets follow it
+-- a head is two words: the stride, and the number of offsets that follow it
 abbrev pub head_broken : Content → List Fault
 head_broken (slice bs) = unless (nat_eq (length bs) 16) (fault 9 0)
 head_broken (both x y) = misfit
@@ -21,11 +21,11 @@ stride_of x = word (bytes_of x) 0
 abbrev pub length_of : Content → ℕ
 length_of x = word (bytes_of x) 1
 
--- the offsets that stand as they are
+-- the explicit offsets
 abbrev pub bounds_rows : Content → List Row
 bounds_rows y = elements_rows 8 word_row_of y
 
--- the last offset that follows the stride fits a word, and so does the number of all offsets
+-- the last multiple fits a word, and so does the number of all offsets
 abbrev pub stride_fits : Content → Bool
 stride_fits x = nat_le (stride_of x * length_of x) (2 ^ 64 - 1)
 
@@ -44,14 +44,14 @@ strides_rows (slice bs) = []
 strides_rows (part l u x) = []
 strides_rows (plain rs) = []
 
--- the head, and the offsets that stand as they are among the first n
+-- the head, and the explicit offsets among the first n
 abbrev pub strides_extent : Content → ℕ → List ℕ
 strides_extent (both x y) n = 16 ∷ 8 * (n - length_of x) ∷ []
 strides_extent (slice bs) n = []
 strides_extent (part l u x) n = []
 strides_extent (plain rs) n = []
 
--- a head, and then the offsets that stand as they are
+-- a head, then the explicit offsets
 abbrev pub strides_format : Format
 strides_format = record {
   count = 2;
@@ -67,18 +67,18 @@ strides_format = record {
   refuses = λ e c n rs. past_count e (n + length rs);
 }
 
--- the head's stride, where no offset stands as it is
+-- the head's stride, if there are no explicit offsets
 abbrev pub strided : Content → Option ℕ
 strided (both x y) = cond (nat_eq (length (bounds_rows y)) 0) (Some (stride_of x)) None
 strided (slice bs) = None
 strided (part l u x) = None
 strided (plain rs) = None
 
--- what a column of its own holds, by its words
+-- the content of an owned column, by its words
 abbrev pub head_and_bounds : List ℕ → List ℕ → Content
 head_and_bounds head bounds = both (slice (le_bytes head)) (slice (le_bytes bounds))
 
--- does an offset join the multiples: it is the first, or the next of them, and none stands after them
+-- an offset joins the multiples if it is the first or the next one, and there are no explicit offsets
 abbrev pub follows : ℕ → ℕ → ℕ → Bool
 follows s n x = nat_eq n 0 || nat_eq x (s * (n + 1))
 
@@ -89,7 +89,7 @@ joins head bounds x = nat_eq (length bounds) 0 && follows (slice_index head 0) (
 abbrev pub grown : ℕ → ℕ → ℕ → List ℕ
 grown s n x = cond (nat_eq n 0) (x ∷ 1 ∷ []) (s ∷ (n + 1) ∷ [])
 
--- the head, and then the bounds, after the push of an offset
+-- the head and the bounds after the push of an offset
 abbrev pub head_pushed : List ℕ → List ℕ → ℕ → List ℕ
 head_pushed head bounds x = cond (joins head bounds x) (grown (slice_index head 0) (slice_index head 1) x) head
 
@@ -100,7 +100,7 @@ bounds_pushed head bounds x = cond (joins head bounds x) bounds (bounds ++ x ∷
 abbrev pub offsets_in : Content → ℕ → ℕ → List ℕ
 offsets_in c from to = numbers (take (to - from) (drop from (strides_rows c)))
 
--- the head, and then the bounds, after the pushes of offsets in turn
+-- the head and the bounds after pushes of offsets in order
 abbrev pub head_extended : List ℕ → List ℕ → List ℕ → List ℕ
 head_extended head bounds [] = head
 head_extended head bounds (x ∷ xs) = head_extended (head_pushed head bounds x) (bounds_pushed head bounds x) xs
@@ -109,12 +109,12 @@ abbrev pub bounds_extended : List ℕ → List ℕ → List ℕ → List ℕ
 bounds_extended head bounds [] = bounds
 bounds_extended head bounds (x ∷ xs) = bounds_extended (head_pushed head bounds x) (bounds_pushed head bounds x) xs
 
--- do all of these offsets, pushed in turn, join the multiples
+-- whether all of these offsets, pushed in order, join the multiples
 abbrev pub all_join : List ℕ → List ℕ → List ℕ → Bool
 all_join head bounds [] = true
 all_join head bounds (x ∷ xs) = joins head bounds x && all_join (head_pushed head bounds x) (bounds_pushed head bounds x) xs
 
--- the head, and then the bounds, of the first n offsets
+-- the head and the bounds of the first n offsets
 abbrev pub head_cut : List ℕ → ℕ → List ℕ
 head_cut head n = cond (nat_le n (slice_index head 1)) (slice_index head 0 ∷ n ∷ []) head
 

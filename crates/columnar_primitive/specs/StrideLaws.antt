@@ -27,7 +27,7 @@ use Rattle.columnar_primitive.specs.Multiples.{multiples}
 use Rattle.columnar_primitive.specs.MultipleLaws.{multiples_numbers, multiples-none, multiples-more, length-multiples, multiples-append, multiples-take, multiples_get, multiples-rise}
 use Rattle.columnar_primitive.specs.Stride.{head_broken, stride_of, length_of, bounds_rows, stride_fits, length_fits, strides_broken, strides_rows, strides_extent, strides_format, head_and_bounds, follows, joins, grown, bounds_pushed}
 
--- what the soundness of a head and bounds is made of
+-- the soundness of a head and bounds
 pub record SoundStrides (hs bs : List ℕ) : Type 0 where
   pub size : length hs ≡ 16
   pub whole : length bs % 8 ≡ 0
@@ -63,7 +63,7 @@ strides_sound {hs} {bs} s = record {
 pub length-strides : (hs bs : List ℕ) → length (strides_rows (both (slice hs) (slice bs))) ≡ word hs 1 + length bs / 8
 length-strides hs bs = length-append (multiples (word hs 0) 0 (word hs 1)) (bounds_rows (slice bs)) ∙ (rw (length-multiples (word hs 0) 0 (word hs 1), length-bounds bs) refl)
 
--- what its test answers
+-- the result of its test
 
 pub strides_fine : (hs bs : List ℕ) (o : ℕ) → SoundStrides hs bs → None ≡ first (moved o (strides_broken (both (slice hs) (slice bs))))
 strides_fine hs bs o h = let s : IsSound strides_format (both (slice hs) (slice bs)) = strides_sound h in rw s.accepted refl
@@ -100,7 +100,7 @@ strides_too_many hs bs o l m h k =
 
 -- the laws
 
--- a sound content is a head and bounds
+-- a sound content has a head and bounds
 pub record HasBoth (c : Content) : Type 0 where
   pub head : List ℕ
   pub bounds : List ℕ
@@ -165,7 +165,7 @@ strides_numbers (plain rs) s = refl
 pub strides_bounds : IsBounds strides_format
 strides_bounds = record { exact = row_eq_exact; swift = omega arith; are_numbers = strides_numbers }
 
--- heads, and offsets that stand as they are
+-- heads, and explicit offsets
 
 -- the bytes of a head with this stride and length
 pub record IsHead (hs : List ℕ) (s n : ℕ) : Type 0 where
@@ -203,7 +203,7 @@ owned_sound s n xs h p q = record {
   few = rw (h.length, length-words xs) q;
 }
 
--- what a sound column of its own keeps to
+-- the limits of a sound owned column
 pub record Limits (s n m : ℕ) : Type 0 where
   pub fits : s * n ≤ 2 ^ 64 - 1
   pub few : n + m ≤ 2 ^ 64 - 1
@@ -243,7 +243,7 @@ strides_took {hs} {hs'} s n xs s' n' ys added a b fits few rows ext =
 pub strides_copied : {x y : Content} {added : List Row} (start : ℕ) → Took strides_format x y added → Copied strides_format x y start added
 strides_copied {x} {y} {added} start t = record { took = t; front = λ none z. (grew_exactly row_eq_exact t).rows ∙ ap (λ rs. rs ++ added) none }
 
--- the offset x stands as it is, after the others
+-- x becomes an explicit offset, after the others
 pub took_bound : {hs : List ℕ} (s n : ℕ) (xs : List ℕ) (x : ℕ) → IsHead hs s n → Limits s n (length xs) → n + length xs < 2 ^ 64 - 1 → Took strides_format (both (slice hs) (slice (le_bytes xs))) (both (slice hs) (slice (le_bytes (xs ++ x ∷ [])))) (word_row x ∷ [])
 took_bound s n xs x h p l =
     strides_took s n xs s n (xs ++ x ∷ []) (word_row x ∷ []) h h p.fits (rw length-append (omega arith))
@@ -261,7 +261,7 @@ took_next s n x h k e f l =
     (append-nil (multiples s 0 (n + 1)) ∙ a ∙ (rw (z, b, append-nil) refl))
     (λ i m. omega arith)
 
--- x is the first offset, and the stride
+-- x is the first offset, and becomes the stride
 pub took_first : {hs hs' : List ℕ} (s x : ℕ) → IsHead hs s 0 → IsHead hs' x 1 → x < 2 ^ 64 → Took strides_format (both (slice hs) (slice (le_bytes []))) (both (slice hs') (slice (le_bytes []))) (word_row x ∷ [])
 took_first s x h k f =
     let r : x * suc 0 ≡ x = omega arith in
@@ -290,7 +290,7 @@ took_grown {hs} s n xs x h e f p q l = ⊎_elim
     rw t (took_same s n s (n + 1) xs e (took_next s n x h (head_words s (n + 1) p (omega arith)) g q (omega arith))))
     (cases_eq n 0)
 
--- one row more is too many
+-- one more row is too many
 pub strides_full_up : {hs : List ℕ} (s n : ℕ) (xs : List ℕ) (r : Row) → IsHead hs s n → IsSound strides_format (both (slice hs) (slice (le_bytes xs))) → 2 ^ 64 - 1 ≤ n + length xs → Refused strides_format (both (slice hs) (slice (le_bytes xs))) (both (slice hs) (slice (le_bytes xs))) (r ∷ []) Length
 strides_full_up s n xs r h sound l = record {
   stayed = unchanged sound;
@@ -341,7 +341,7 @@ get-after [] ys i k r e h = let f : i ≡ k = omega arith in rw f h
 get-after (x ∷ xs) ys zero k r e h = absurd (omega arith)
 get-after (x ∷ xs) ys (suc i) k r e h = get-after xs ys i k r (omega arith) h
 
--- the offset that stands at place k among those that stand as they are
+-- the explicit offset at index k
 pub bound_is : (bs : List ℕ) (k : ℕ) → k < length bs / 8 → slice_get (bounds_rows (slice bs)) k ≡ Some (number (word bs k))
 unfolding word
 bound_is bs k l = element_row_at 8 word_row_of bs k (rw (length-bounds bs) l) ∙ ap (λ n. Some (number n)) (front_number (drop (8 * k) bs))
@@ -358,7 +358,7 @@ bound_row hs bs i k e l = get-after (multiples (word hs 0) 0 (word hs 1)) (bound
 pub whole_words : (bs : List ℕ) (k : ℕ) → length bs % 8 ≡ 0 → k < length bs / 8 → 8 * k + 8 ≤ length bs
 whole_words bs k m l = omega (arith, div-add-mod (length bs) 8)
 
--- what a read of a multiple, and of an offset that stands as it is, answers
+-- the result of reading a multiple, or an explicit offset
 pub stride_at : (hs bs : List ℕ) (i s n : ℕ) → IsSound strides_format (both (slice hs) (slice bs)) → s ≡ word hs 0 → n ≡ word hs 1 → i < n → (s * i + s < 2 ^ 64) × (slice_get (strides_rows (both (slice hs) (slice bs))) i ≡ Some (word_row (s * i + s)))
 stride_at hs bs i s n sound p q l =
     let r = stride_row hs bs i (strides_parts sound) (rw q at l) in
@@ -396,7 +396,7 @@ bounds_fall bs i last end all p l h =
     let k = lt-leb last (word bs i) h in
     sym (p ∙ (rw k at q))
 
--- it is not
+-- the offset that was read is not below the last one
 pub bounds_on : (bs : List ℕ) (i last end : ℕ) (all : Bool) → all ≡ rises last (drop i (numbers (bounds_rows (slice bs)))) end → i < length bs / 8 → last ≤ word bs i → all ≡ rises (word bs i) (drop (i + 1) (numbers (bounds_rows (slice bs)))) end
 bounds_on bs i last end all p l h =
     let q = rises_step (numbers (bounds_rows (slice bs))) i last (word bs i) end (bound_number bs i l) in
@@ -409,7 +409,7 @@ drop_all zero (m ∷ ns) e = absurd (omega arith)
 drop_all (suc n) [] e = refl
 drop_all (suc n) (m ∷ ns) e = drop_all n ns (omega arith)
 
--- none is left
+-- no offset remains
 pub bounds_done : (bs : List ℕ) (last end : ℕ) (all : Bool) → all ≡ rises last (drop (length bs / 8) (numbers (bounds_rows (slice bs)))) end → nat_eq last end ≡ all
 bounds_done bs last end all p =
     let e : length (numbers (bounds_rows (slice bs))) ≡ length bs / 8 = length-map (bounds_rows (slice bs)) number_of ∙ length-bounds bs in
@@ -421,7 +421,7 @@ bounds_done bs last end all p =
 pub strides_no_rows : strides_rows (head_and_bounds (0 ∷ 0 ∷ []) []) ≡ []
 strides_no_rows = owned_rows 0 0 [] (head_words 0 0 (omega arith) (omega arith)) ∙ (rw (multiples-none 0 0) refl)
 
--- the bounds that a column began with stay in front
+-- the initial bounds of a column stay in front
 pub front_kept : (n : ℕ) (old bs head : List ℕ) (x : ℕ) → n ≡ length old → take n bs ≡ old → take n (bounds_pushed head bs x) ≡ old
 front_kept n old bs head x e h =
     let l : n ≤ length bs = omega (arith, length-take n bs, ap length h) in
@@ -429,13 +429,13 @@ front_kept n old bs head x e h =
     (λ t. h)
     (λ t. take-append-le n bs (x ∷ []) l ∙ h)
 
--- nothing was copied yet
+-- nothing has been copied yet
 pub copy_begun : (head bounds : List ℕ) (rs : List Row) (start n : ℕ) → IsSound strides_format (head_and_bounds head bounds) → n ≡ length bounds → Took strides_format (head_and_bounds head bounds) (head_and_bounds head bounds) (take (start - start) (drop start rs)) × (take n bounds ≡ bounds)
 copy_begun head bounds rs start n s e =
     let z : start - start ≡ 0 = omega arith in
     (rw z (took_none s), take_all n bounds (omega arith))
 
--- a copy that was refused, and undone
+-- a copy that was refused and rolled back
 pub strides_undone : (rs : List Row) {error : GrowError} (head bounds : List ℕ) (head' bounds' : List ℕ) (y : Content) (from i to : ℕ) (r : Row) → IsSound strides_format (head_and_bounds head bounds) → head' ≡ head → bounds' ≡ bounds → from ≤ i → i < to → slice_get rs i ≡ Some r → Took strides_format (head_and_bounds head bounds) y (take (i - from) (drop from rs)) → IsTrueOf error strides_format y (r ∷ []) → Refused strides_format (head_and_bounds head bounds) (head_and_bounds head' bounds') (take (to - from) (drop from rs)) error
 strides_undone rs head bounds head' bounds' y from i to r s p q l m h t cause = rw (p, q) (refused_more rs from i to r strides_lawful l m h t cause (unchanged s))
 
@@ -452,7 +452,7 @@ head-back hs s n l h p q =
     let e : word_bytes n ≡ drop 8 hs = ap word_bytes q ∙ b ∙ c in
     ap (λ t. t ++ (word_bytes n ++ [])) d ∙ ap (λ t. take 8 hs ++ t) (append-nil (word_bytes n) ∙ e) ∙ take-append-drop 8 hs
 
--- the slices that a store has there
+-- the slices of a store there
 pub strides_at : (ss : List (List ℕ)) (o : ℕ) (hs bs : List ℕ) → o + 2 ≤ length ss → hs ≡ slice_index_or ss o [] → bs ≡ slice_index_or ss (o + 1) [] → strides_format.build (drop o ss) ≡ both (slice hs) (slice bs)
 strides_at ss o hs bs l p q =
     let a = drop_at ss o hs (omega arith) p in
@@ -473,7 +473,7 @@ strides_loaded ss o hs s n y l h sound bytes p q e =
     let z : y ≡ slice bs = e ∙ first_at ss (o + 1) bs (omega arith) refl in
     ap (λ t. both (slice t) y) x ∙ ap (λ t. both (slice hs) t) z ∙ sym w
 
--- tests and reads, by the numbers that were read
+-- tests and reads, from the numbers that were read
 
 pub sound_at : (hs bs : List ℕ) (s n m : ℕ) → length hs ≡ 16 → length bs % 8 ≡ 0 → s ≡ word hs 0 → n ≡ word hs 1 → m ≡ length bs / 8 → s * n < 2 ^ 64 → n + m < 2 ^ 64 → SoundStrides hs bs
 sound_at hs bs s n m a b p q r f g = record { size = a; whole = b; fits = rw (p, q) at (let h : s * n ≤ 2 ^ 64 - 1 = omega arith in h); few = omega arith }

@@ -31,7 +31,7 @@ tried_ok k hs bs cs e s l w =
       ),
     )
 
--- a whole number of words that is none
+-- a whole number of words that is zero
 no_words : (m : ℕ) → m % 8 ≡ 0 → m / 8 ≡ 0 → m ≡ 0
 no_words m a b = omega (arith, div-add-mod m 8)
 
@@ -62,7 +62,7 @@ second_row [] = refl
 second_row (r ∷ []) = refl
 second_row (r ∷ s ∷ rs) = refl
 
--- the part of a head that is its second word
+-- the part of a head with its second word
 pub second-word : (hs cs : List ℕ) → length hs ≡ 16 → IsSound words_format (slice cs) → bounds_rows (slice cs) ≡ take 1 (drop 1 (bounds_rows (slice hs))) → (length cs ≡ 8) × (word cs 0 ≡ word hs 1)
 second-word hs cs l s e =
     let rows = bounds_rows (slice hs) in

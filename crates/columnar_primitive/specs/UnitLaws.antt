@@ -42,7 +42,7 @@ unit_get i zero l = absurd (omega arith)
 unit_get zero (suc n) l = refl
 unit_get (suc i) (suc n) l = unit_get i n (omega arith)
 
--- what soundness says
+-- the consequence of soundness
 pub sound_word : {c : Content} → IsSound units_format c → is_word c ≡ true
 sound_word {c} s = unless_true (is_word c) (fault 9 0) s.accepted
 
@@ -89,7 +89,7 @@ units_storable = record {
 units_keeps : (c d : Content) (n : ℕ) → Keeps units_format c d n
 units_keeps c d n = record { extents = λ k l. refl; limits = λ k l e rs. refl }
 
--- n units came after those of c
+-- n units follow those of c
 units_grew : (c d : Content) (n : ℕ) → is_word d ≡ true → number_in d ≡ number_in c + n → Grew units_format c d (units n)
 units_grew c d n w e = record {
   sound = word_sound d w;
@@ -114,7 +114,7 @@ units_copied c d n start w e = record {
   front = λ h z. ap units e ∙ (units-append (number_in c) n ∙ ap (λ t. t ++ units n) h);
 }
 
--- n units more are too many
+-- n more units are too many
 units_past : (c : Content) (n : ℕ) → IsSound units_format c → 2 ^ 64 - 1 < number_in c + n → Refused units_format c c (units n) Length
 units_past c n s l = record {
   stayed = unchanged s;
@@ -133,19 +133,19 @@ units_cut c d n s w e l = record {
 pub unit_at : (c : Content) (i : ℕ) → i < length (units (number_in c)) → slice_get (units (number_in c)) i ≡ Some unit
 unit_at c i l = unit_get i (number_in c) (omega (arith, length-units (number_in c)))
 
--- the same of a number of 64 bits
+-- the same for a 64-bit number
 
 pub word_none : units (number_in (word_of 0)) ≡ []
 word_none = refl
 
--- k units came after m
+-- k units follow m units
 pub number_took : (m n k : ℕ) → n < 2 ^ 64 → n ≡ m + k → Took units_format (word_of m) (word_of n) (units k)
 number_took m n k h e = units_took (word_of m) (word_of n) k refl (word_back n h ∙ (e ∙ ap (λ i. i + k) (sym (word_back m (omega arith)))))
 
 pub number_copied : (m n k start : ℕ) → n < 2 ^ 64 → n ≡ m + k → Copied units_format (word_of m) (word_of n) start (units k)
 number_copied m n k start h e = units_copied (word_of m) (word_of n) k start refl (word_back n h ∙ (e ∙ ap (λ i. i + k) (sym (word_back m (omega arith)))))
 
--- k units more than m were refused
+-- k more units than m were refused
 pub number_refused : (m n k : ℕ) (error : GrowError) → n < 2 ^ 64 → n ≡ m → error ≡ Length → 2 ^ 64 - 1 < m + k → Refused units_format (word_of m) (word_of n) (units k) error
 number_refused m n k error l e f h = rw (e, f) (units_past (word_of m) k (word_sound (word_of m) refl) (let b = word_back m (omega arith) in omega arith))
 

@@ -1,11 +1,11 @@
--- Columns of units, of which the number alone is kept.
+-- Columns of units, stored as their number.
 use Rattle.std.specs.Prelude.{ℕ, List, [], ◌∷◌, length, ◌+◌, replicate}
 use Rattle.columnar_base.specs.Row.{Row, unit, row_eq}
 use Rattle.columnar_base.specs.Format.{Format, fault, unless}
 use Rattle.columnar_base.specs.Elements.{first_slice, past_count}
 use Rattle.columnar_primitive.specs.Counts.{is_word, number_in}
 
--- so many units
+-- n units
 abbrev pub units : ℕ → List Row
 units n = replicate n unit
 

@@ -5,7 +5,7 @@ ghost use Rattle.columnar_primitive.specs.Characters.{as_character, is_character
 use crate::codes::{Coded, Codes};
 use crate::rule::Rule;
 
-/// A column of characters, kept as their 32-bit codes.
+/// A column of characters, stored as 32-bit codes.
 pub type Chars<CV = Vec<u32>> = Codes<CV, char>;
 
 impl Rule for char {

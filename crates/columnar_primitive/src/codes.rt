@@ -1,4 +1,4 @@
-//! Columns of values that are each kept as a number of a fixed width, their code.
+//! Columns of values that are stored as a number of a fixed width, their code.
 ghost use Rattle.std.specs.Prelude.{◌≡◌, ℕ, ◌+◌, ◌*◌, ◌≤◌, Bool, true, false, length, IsTrue, drop};
 ghost use Rattle.columnar_base.specs.Row.{Row};
 ghost use Rattle.columnar_base.specs.Format.{Fits, IsSound, representable};
@@ -22,36 +22,42 @@ use std::alloc::Global;
 use std::marker::PhantomData;
 use std::ops::Range;
 
-/// A value that is kept as a number of a fixed width, its code.
+/// A value that is stored as a number of a fixed width, its code.
 pub trait Coded: Copy + Item + Rule {
     // the row of a value, from the row of its code
     ghost row_of: { Row → Row };
 
-    /// The code of the value.
+    /// Returns the code of the value.
+    ///
+    /// # Requires
+    /// A valid value.
     fn code(self) -> Self::Code
         requires { Self.valid self }
         ensures row { row_of (Self.Code.meaning result) ≡ Self.meaning self }
         ensures fits { Self.is_code (Self.Code.meaning result) ≡ true }
         ensures valid { Self.Code.valid result };
 
-    /// The value of the code.
+    /// Returns the value of the code.
+    ///
+    /// # Requires
+    /// A code of the type.
     fn from_code(code: Self::Code) -> Self
         requires { Self.is_code (Self.Code.meaning code) ≡ true }
         ensures row { Self.meaning result ≡ row_of (Self.Code.meaning code) }
         ensures valid { Self.valid result };
 
-    /// Is each row that of a code? Where it is, a test of foreign bytes looks at none; false is always a right answer, and
-    /// costs a turn for each row.
+    /// Returns `true` only if every row is the row of a code; then validation skips the codes. `false` is always
+    /// correct, and costs a step for each row.
     fn always_fits() -> bool
         ensures { IsTrue result → (r : Row) → Self.is_code r ≡ true };
 }
 
-/// A column of `T`s, each kept as its code.
+/// A column of values of type `T`, each stored as its code.
 #[derive(Clone, Copy)]
 pub struct Codes<CV, T> {
     /// The codes.
     pub values: CV,
-    /// What they stand for.
+    /// The type of the values.
     pub of: PhantomData<T>,
 }
 
@@ -75,7 +81,7 @@ impl<CV: Index<Ref = T::Code>, T: Coded> Index for Codes<CV, T> {
     }
 }
 
-/// Rows are read through a reference as from the column itself.
+/// Reads rows through a reference, as from the column itself.
 impl<'a, CV: Index<Ref = T::Code>, T: Coded> Index for &'a Codes<CV, T> {
     type Ref = T;
 

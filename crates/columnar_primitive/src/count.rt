@@ -1,4 +1,4 @@
-//! A number of rows that stands alone in a slice.
+//! A number of rows, alone in a slice.
 ghost use Rattle.std.specs.Prelude.{◌≡◌, ℕ, length, IsTrue, refl};
 ghost use Rattle.std.specs.Int.{to_le_bytes, w64};
 ghost use Rattle.columnar_base.specs.Format.{Content, slice, slices_of};
@@ -8,17 +8,20 @@ ghost use Rattle.columnar_primitive.specs.Counts.{is_word, number_in};
 use columnar_core::traits::{Index, Len};
 use columnar_core::view::{Items, View};
 
-/// A number that stands alone in a slice: a `u64`, or a view of one entry.
+/// A number alone in a slice: a `u64`, or a view of one element.
 pub trait Count {
     // its slice
     ghost held: { Self → Content };
 
-    /// The number. Asks that its slice is just one word.
+    /// Returns the number.
+    ///
+    /// # Requires
+    /// A slice of exactly one word.
     fn count(&self) -> u64
         requires { IsTrue (is_word (held self.now)) }
         ensures { result ≡ number_in (held self.now) };
 
-    /// Is its slice just one word?
+    /// Returns whether the slice has exactly one word.
     fn is_one(&self) -> bool
         ensures { result ≡ is_word (held self.now) };
 

@@ -27,16 +27,16 @@ use std::alloc::Global;
 use std::ops::Range;
 use std::time::Duration;
 
-/// A column of durations: their whole seconds, and the nanoseconds besides.
+/// A column of durations: whole seconds and remaining nanoseconds.
 #[derive(Clone, Copy, PartialEq)]
 pub struct Durations<SC = Vec<u64>, NC = Vec<u32>> {
     /// The whole seconds.
     pub seconds: SC,
-    /// The nanoseconds besides, below a second.
+    /// The remaining nanoseconds, less than a second.
     pub nanoseconds: NC,
 }
 
-/// Nanoseconds are below a second.
+/// Nanoseconds are less than a second.
 struct PartSecond;
 
 impl Rule for PartSecond {
@@ -71,7 +71,7 @@ impl<SC: Index<Ref = u64>, NC: Index<Ref = u32>> Index for Durations<SC, NC> {
     }
 }
 
-/// Rows are read through a reference as from the column itself.
+/// Reads rows through a reference, as from the column itself.
 impl<'a, SC: Index<Ref = u64>, NC: Index<Ref = u32>> Index for &'a Durations<SC, NC> {
     type Ref = Duration;
 
@@ -80,7 +80,7 @@ impl<'a, SC: Index<Ref = u64>, NC: Index<Ref = u32>> Index for &'a Durations<SC,
     }
 }
 
-// The duration of so many seconds and nanoseconds, which are below a second.
+// Returns the duration of the seconds and nanoseconds; the latter are less than a second.
 fn duration_of(seconds: u64, nanoseconds: u32) -> Duration
     requires { nanoseconds % 2 ^ 32 < 1000000000 }
     ensures seconds { as_nanos result / 1000000000 ≡ seconds % 2 ^ 64 }
@@ -139,8 +139,13 @@ impl<SC: Reserve, NC: Reserve> Reserve for Durations<SC, NC> {
 }
 
 impl<SC: Flat + Truncate + Push<u64>, NC: Flat + Push<u32>> Durations<SC, NC> {
-    /// Adds the duration of so many seconds and nanoseconds, which are below a second. After a refusal the rows and
-    /// the lengths of all parts are as before; Length is answered only where the rows may not be held together.
+    /// Appends the duration of the seconds and nanoseconds.
+    ///
+    /// # Requires
+    /// A well-formed column, and less than 10^9 nanoseconds.
+    ///
+    /// # Errors
+    /// As `Push::push`. The rows and the lengths of all parts stay.
     pub fn push_parts(&mut self, seconds: u64, nanoseconds: u32) -> Result<(), GrowError>
         requires sound { IsSound (durations_format SC.format NC.format) (both (SC.content self.old.seconds) (NC.content self.old.nanoseconds)) }
         requires short { nanoseconds < 1000000000 }
@@ -323,7 +328,7 @@ impl<'s, SC: AsBytes<'s> + Flat, NC: AsBytes<'s> + Flat<Ref = u32>> AsBytes<'s>
     }
 }
 
-/// Where memory is refused for the nanoseconds, the seconds, already loaded, are dropped.
+/// If the nanoseconds cannot be loaded, the loaded seconds are dropped.
 impl<SC: ContainerBytes + Flat + Drop, NC: ContainerBytes + Flat<Ref = u32>> ContainerBytes
     for Durations<SC, NC> {
     fn byte_slice(&self, index: usize) -> ByteSlice<'_> {

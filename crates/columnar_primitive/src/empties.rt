@@ -1,4 +1,4 @@
-//! Columns of units, of which the number alone is kept.
+//! Columns of units, stored as their number.
 ghost use Rattle.std.specs.Prelude.{◌≡◌, ℕ, ◌+◌, ◌-◌, ◌^◌, ◌<◌, ◌≤◌, [], ◌∷◌, length, take, drop, OnOk, OnErr, IfOk, IfErr, Err, refl};
 ghost use Rattle.columnar_base.specs.Row.{unit};
 ghost use Rattle.columnar_base.specs.Format.{IsSound, slice, slices_of};
@@ -24,12 +24,12 @@ use std::alloc::Global;
 use std::ops::Range;
 use std::slice::from_ref;
 
-/// A column of units. Its number of rows is all that it keeps.
+/// A column of units. It stores only its number of rows.
 #[derive(Clone, Copy)]
 pub struct Empties<CC = u64> {
     /// The number of rows.
     pub count: CC,
-    /// The unit that each row is.
+    /// The unit that every row is.
     pub empty: (),
 }
 
@@ -53,7 +53,7 @@ impl<CC: Count> Index for Empties<CC> {
     }
 }
 
-/// Lends the unit that each row is.
+/// Lends the unit that every row is.
 impl<'a, CC: Count> Index for &'a Empties<CC> {
     type Ref = &'a ();
 
@@ -70,7 +70,7 @@ impl Clear for Empties<u64> {
 }
 
 impl Empties<u64> {
-    // Adds so many rows, or none of them where more than 2^64 - 1 would be held. Needs no memory.
+    // Adds `more` rows, or none if there would be more than 2^64 - 1; allocates nothing.
     fn add(&mut self, more: u64) -> Result<(), GrowError>
         ensures ok { OnOk result (self.new.count ≡ self.old.count + more) }
         ensures err { OnErr result (self.new.count ≡ self.old.count) }
@@ -88,7 +88,7 @@ impl Empties<u64> {
     }
 }
 
-/// Takes no memory, and succeeds where the rows may be held.
+/// Allocates nothing, and succeeds if the column can hold the rows.
 impl Push<()> for Empties<u64> {
     fn push(&mut self, item: ()) -> Result<(), GrowError>
         ensures ok { OnOk result (Took units_format (word_of self.old.count) (word_of self.new.count) (unit ∷ [])) }
@@ -99,7 +99,7 @@ impl Push<()> for Empties<u64> {
     }
 }
 
-/// Takes no memory, and succeeds where the rows may be held.
+/// Allocates nothing, and succeeds if the column can hold the rows.
 impl<'x> Push<&'x ()> for Empties<u64> {
     fn push(&mut self, item: &'x ()) -> Result<(), GrowError>
         ensures ok { OnOk result (Took units_format (word_of self.old.count) (word_of self.new.count) (unit ∷ [])) }
@@ -110,7 +110,7 @@ impl<'x> Push<&'x ()> for Empties<u64> {
     }
 }
 
-/// Takes no memory, and succeeds where the rows may be held.
+/// Allocates nothing, and succeeds if the column can hold the rows.
 impl PushRef<()> for Empties<u64> {
     fn push_ref(&mut self, item: &()) -> Result<(), GrowError>
         ensures ok { OnOk result (Took units_format (word_of self.old.count) (word_of self.new.count) (unit ∷ [])) }
@@ -155,7 +155,13 @@ impl Reserve for Empties<u64> {
 impl<V: Count + Copy> ExtendFrom<Empties<V>> for Empties<u64> {
     fn add_room(_room: (), _view: Empties<V>) {}
 
-    /// Takes no memory: it answers Length exactly where there would be more than 2^64 - 1 rows, and else succeeds.
+    /// Appends as many units as the range has rows; allocates nothing.
+    ///
+    /// # Requires
+    /// A well-formed column and view, and a range of the view's rows.
+    ///
+    /// # Errors
+    /// `Length` if and only if there would be more than 2^64 - 1 rows, and no other error.
     fn extend_from_self(&mut self, _view: Empties<V>, range: Range<usize>) -> Result<(), GrowError>
         requires sound { IsSound units_format (word_of self.old.count) }
         requires view_sound { IsSound units_format (V.held _view.count) }
@@ -271,7 +277,7 @@ impl ContainerBytes for Empties<u64> {
     }
 }
 
-// The number that eight bytes are.
+// Returns the number of eight bytes.
 fn number_of(bytes: &[u8]) -> u64
     requires { length bytes.now ≡ 8 }
     ensures value { result ≡ number_in (slice bytes.now) }

@@ -1,4 +1,4 @@
-//! Columns that keep each row in bytes of its own, in one slice.
+//! Columns that store each row in bytes of its own, in one slice.
 ghost use Rattle.std.specs.Prelude.{◌≡◌, ◌+◌, ◌<◌, length, drop, slice_get, Some, IsTrue, refl};
 ghost use Rattle.columnar_base.specs.Format.{Fits, representable};
 ghost use Rattle.columnar_core.specs.Store.{slices_in};
@@ -11,9 +11,12 @@ use columnar_core::store::DecodedStore;
 use columnar_core::traits::Index;
 use columnar_core::view::{View, element_in};
 
-/// A column that keeps each row in bytes of its own, in one slice: a `Vec` of elements, or a view of one.
+/// A column that stores each row in bytes of its own, in one slice: a `Vec` of elements, or a view of one.
 pub trait Flat: Index + Stored {
-    /// Row `index` of the column in the slices from `offset` on, which were accepted.
+    /// Returns row `index` of the column in accepted slices from `offset` on.
+    ///
+    /// # Requires
+    /// A representable type, accepted slices, and `index` below the number of rows.
     fn row_in(store: &DecodedStore<'_>, offset: usize, index: usize) -> Self::Ref
         requires representable { IsTrue (representable Self.format) }
         requires fits { Fits Self.format offset (slices_in store.now) }
@@ -23,7 +26,7 @@ pub trait Flat: Index + Stored {
 
     ghost flat: { IsFlat Self.format };
 
-    // its test takes no turn
+    // its validation takes no steps
     ghost still: { Self.format.turns ≡ 0 };
 }
 

@@ -5,10 +5,10 @@ ghost use Rattle.columnar_primitive.specs.Larges.{as_i128, as_u128};
 use crate::codes::{Coded, Codes};
 use crate::rule::Rule;
 
-/// A column of `u128`s, kept as their sixteen bytes, the lowest first.
+/// A column of `u128`s, stored as sixteen bytes each, lowest first.
 pub type U128s<CV = Vec<[u8; 16]>> = Codes<CV, u128>;
 
-/// A column of `i128`s, kept as their sixteen bytes in two's complement, the lowest first.
+/// A column of `i128`s, stored as sixteen bytes each in two's complement, lowest first.
 pub type I128s<CV = Vec<[u8; 16]>> = Codes<CV, i128>;
 
 impl Rule for u128 {

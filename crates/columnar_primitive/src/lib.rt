@@ -1,4 +1,4 @@
-//! Columns of the values of the language: numbers by other names, characters, durations, units and offsets.
+//! Columns of values of the language: numbers by other names, characters, durations, units and offsets.
 #![tactic(auto)]
 
 pub mod chars;
@@ -7,6 +7,7 @@ pub mod count;
 pub mod durations;
 pub mod empties;
 pub mod flat;
+pub mod floats;
 pub mod larges;
 pub mod numbers;
 pub mod offsets;

@@ -5,7 +5,7 @@ ghost use Rattle.columnar_base.specs.Row.{Row};
 use crate::codes::{Coded, Codes};
 use crate::rule::Rule;
 
-/// A column of `usize`s, kept as 64-bit numbers.
+/// A column of `usize`s, stored as 64-bit numbers.
 pub type Usizes<CV = Vec<u64>> = Codes<CV, usize>;
 
 impl Rule for usize {
@@ -36,7 +36,7 @@ impl Coded for usize {
     }
 }
 
-/// A column of `isize`s, kept as 64-bit numbers in two's complement.
+/// A column of `isize`s, stored as 64-bit numbers in two's complement.
 pub type Isizes<CV = Vec<i64>> = Codes<CV, isize>;
 
 impl Rule for isize {

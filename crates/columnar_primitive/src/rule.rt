@@ -1,4 +1,4 @@
-//! Rules that each row of a column keeps.
+//! Rules that every row of a column satisfies.
 ghost use Rattle.std.specs.Prelude.{◌≡◌, ℕ, ◌+◌, ◌≤◌, Bool, length, IsTrue, drop};
 ghost use Rattle.columnar_base.specs.Row.{Row};
 ghost use Rattle.columnar_base.specs.Format.{Fits, IsSound, representable};
@@ -10,20 +10,23 @@ use columnar_core::store::DecodedStore;
 use columnar_core::tally::Tally;
 use columnar_core::traits::{Index, Item, Len};
 
-/// Which numbers of a fixed width are codes.
+/// Says which numbers of a fixed width are codes.
 pub trait Rule {
-    /// The numbers.
+    /// The type of the numbers.
     type Code: Copy + Item;
 
-    // is a number's row that of a code
+    // whether the row of a number is the row of a code
     ghost is_code: { Row → Bool };
 
-    /// Is it a code?
+    /// Returns whether the number is a code.
     fn fits(code: Self::Code) -> bool
         ensures { result ≡ is_code (Self.Code.meaning code) };
 }
 
-/// Is each row of the slices a code?
+/// Returns whether every row of accepted slices is a code. Takes a step for each row.
+///
+/// # Requires
+/// A representable type, and accepted slices from `offset` on.
 pub(crate) fn all_fit_in<T: Rule, CV: Flat<Ref = T::Code>, L>(
     store: &DecodedStore<'_>,
     offset: usize,
@@ -44,7 +47,10 @@ pub(crate) fn all_fit_in<T: Rule, CV: Flat<Ref = T::Code>, L>(
     true
 }
 
-/// Is each row of the column a code?
+/// Returns whether every row of the column is a code. Takes a step for each row.
+///
+/// # Requires
+/// A well-formed column.
 pub(crate) fn all_fit<T: Rule, CV: Index<Ref = T::Code> + Len, L>(
     values: &CV,
     tally: &mut Tally<L>,

@@ -1,5 +1,5 @@
 pub mod RowParts
 pub mod RowOrder
 pub mod RowOrderLaws
+pub mod ItemLaws
 pub mod RowHashLaws
-pub mod TypedOrderLaws

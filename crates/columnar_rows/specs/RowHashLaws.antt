@@ -1,4 +1,4 @@
--- What a loop over rows feeds a hasher.
+-- The writes of a loop over rows to a hasher.
 use Rattle.std.proofs.Common.{◌≡◌, ℕ, ◌+◌, ◌≤◌, List, length, drop, refl, sym, ◌∙◌, ap}
 use Rattle.std.specs.Prelude.{slice_get, Some, fold, flat_map}
 use Rattle.std.specs.Hash as fed
@@ -6,7 +6,7 @@ use Rattle.std.proofs.lemmas.List.{drop_all}
 use Rattle.columnar_base.specs.Row.{Row}
 use Rattle.columnar_base.specs.RowsLeftLaws.{drop_next}
 
--- feeding what is left from here leads where feeding all rows at first would have
+-- feeding the remaining rows now gives the state of feeding all rows at the start
 abbrev pub RestFeeds : {H : Type 0} → (H → List ℕ → H) → (Row → List (List ℕ)) → List Row → H → ℕ → H → Type 0
 RestFeeds write feed rs first i now = fold write first (flat_map feed rs) ≡ fold write now (flat_map feed (drop i rs))
 

@@ -1,11 +1,11 @@
--- How two rows compare.
+-- The order of rows.
 use Rattle.std.specs.Prelude.{ℕ, List}
 use Rattle.std.specs.declared.cmp.Ordering.{Ordering}
 use Rattle.std.specs.Ordering.{ordering_then, nat_cmp, int_cmp, bool_cmp}
 use Rattle.std.specs.Cmp.Lexicographic.{slice_cmp}
 use Rattle.columnar_base.specs.Row.{Row, number, integer, character, truth, unit, duration, tuple, none, some, ok, err, empty, more, variant, solo, team, tree}
 
--- where a row's kind stands among all
+-- the place of a row's kind among all kinds
 abbrev pub kind : Row → ℕ
 kind (number n) = 0
 kind (integer n) = 1
@@ -25,8 +25,8 @@ kind (solo r) = 14
 kind (team r) = 15
 kind (tree r s) = 16
 
--- Numbers by their size, false before true, no value before any, values before errors; of a tuple and a list
--- the first pair that differs decides, and a list comes after those that it goes on. Rows of two kinds compare by these.
+-- Numbers compare by size. False precedes true, none precedes any value, and values precede errors. In tuples and lists
+-- the first unequal pair decides; a list follows its proper prefixes. Rows of different kinds compare by kind.
 abbrev pub row_cmp : Row → Row → Ordering
 row_cmp (number n) (number m) = nat_cmp n m
 row_cmp (integer n) (integer m) = int_cmp n m
@@ -44,6 +44,6 @@ row_cmp (team r) (team s) = row_cmp r s
 row_cmp (tree r s) (tree t u) = ordering_then (row_cmp r t) (row_cmp s u)
 row_cmp r s = nat_cmp (kind r) (kind s)
 
--- the first pair of rows that isn't equal decides, and else the lengths do
+-- the first unequal pair of rows decides, otherwise the lengths
 abbrev pub rows_cmp : List Row → List Row → Ordering
 rows_cmp = slice_cmp row_cmp

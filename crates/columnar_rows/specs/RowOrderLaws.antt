@@ -1,4 +1,4 @@
--- The order of rows is total, and agrees with their equality.
+-- The order of rows is total and agrees with their equality.
 use Rattle.std.proofs.Common.{◌≡◌, ℕ, zero, suc, ◌+◌, ◌<◌, ◌≤◌, Bool, true, false, ◌&&◌, List, [], ◌∷◌, length, drop, refl, sym, ◌∙◌, ap, arith}
 use Rattle.std.specs.Prelude.{ℤ, pos, Some, nat_eq, nat_lt, cond, slice_get, min}
 use Rattle.std.specs.declared.cmp.Ordering.{Ordering}
@@ -14,7 +14,7 @@ use Rattle.columnar_base.specs.SameRowsLaws.{same_rows_law}
 use Rattle.columnar_base.specs.RowsLeftLaws.{drop_next}
 use Rattle.columnar_rows.specs.RowOrder.{row_cmp, rows_cmp}
 
--- numbers whose lexicographic order is that of the rows: the kind, and then what the row holds
+-- numbers whose lexicographic order is that of the rows: the kind, then what the row holds
 abbrev flag : Bool → ℤ
 flag false = pos 0
 flag true = pos 1
@@ -73,7 +73,7 @@ then_equal Greater = refl
 two_numbers : (n m s t : ℕ) (o : Ordering) → ordering_then (int_cmp (pos n) (pos m)) (ordering_then (int_cmp (pos s) (pos t)) o) ≡ ordering_then (ordering_then (nat_cmp n m) (nat_cmp s t)) o
 two_numbers n m s t o = rw (pos_cmp n m, pos_cmp s t) (then_again (nat_cmp n m) (nat_cmp s t) o)
 
--- the rows decide, and then what stands after them
+-- the rows decide, then what follows them
 code_cmp : (r s : Row) (xs ys : List ℤ) → slice_cmp int_cmp (code r xs) (code s ys) ≡ ordering_then (row_cmp r s) (slice_cmp int_cmp xs ys)
 code_cmp (number n) (number m) xs ys = rw (pos_cmp n m) refl
 code_cmp (integer n) (integer m) xs ys = refl
@@ -97,7 +97,7 @@ code_cmp _ _ xs ys = refl
 pub row_cmp_total : IsTotalOrder row_cmp
 row_cmp_total = total (partial_order_from_total (on_total (λ r. code r []) (lists_total int_cmp_total))) (λ r s. ap Some (code_cmp r s [] [] ∙ then_equal (row_cmp r s)))
 
--- equality is what the order does not tell apart
+-- rows are equal if and only if they compare as equal
 truth_ties : (b c : Bool) → truth_eq b c ≡ is_eq (bool_cmp b c)
 truth_ties false false = refl
 truth_ties false true = refl
@@ -149,7 +149,7 @@ rows_cmp_total = lists_total row_cmp_total
 pub rows_ties : (rs ss : List Row) → same_rows rs ss ≡ eq_by_cmp rows_cmp rs ss
 rows_ties rs ss = same_is_pointwise rs ss ∙ lists_ties row_cmp row_ties rs ss
 
--- the order, as it agrees with equality
+-- the order agrees with equality
 pub rows_order : IsPartialOrder same_rows (λ rs ss. Some (rows_cmp rs ss))
 rows_order = po rows_cmp_total rows_ties
 
@@ -157,11 +157,11 @@ rows_order = po rows_cmp_total rows_ties
 pub same_rows_equivalence : {V : Type 0} (rows : V → List Row) → IsEquivalence (λ v w. same_rows (rows v) (rows w))
 same_rows_equivalence rows = equiv (same_rows_law rows) (λ v. alike_all row_eq row_eq_same (rows v))
 
--- rows that are equal feed a hasher alike, whatever it is fed of rows
+-- equal rows give a hasher equal input, for any function of the rows
 pub same_rows_feed : {X : Type 0} (feed : List Row → X) (rs ss : List Row) → same_rows rs ss ≡ true → feed rs ≡ feed ss
 same_rows_feed feed rs ss h = ap feed (alike_is row_eq row_eq_exact rs ss h)
 
--- what is left of two lists of rows decides how they compare
+-- the remaining rows of two lists decide how they compare
 abbrev pub RestOrders : List Row → List Row → ℕ → Type 0
 RestOrders rs ss i = rows_cmp rs ss ≡ rows_cmp (drop i rs) (drop i ss)
 
@@ -178,13 +178,13 @@ equal_then Less p h = cc
 equal_then Equal p h = refl
 equal_then Greater p h = cc
 
--- a pair that isn't equal decides
+-- an unequal pair decides
 pub order_found : (rs ss : List Row) (i : ℕ) (r s : Row) (o : Ordering) → slice_get rs i ≡ Some r → slice_get ss i ≡ Some s → o ≡ row_cmp r s → is_ne o ≡ true → RestOrders rs ss i → o ≡ rows_cmp rs ss
 order_found rs ss i r s o p q e h d =
     let k = order_step rs ss i r s p q d in
     sym (k ∙ rw (← e) (found_then o (rows_cmp (drop (i + 1) rs) (drop (i + 1) ss)) h))
 
--- after one that is, the rest does
+-- after an equal pair, the rest decides
 pub order_more : (rs ss : List Row) (i : ℕ) (r s : Row) (o : Ordering) → slice_get rs i ≡ Some r → slice_get ss i ≡ Some s → o ≡ row_cmp r s → is_ne o ≡ false → RestOrders rs ss i → RestOrders rs ss (i + 1)
 order_more rs ss i r s o p q e h d =
     let k = order_step rs ss i r s p q d in
@@ -197,6 +197,6 @@ lengths_cmp (r ∷ rs) [] i e = let z : i ≡ 0 = omega arith in rw z (nat_cmp_i
 lengths_cmp (r ∷ rs) (s ∷ ss) zero e = absurd (omega arith)
 lengths_cmp (r ∷ rs) (s ∷ ss) (suc i) e = lengths_cmp rs ss i (omega arith) ∙ sym (suc_cmp (length rs) (length ss))
 
--- where no pair is left, the lengths do
+-- if no pair remains, the lengths decide
 pub order_end : (rs ss : List Row) (i : ℕ) (o : Ordering) → i ≡ min (length rs) (length ss) → o ≡ nat_cmp (length rs) (length ss) → RestOrders rs ss i → o ≡ rows_cmp rs ss
 order_end rs ss i o m e d = e ∙ sym (d ∙ lengths_cmp rs ss i m)

@@ -1,4 +1,4 @@
--- What a row of one kind holds, and something of that sort for any other row.
+-- What a row of one kind holds, with a default of the same type for any other row.
 use Rattle.std.specs.Prelude.{ℕ, ℤ, pos, Bool, false, List, [], ◌++◌}
 use Rattle.std.specs.Hash as fed
 use Rattle.columnar_base.specs.Row.{Row, integer, truth, character, duration, some, ok, err}
@@ -23,12 +23,12 @@ abbrev pub nanos_of : Row → ℕ
 nanos_of (duration s n) = n
 nanos_of _ = 0
 
--- what an option's row feeds a hasher: the number of its variant, and then what that of its value feeds
+-- the writes of an option to a hasher: the number of its variant, then the writes of its value
 abbrev pub option_input : (Row → List (List ℕ)) → Row → List (List ℕ)
 option_input feed (some r) = fed.isize (pos 1) ++ feed r
 option_input feed _ = fed.isize (pos 0)
 
--- what a result's row feeds a hasher, likewise
+-- the same for a result
 abbrev pub result_input : (Row → List (List ℕ)) → (Row → List (List ℕ)) → Row → List (List ℕ)
 result_input feed_value feed_error (ok r) = fed.isize (pos 0) ++ feed_value r
 result_input feed_value feed_error (err r) = fed.isize (pos 1) ++ feed_error r

@@ -1,4 +1,4 @@
-//! Ranges of the rows of a column, and the order of rows: they are compared and hashed by what they mean.
+//! Ranges of the rows of a column; comparing and hashing rows by their meaning.
 #![tactic(auto)]
 
 pub mod ordered;

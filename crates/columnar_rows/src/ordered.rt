@@ -1,4 +1,4 @@
-//! Rows that are compared, and fed to a hasher, by what they mean.
+//! Comparing and hashing rows by their meaning.
 ghost use Rattle.std.specs.Prelude.{◌≡◌, ℕ, List, map, fold};
 ghost use Rattle.std.specs.Hash as fed;
 ghost use Rattle.std.specs.Ordering.{is_eq};
@@ -11,21 +11,22 @@ use columnar_base::traits::{Index, Item, Len};
 use std::cmp::Ordering;
 use std::hash::{Hash, Hasher};
 
+mod floats;
 mod numbers;
 mod parts;
 mod slices;
 mod tuples;
 
-/// A row that is compared with others of its type, and fed to a hasher, by what it means alone.
+/// A row that is compared with rows of its type and hashed, by its meaning only.
 pub trait OrderedRow: Item {
-    // the writes that feed a row to a hasher
+    // the writes with which a row feeds a hasher
     ghost row_input: { Row → List (List ℕ) };
 
-    /// Are the two equal as rows?
+    /// Returns whether both represent equal rows.
     fn same_row(&self, other: &Self) -> bool
         ensures { result ≡ row_eq (Self.meaning self.now) (Self.meaning other.now) };
 
-    /// How the two compare as rows.
+    /// Compares the two as rows.
     fn compare_row(&self, other: &Self) -> Ordering
         ensures { result ≡ row_cmp (Self.meaning self.now) (Self.meaning other.now) };
 
@@ -34,7 +35,10 @@ pub trait OrderedRow: Item {
         ensures { state.new ≡ fold H.write state.old (row_input (Self.meaning self.now)) };
 }
 
-/// Are the rows of two columns equal, one for one?
+/// Returns whether two columns have equal rows in the same order.
+///
+/// # Requires
+/// Well-formed columns.
 pub fn same_rows_of<S: Index<Ref: OrderedRow> + Len>(left: &S, right: &S) -> bool
     requires left_sound { IsSound S.format (S.content left.now) }
     requires right_sound { IsSound S.format (S.content right.now) }
@@ -52,7 +56,10 @@ pub fn same_rows_of<S: Index<Ref: OrderedRow> + Len>(left: &S, right: &S) -> boo
     true
 }
 
-/// Are the rows of a column equal to the items, one for one?
+/// Returns whether the rows of a column equal the items, in order.
+///
+/// # Requires
+/// A well-formed column.
 pub fn same_rows_as<S: Index<Ref: OrderedRow> + Len>(column: &S, items: &[S::Ref]) -> bool
     requires { IsSound S.format (S.content column.now) }
     ensures { result ≡ same_rows (S.format.rows (S.content column.now)) (map S.Ref.meaning items.now) }
@@ -69,7 +76,10 @@ pub fn same_rows_as<S: Index<Ref: OrderedRow> + Len>(column: &S, items: &[S::Ref
     true
 }
 
-/// How the rows of two columns compare: the first pair that isn't equal decides, and else the lengths do.
+/// Compares the rows of two columns lexicographically: the first unequal pair decides, otherwise the lengths.
+///
+/// # Requires
+/// Well-formed columns.
 pub fn compare_rows_of<S: Index<Ref: OrderedRow> + Len>(left: &S, right: &S) -> Ordering
     requires left_sound { IsSound S.format (S.content left.now) }
     requires right_sound { IsSound S.format (S.content right.now) }
@@ -86,7 +96,10 @@ pub fn compare_rows_of<S: Index<Ref: OrderedRow> + Len>(left: &S, right: &S) -> 
     left_count.cmp(&right_count)
 }
 
-/// Feeds the rows of a column to the hasher: their number, and then each row.
+/// Feeds the number of rows, then each row of a column to the hasher.
+///
+/// # Requires
+/// A well-formed column.
 pub fn hash_rows_of<S: Index<Ref: OrderedRow> + Len, H: Hasher>(column: &S, state: &mut H)
     requires { IsSound S.format (S.content column.now) }
     ensures { state.new ≡ fold H.write state.old (fed.slice S.Ref.row_input (S.format.rows (S.content column.now))) }

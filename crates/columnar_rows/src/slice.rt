@@ -20,11 +20,11 @@ use std::fmt::{self, Debug, Formatter, Write};
 use std::hash::{Hash, Hasher};
 use std::ops::{Bound, RangeBounds};
 
-/// The rows `lower..upper` of a column, which is well formed and has them.
+/// The rows `lower..upper` of a well-formed column that has these rows.
 pub struct Slice<S: Column> {
-    /// The first row's number.
+    /// The index of the first row.
     pub lower: usize,
-    /// The number of the row after the last one.
+    /// The index after the last row.
     pub upper: usize,
     /// The column.
     pub slice: S,
@@ -46,7 +46,10 @@ impl<S: Column + Copy> Clone for Slice<S> {
 impl<S: Column> Slice<S> {
     ghost use Rattle.columnar_base.specs.RowsLeft.{rows_left};
 
-    /// The rows `lower..upper` of `slice`. Asks that they are rows of the column, and that this is well formed.
+    /// Returns the range `lower..upper` of the rows of `slice`.
+    ///
+    /// # Requires
+    /// A well-formed column, and `lower <= upper <= slice.len()`.
     pub fn new(lower: usize, upper: usize, slice: S) -> Self
         requires { IsSound (part_format S.format) (part lower upper (S.content slice)) }
         ensures lower { result.lower ≡ lower }
@@ -60,7 +63,10 @@ impl<S: Column> Slice<S> {
         }
     }
 
-    /// All rows of `slice`, from the first to the last. Asks that this is well formed.
+    /// Returns the range of all rows of `slice`.
+    ///
+    /// # Requires
+    /// A well-formed column.
     pub fn whole(slice: S) -> Self
     where
         S: Len,
@@ -72,8 +78,10 @@ impl<S: Column> Slice<S> {
         Slice::new(0, slice.len(), slice)
     }
 
-    /// Those of its rows whose numbers, as rows of the column, lie in the range. Asks that the first of these numbers
-    /// is at most that after the last.
+    /// Narrows the range to the rows whose index in the column lies in `range`.
+    ///
+    /// # Requires
+    /// A range that can be read, and whose start, at least `lower`, is at most its end, at most `upper`.
     pub fn slice<R: RangeBounds<usize>>(self, range: R) -> Self
         requires bounds { R.has_bounds range }
         requires ordered { max self.lower (start_index (R.start_bound range)) ≤ min self.upper (end_index (R.end_bound range) self.upper) }
@@ -99,7 +107,7 @@ impl<S: Column> Slice<S> {
         Slice::new(lower.max(start), upper.min(end), slice)
     }
 
-    /// Its rows in their order.
+    /// Iterates over the rows in order.
     pub fn into_iter(self) -> IterOwn<Slice<S>>
         ensures { rows_left result ≡ part_rows S.format (part self.lower self.upper (S.content self.slice)) }
     {
@@ -108,7 +116,7 @@ impl<S: Column> Slice<S> {
 }
 
 impl<'a, T: Element> Slice<&'a [T]> {
-    /// The elements, as one slice.
+    /// Returns the elements as one slice.
     pub fn as_slice(&self) -> &'a [T]
         ensures { result.now ≡ take (self.now.upper - self.now.lower) (drop self.now.lower self.now.slice.now) }
     {
@@ -122,7 +130,7 @@ impl<S: Column> Column for Slice<S> {
     ghost content = { λ s. part s.lower s.upper (S.content s.slice) };
 }
 
-/// As a row, it is the list of its rows.
+/// Its row is the list of its rows.
 impl<S: Column> Item for Slice<S> {
     ghost meaning = { λ s. list (part_rows S.format (part s.lower s.upper (S.content s.slice))) };
 
@@ -152,7 +160,7 @@ impl<'a, S: Index> Index for &'a Slice<S> {
 }
 
 impl<S: Index<Ref: OrderedRow>> Slice<S> {
-    /// Are its rows equal to the items, one for one?
+    /// Returns whether the rows equal the items, in order.
     pub fn eq_slice(&self, items: &[S::Ref]) -> bool
         ensures { result ≡ same_rows (part_rows S.format (part self.now.lower self.now.upper (S.content self.now.slice))) (map S.Ref.meaning items.now) }
     {
@@ -160,7 +168,7 @@ impl<S: Index<Ref: OrderedRow>> Slice<S> {
     }
 }
 
-/// Are the rows equal, one for one? Where they stand makes no difference.
+/// Compares the rows in order, wherever they are stored.
 impl<S: Index<Ref: OrderedRow>> PartialEq for Slice<S> {
     ghost eq = { λ s t. same_rows (part_rows S.format (part s.lower s.upper (S.content s.slice))) (part_rows S.format (part t.lower t.upper (S.content t.slice))) };
 
@@ -175,7 +183,7 @@ impl<S: Index<Ref: OrderedRow>> Eq for Slice<S> {
     ghost laws = { same_rows_equivalence (λ s. part_rows S.format (part s.lower s.upper (S.content s.slice))) };
 }
 
-/// The first pair of rows that isn't equal decides, and else the lengths do.
+/// The first unequal pair of rows decides, otherwise the lengths.
 impl<S: Index<Ref: OrderedRow>> PartialOrd for Slice<S> {
     ghost partial_cmp = { λ s t. Some (rows_cmp (part_rows S.format (part s.lower s.upper (S.content s.slice))) (part_rows S.format (part t.lower t.upper (S.content t.slice)))) };
 
@@ -186,7 +194,7 @@ impl<S: Index<Ref: OrderedRow>> PartialOrd for Slice<S> {
     }
 }
 
-/// The first pair of rows that isn't equal decides, and else the lengths do.
+/// The first unequal pair of rows decides, otherwise the lengths.
 impl<S: Index<Ref: OrderedRow>> Ord for Slice<S> {
     ghost cmp = { λ s t. rows_cmp (part_rows S.format (part s.lower s.upper (S.content s.slice))) (part_rows S.format (part t.lower t.upper (S.content t.slice))) };
 
@@ -201,7 +209,7 @@ impl<S: Index<Ref: OrderedRow>> Ord for Slice<S> {
     }
 }
 
-/// Feeds the number of the rows, and then each row.
+/// Feeds the number of rows, then each row.
 impl<S: Index<Ref: OrderedRow>> Hash for Slice<S> {
     ghost hash_input = { λ s. fed.slice S.Ref.row_input (part_rows S.format (part s.lower s.upper (S.content s.slice))) };
 
@@ -212,7 +220,7 @@ impl<S: Index<Ref: OrderedRow>> Hash for Slice<S> {
     }
 }
 
-/// Prints the rows, in brackets.
+/// Prints the rows in brackets.
 impl<S: Index<Ref: Debug>> Debug for Slice<S> {
     fn fmt<W: Write>(&self, f: &mut Formatter<W>) -> fmt::Result {
         let mut rows = f.debug_list();
@@ -223,7 +231,7 @@ impl<S: Index<Ref: Debug>> Debug for Slice<S> {
     }
 }
 
-/// As rows, lists are compared by their rows.
+/// Compares lists by their rows.
 impl<S: Index<Ref: OrderedRow>> OrderedRow for Slice<S> {
     ghost row_input = { λ r. fed.slice S.Ref.row_input (items_of r) };
 

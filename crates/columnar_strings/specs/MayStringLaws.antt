@@ -1,4 +1,4 @@
--- What columns of strings refuse, the limit of lists of bytes denies.
+-- The limit of lists of bytes denies what columns of strings refuse.
 use Rattle.std.specs.Int.{w8}
 use Rattle.columnar_base.specs.Format.{Format}
 use Rattle.columnar_base.specs.May.{Limit, IsLimited, count_limit}

@@ -1,7 +1,12 @@
--- The rows of strings: what is cut out of bytes is the list of these bytes. What a value shows.
-use Rattle.std.proofs.Common.{◌≡◌, ℕ, suc, ◌-◌, ◌≤◌, ◌%◌, List, [], ◌∷◌, ◌++◌, length, take, drop, map, refl, ◌∙◌, ap, arith}
-use Rattle.std.specs.Prelude.{slice_get, Option, Some, None}
-use Rattle.std.specs.Fmt.{WritesText}
+-- The rows of strings: a piece of the bytes is the list of these bytes. What a value displays.
+use Rattle.std.proofs.Common.{◌≡◌, ℕ, zero, suc, Bool, true, false, ◌<◌, ◌-◌, ◌≤◌, ◌%◌, List, [], ◌∷◌, ◌++◌, length, take, drop, map, refl, ◌∙◌, ap, arith}
+use Rattle.std.specs.Prelude.{slice_get, Option, Some, None, IfSome, cond}
+use Rattle.std.specs.Fmt.{WritesText, debug_escape, debug_str}
+use Rattle.std.specs.Char.{is_ascii}
+use Rattle.std.specs.List.{flat_map, list_all}
+use Rattle.std.specs.Str.{IsAscii, IsUtf8}
+use Rattle.std.proofs.lemmas.Str.{IsUtf8-from_ascii}
+use Rattle.std.proofs.lemmas.Bool.{and_parts, ltb-true}
 use Rattle.std.proofs.lemmas.Fmt.{contents_after_writes}
 use Rattle.std.specs.Int.{to_le_bytes, w8}
 use Rattle.std.proofs.lemmas.List.{take-map, drop-map}
@@ -26,7 +31,7 @@ piece_rows xs l n =
     let e : bytes_format.rows (elements (to_le_bytes w8) xs) ≡ map (unsigned_row w8) xs = rows_typed (unsigned_element w8) xs in
     ap (λ t. take n (drop l t)) e ∙ (ap (take n) (drop-map (unsigned_row w8) l xs) ∙ take-map (unsigned_row w8) n (drop l xs))
 
--- string i is the bytes from the bound before it to its own
+-- string i has the bytes from the bound before it to its own bound
 pub string_read : (b : Format) (x : Content) (xs : List ℕ) (i : ℕ) {l u : ℕ} → slice_get (0 ∷ numbers (b.rows x)) i ≡ Some l → slice_get (b.rows x) i ≡ Some (number u) → slice_get ((strings_format b).rows (both x (elements (to_le_bytes w8) xs))) i ≡ Some (text_row (take (u - l) (drop l xs)))
 string_read b x xs i {l} {u} p h =
     cut_get i 0 (numbers (b.rows x)) (bytes_format.rows (elements (to_le_bytes w8) xs)) l u p (number_get (b.rows x) i u h)
@@ -48,7 +53,25 @@ numbers_back (b ∷ bs) h =
 pub bytes_back : (bs : List ℕ) → AreBytes bs → text_bytes (text_row bs) ≡ bs
 bytes_back bs h = ap (map number_of) (items_of-list (map (unsigned_row w8) bs)) ∙ numbers_back bs h
 
--- what a writer that had nothing has, once a value was written to it whole
+-- the text of a writer that was empty, after a whole value was written to it
 pub what_is_shown : {W : Type 0} (contents : W → List ℕ) (o : Option (List ℕ)) (w v : W) → contents w ≡ [] → WritesText (λ s bs t. contents t ≡ contents s ++ bs) w o v → Shows o (contents v)
 what_is_shown contents None w v e h = tt
 what_is_shown contents (Some bs) w v e h = contents_after_writes (λ s cs t. contents t ≡ contents s ++ cs) contents (λ s cs t k. k) w bs v h ∙ ap (λ t. t ++ bs) e
+
+-- bytes that are not UTF-8 are not ASCII, so no text is named for them
+one_more : (b : ℕ) (bs : List ℕ) → b < 128 → IsAscii bs → IsAscii (b ∷ bs)
+one_more b bs l h zero = l
+one_more b bs l h (suc i) = h i
+
+all_ascii : (bs : List ℕ) → list_all is_ascii bs ≡ true → IsAscii bs
+all_ascii [] h = λ i. omega arith
+all_ascii (b ∷ bs) h =
+    let p = and_parts (is_ascii b) (list_all is_ascii bs) h in
+    one_more b bs (ltb-true b 128 p.0) (all_ascii bs p.1)
+
+named_if : {A : Type 0} (b : Bool) (x : A) (P : A → Type 0) → (b ≡ true → ⊥) → IfSome (cond b (Some x) None) P
+named_if true x P h = absurd (h refl)
+named_if false x P h = tt
+
+pub not_quoted : (bs : List ℕ) (P : List ℕ → Type 0) → (IsUtf8 bs → ⊥) → IfSome (debug_str bs) P
+not_quoted bs P h = named_if (list_all is_ascii bs) (34 ∷ (flat_map (debug_escape 34) bs ++ 34 ∷ [])) P (λ e. h (IsUtf8-from_ascii bs (all_ascii bs e)))

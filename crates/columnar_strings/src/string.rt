@@ -1,11 +1,11 @@
-//! Strings, each a list of bytes: the bytes of all strings in one column, and where each string ends in another. They
-//! are laid out as lists are, and share the law of these.
-ghost use Rattle.std.specs.Prelude.{◌≡◌, ◌+◌, ◌-◌, ◌*◌, ◌<◌, ◌≤◌, length, slice_get, Some, take, drop, OnOk, IfOk, IfErr, IsUtf8, refl};
+//! Strings as lists of bytes: the bytes of all strings in one column, and the end of each string in another. They have
+//! the layout and the laws of lists.
+ghost use Rattle.std.specs.Prelude.{◌≡◌, ◌+◌, ◌-◌, ◌<◌, ◌≤◌, length, slice_get, Some, take, drop, OnOk, IfOk, IfErr, IsUtf8, refl};
 ghost use Rattle.std.specs.Int.{to_le_bytes, w8};
 ghost use Rattle.columnar_base.specs.Row.{Row};
 ghost use Rattle.columnar_base.specs.Format.{both, IsSound};
 ghost use Rattle.columnar_base.specs.Change.{Copied, Refused};
-ghost use Rattle.columnar_base.specs.Elements.{elements, words_format, bytes_format};
+ghost use Rattle.columnar_base.specs.Elements.{elements, bytes_format};
 ghost use Rattle.columnar_base.specs.Texts.{text_bytes, text_row};
 ghost use Rattle.columnar_base.specs.TwoPartsLaws.{two_counted};
 ghost use Rattle.columnar_lists.specs.Lists.{lists_format};
@@ -14,7 +14,9 @@ ghost use Rattle.columnar_strings.specs.Strings.{strings_format};
 
 mod earlier;
 mod push;
+mod quoted;
 mod show;
+mod shown;
 mod walk;
 
 use columnar_base::fault::{GrowError, OwnError, StoreFault};
@@ -29,21 +31,21 @@ use columnar_core::offsets::{ExtendShifted, Offsets, PushAfter, StoredOffsets};
 use columnar_core::store::DecodedStore;
 use columnar_core::two::{byte_slice_of_two, slice_of_two};
 use columnar_core::vector::elements_between;
-use columnar_lists::parts::{
-    check_lists, copy_lists, copy_lists_tallied, cut_lists, range_of, reserve_lists,
-};
+use columnar_lists::parts::{check_lists, copy_lists_tallied, cut_lists, range_of, reserve_lists};
 use columnar_lists::vector::Vecs;
 pub use push::Text;
+pub use quoted::Quoted;
+pub use shown::Shown;
 use std::alloc::Global;
 use std::ops::Range;
 pub use walk::StringIter;
 
-/// A column of strings. String i has the bytes from bound i - 1, or from 0 where there is none, up to bound i; it is
-/// well formed where the bounds never fall and the last one is the number of the bytes, 0 where there is none. The
-/// bytes of a string need not be UTF-8: `get_str` tests them.
+/// A column of strings. String i has the bytes from bound i - 1 (0 for the first string) to bound i. The column is
+/// well-formed if its parts are, the bounds never decrease, and the last one (0 if there is none) is the number of
+/// bytes. The bytes of a string need not be UTF-8: `get_str` tests them.
 #[derive(Clone, Copy, PartialEq, Drop)]
 pub struct Strings<BC = Vec<u64>, VC = Vec<u8>> {
-    /// Where each string ends.
+    /// The end of each string.
     pub bounds: BC,
     /// The bytes of all strings.
     pub values: VC,
@@ -61,7 +63,7 @@ impl<BC: Len, VC: Column> Len for Strings<BC, VC> {
     }
 }
 
-// The bytes of string `index`.
+// Returns the bytes of string `index`.
 fn string_at<'a, BC: Offsets>(bounds: &BC, values: &'a [u8], index: usize) -> &'a [u8]
     requires sound { IsSound (strings_format BC.format) (both (BC.content bounds.now) (elements (to_le_bytes w8) values.now)) }
     requires in_range { index < length ((strings_format BC.format).rows (both (BC.content bounds.now) (elements (to_le_bytes w8) values.now))) }
@@ -71,7 +73,7 @@ fn string_at<'a, BC: Offsets>(bounds: &BC, values: &'a [u8], index: usize) -> &'
     elements_between(values, lower, upper)
 }
 
-/// A row is the bytes of the string, where they stand.
+/// A row is the bytes of the string, read in place.
 impl<'a, BC: Offsets> Index for Strings<BC, &'a [u8]> {
     type Ref = &'a [u8];
 
@@ -80,7 +82,7 @@ impl<'a, BC: Offsets> Index for Strings<BC, &'a [u8]> {
     }
 }
 
-/// A row is the bytes of the string, where they stand.
+/// A row is the bytes of the string, read in place.
 impl<'a, BC: Offsets> Index for &'a Strings<BC, Vec<u8>> {
     type Ref = &'a [u8];
 
@@ -90,7 +92,10 @@ impl<'a, BC: Offsets> Index for &'a Strings<BC, Vec<u8>> {
     }
 }
 
-/// The bytes as text, as a row of strings is read; Utf8 exactly where they are no UTF-8. Nothing is copied.
+/// Returns the bytes of a string as text; copies nothing.
+///
+/// # Errors
+/// `Utf8` if and only if the bytes are not UTF-8.
 pub fn as_text(bytes: &[u8]) -> Result<&str, OwnError>
     ensures ok { IfOk result (λ s. (s.now ≡ bytes.now) × IsUtf8 bytes.now) }
     ensures err { IfErr result (λ e. (e ≡ OwnError.Utf8) × (IsUtf8 bytes.now → ⊥)) }
@@ -103,7 +108,13 @@ pub fn as_text(bytes: &[u8]) -> Result<&str, OwnError>
 }
 
 impl<'a, BC: Offsets> Strings<BC, &'a [u8]> {
-    /// String `index` as text; Utf8 exactly where its bytes are no UTF-8.
+    /// Returns string `index` as text.
+    ///
+    /// # Requires
+    /// A well-formed column, and `index` below its length.
+    ///
+    /// # Errors
+    /// `Utf8` if and only if the bytes are not UTF-8.
     pub fn get_str(&self, index: usize) -> Result<&'a str, OwnError>
         requires sound { IsSound (strings_format BC.format) (⟦<Strings<BC, &'a [u8]> as Column>⟧.content self.now) }
         requires in_range { index < length ((strings_format BC.format).rows (⟦<Strings<BC, &'a [u8]> as Column>⟧.content self.now)) }
@@ -172,8 +183,8 @@ impl<'a, BC: Borrow<'a, Borrowed: Offsets>> Borrow<'a> for Strings<BC, Vec<u8>> 
 }
 
 impl<
-    W: Index + Offsets + Copy,
-    V: Index + Copy,
+    W: Offsets + Copy,
+    V: Column + Copy,
     BC: ExtendFrom<W> + ExtendShifted<W> + Offsets,
     VC: ExtendFrom<V>,
 > ExtendFrom<Strings<W, V>> for Strings<BC, VC> {
@@ -189,33 +200,34 @@ impl<
         view: Strings<W, V>,
         range: Range<usize>,
     ) -> Result<(), GrowError> {
-        copy_lists(
-            &mut self.bounds,
-            &mut self.values,
-            &view.bounds,
-            view.values,
-            range,
-        )
+        self.extend_strings_tallied(view, range, &mut Tally::new())
     }
 }
 
-impl Strings<Vec<u64>, Vec<u8>> {
-    /// As `extend_from_self`; the turns that it takes are added to the tally: at most 2 for each string.
-    pub fn extend_strings_tallied<W: Offsets + Copy, V: Index + Copy, L>(
+impl<BC: Offsets, VC: Column> Strings<BC, VC> {
+    /// Does what `extend_from_self` does, and counts its steps over bounds in the tally: at most one for each string.
+    ///
+    /// # Requires
+    /// As `extend_from_self`.
+    ///
+    /// # Errors
+    /// As `extend_from_self`.
+    pub fn extend_strings_tallied<W: Offsets + Copy, V: Column + Copy, L>(
         &mut self,
         view: Strings<W, V>,
         range: Range<usize>,
         tally: &mut Tally<L>,
     ) -> Result<(), GrowError>
     where
-        Vec<u8>: ExtendFrom<V>,
-        requires sound { IsSound (strings_format words_format) (⟦<Strings<Vec<u64>, Vec<u8>> as Column>⟧.content self.old) }
+        BC: ExtendShifted<W>,
+        VC: ExtendFrom<V>,
+        requires sound { IsSound (lists_format BC.format VC.format) (both (BC.content self.old.bounds) (VC.content self.old.values)) }
         requires view_sound { IsSound (lists_format W.format V.format) (both (W.content view.bounds) (V.content view.values)) }
         requires ordered { range.start ≤ range.«end» }
         requires in_range { range.«end» ≤ length ((lists_format W.format V.format).rows (both (W.content view.bounds) (V.content view.values))) }
-        ensures ok { OnOk result (Copied (strings_format words_format) (⟦<Strings<Vec<u64>, Vec<u8>> as Column>⟧.content self.old) (⟦<Strings<Vec<u64>, Vec<u8>> as Column>⟧.content self.new) range.start (take (range.«end» - range.start) (drop range.start ((lists_format W.format V.format).rows (both (W.content view.bounds) (V.content view.values)))))) }
-        ensures err { IfErr result (λ e. Refused (strings_format words_format) (⟦<Strings<Vec<u64>, Vec<u8>> as Column>⟧.content self.old) (⟦<Strings<Vec<u64>, Vec<u8>> as Column>⟧.content self.new) (take (range.«end» - range.start) (drop range.start ((lists_format W.format V.format).rows (both (W.content view.bounds) (V.content view.values))))) e) }
-        ensures turns { tally.new.turns ≤ tally.old.turns + 2 * (range.«end» - range.start) }
+        ensures ok { OnOk result (Copied (lists_format BC.format VC.format) (both (BC.content self.old.bounds) (VC.content self.old.values)) (both (BC.content self.new.bounds) (VC.content self.new.values)) range.start (take (range.«end» - range.start) (drop range.start ((lists_format W.format V.format).rows (both (W.content view.bounds) (V.content view.values)))))) }
+        ensures err { IfErr result (λ e. Refused (lists_format BC.format VC.format) (both (BC.content self.old.bounds) (VC.content self.old.values)) (both (BC.content self.new.bounds) (VC.content self.new.values)) (take (range.«end» - range.start) (drop range.start ((lists_format W.format V.format).rows (both (W.content view.bounds) (V.content view.values))))) e) }
+        ensures turns { tally.new.turns ≤ tally.old.turns + (range.«end» - range.start) }
     {
         copy_lists_tallied(
             &mut self.bounds,
@@ -296,7 +308,7 @@ impl<'s, BC: AsBytes<'s> + StoredOffsets, VC: AsBytes<'s>> AsBytes<'s> for Strin
     }
 }
 
-/// Where memory is refused for the bytes, the bounds, already loaded, are dropped.
+/// If the bytes cannot be loaded, the loaded bounds are dropped.
 impl<BC: ContainerBytes + StoredOffsets + Drop, VC: ContainerBytes> ContainerBytes
     for Strings<BC, VC> {
     fn byte_slice(&self, index: usize) -> ByteSlice<'_> {

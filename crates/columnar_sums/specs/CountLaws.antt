@@ -1,16 +1,16 @@
--- Counting trues.
+-- Counting set bits.
 use Rattle.std.proofs.Common.{◌≡◌, ℕ, zero, suc, ◌+◌, ◌-◌, ◌*◌, ◌/◌, ◌%◌, ◌^◌, ◌<◌, ◌≤◌, Bool, true, false, eqb, List, [], ◌∷◌, ◌++◌, length, take, cond, Some, None, refl, sym, ap, ◌∙◌, subst, ⊎_elim, lit<, arith, add-one, add-zero, add-suc, add_assoc, add_comm}
 use Rattle.std.proofs.Math.Path.{ap₂}
 use Rattle.std.specs.Prelude.{slice_index, slice_index_or, bit_and, count_ones, count_by, option_map}
 use Rattle.std.proofs.lemmas.List.{length-take, take-append-le, length_push, get_or_past}
 use Rattle.std.proofs.lemmas.List.Sums.{count_by_more_yes, count_by_more_no, count_by-le-length, sum_by-append}
 use Rattle.std.proofs.lemmas.Bool.{cases_lt, cases_Bool, true≢false}
-use Rattle.std.proofs.lemmas.Nat.{leading_length, shr-shr, pow-add, one_shl, and_mask, ones_cat, mod_below, pow_pos, pow_below, mod-pow-add, ones_le_self}
+use Rattle.std.proofs.lemmas.Nat.{shr-shr, pow-add, one_shl, and_mask, ones_cat, mod_below, pow_pos, pow_below, mod-pow-add, ones_le_self}
 use Rattle.std.proofs.Math.Nat.{mul-le-mul_left}
 use lib.Count.{ones as ones_of_number, ones_in}
 use Rattle.columnar_bits.specs.Bits.{bit, bit_in, truths, bits_of}
 use Rattle.columnar_bits.specs.BitLaws.{bit_in_word, bit_shr, length-truths, get_or-truths}
-use Rattle.columnar_sums.specs.Counting.{ones, place, ones_below, CountWords, AreCounts, count_before, digits}
+use Rattle.columnar_sums.specs.Counting.{ones, place, ones_below, CountWords, AreCounts, count_before}
 
 -- one bit, counted
 ones_of_bit : (a : ℕ) → a < 2 → count_ones a ≡ cond (eqb a 1) 1 0
@@ -38,7 +38,7 @@ unfolding ones_below
 ones_below_same f g zero h = refl
 ones_below_same f g (suc n) h = ap₂ (λ (x : ℕ) (y : Bool). x + cond y 1 0) (ones_below_same f g n (λ j l. h j (omega arith))) (h n (omega arith))
 
--- the trues among the lowest k bits of a number
+-- the number of set bits among the lowest k bits of a number
 pub ones_of_mod : (n k : ℕ) → count_ones (n % 2 ^ k) ≡ ones_below (bit n) k
 unfolding ones_below bit
 ones_of_mod n zero = let e : n % 1 ≡ 0 = omega arith in let l = ones_le_self (n % 1) in omega arith
@@ -60,7 +60,7 @@ ones_below_le f (suc n) =
     let l : cond {A = ℕ} (f n) 1 0 ≤ 1 = elim (f n) as (λ v. cond {A = ℕ} v 1 0 ≤ 1) [ true ↦ omega arith | false ↦ omega arith ] in
     omega arith
 
--- the trues up to a place within word i
+-- the set bits before a position in word i
 pub ones_word : (ws : List ℕ) (i j : ℕ) → j ≤ 64 → ones_below (bit_in ws) (64 * i + j) ≡ ones_below (bit_in ws) (64 * i) + ones_below (bit (slice_index ws i)) j
 ones_word ws i j h = ones_below_add (bit_in ws) (bit (slice_index ws i)) (64 * i) j (λ m l. bit_in_word ws i m (64 * i + m) (omega arith) refl)
 
@@ -130,7 +130,7 @@ place_none (false ∷ b) k e = let q : ones b (length b) ≤ k = subst (λ (x : 
 place_none (true ∷ b) zero e = let q : suc (ones b (length b)) ≤ 0 = subst (λ (x : ℕ). x ≤ 0) (ones_true b (length b)) e in absurd (omega arith)
 place_none (true ∷ b) (suc k) e = let r : suc (ones b (length b)) ≤ suc k = subst (λ (x : ℕ). x ≤ suc k) (ones_true b (length b)) e in let q : ones b (length b) ≤ k = omega arith in ap (option_map suc) (place_none b k q)
 
--- ---- what was read
+-- ---- reads
 
 pub kept_more : (before xs : List ℕ) (y : ℕ) → take (length before) xs ≡ before → length before ≤ length xs → take (length before) (xs ++ y ∷ []) ≡ before
 kept_more before xs y e h = take-append-le (length before) xs (y ∷ []) h ∙ e
@@ -171,7 +171,7 @@ ones_shr w p n = ones_below_add (bit w) (bit (w / 2 ^ p)) p n (λ j l. sym (bit_
 pub halves_start : (w : ℕ) → w < 2 ^ 64 → count_ones w ≡ ones_below (bit w) (2 ^ 6)
 halves_start w h = let q : w % 2 ^ 64 ≡ w = omega arith in sym (ap count_ones q) ∙ ones_of_mod w 64
 
--- the place is in the upper half
+-- the position is in the upper half
 pub halves_high : (w k l : ℕ) → k < ones_below (bit w) (2 ^ (l + 1)) → ones_below (bit w) (2 ^ l) ≤ k → k - ones_below (bit w) (2 ^ l) < ones_below (bit (w / 2 ^ (2 ^ l))) (2 ^ l)
 halves_high w k l h m =
     let e = ap (ones_below (bit w)) (double l) ∙ ones_shr w (2 ^ l) (2 ^ l) in omega arith
@@ -183,7 +183,7 @@ pub count_before_next : (cs : List ℕ) (i : ℕ) → count_before cs (i + 1) �
 unfolding count_before
 count_before_next cs i = ap (count_before cs) (add-one i)
 
--- one read more, and at most half the gap
+-- one more read at least halves the gap
 pub halving : (o a b g h n : ℕ) → b ≡ a + 1 → o ≤ a → 2 ^ (a - o) * g ≤ n → 0 < g → 2 * h ≤ g → (2 ^ (b - o) * h ≤ n) × (2 ^ (b - o) ≤ 2 * n + 1)
 halving o a b g h n e m s p q =
     let x : ℕ = a - o in
@@ -193,7 +193,7 @@ halving o a b g h n e m s p q =
     let r : 2 ^ (b - o) * h ≡ 2 ^ x * (2 * h) = ap (λ (y : ℕ). y * h) d ∙ (omega arith) in
     (omega arith, omega arith)
 
--- a turn of the halving that goes on in the upper half
+-- one step of halving, which continues in the upper half
 pub record Halved (word p r k n h low rank : ℕ) : Type 0 where
   pub rest : r / 2 ^ h ≡ word / 2 ^ (p + h)
   pub left : k - low < ones_below (bit (r / 2 ^ h)) (2 ^ (n - 1))
@@ -215,20 +215,7 @@ halve_up word p r k n h low rank z er hk eb eh el m w =
       within = omega arith;
     }
 
--- ---- binary digits
-
-pow_le : (i j : ℕ) → i ≤ j → 2 ^ i ≤ 2 ^ j
-pow_le i j h = ⊎_elim (λ (p : i < j). let l = pow_below i j p in omega arith) (λ (p : j ≤ i). let e : i ≡ j = omega arith in let d = ap (λ (x : ℕ). 2 ^ x) e in omega arith) (cases_lt i j)
-
-pub digits_from : (r n : ℕ) → n < 2 ^ 64 → 2 ^ r ≤ 2 * n + 1 → r ≤ digits n
-digits_from r n h l =
-    let m = leading_length 64 n h in
-    let d : 2 ^ (m.0 + 1) ≡ 2 ^ m.0 + 2 ^ m.0 = double m.0 in
-    let below : n < 2 ^ m.0 = m.2 in
-    let c : r ≤ m.0 = ⊎_elim (λ (p : m.0 < r). let q : 2 ^ (m.0 + 1) ≤ 2 ^ r = pow_le (m.0 + 1) r (omega arith) in absurd (omega arith)) (λ (p : r ≤ m.0). p) (cases_lt m.0 r) in
-    omega (arith, m.1)
-
--- ---- what select finds
+-- ---- results of select
 
 pub ones_below_mono : (f : ℕ → Bool) (m n : ℕ) → m ≤ n → ones_below f m ≤ ones_below f n
 ones_below_mono f m n h =
@@ -236,7 +223,7 @@ ones_below_mono f m n h =
     let s = sym (ap (ones_below f) e) ∙ ones_below_add f (λ (j : ℕ). f (m + j)) m (n - m) (λ j l. refl) in
     omega arith
 
--- no count is less than the one before
+-- no count is less than the previous one
 pub counts_rise : (ws cs : List ℕ) → CountWords ws cs → (i : ℕ) → i + 1 < length cs → slice_index cs i ≤ slice_index cs (i + 1)
 counts_rise ws cs exact i h =
     let a : slice_index cs i ≡ ones_below (bit_in ws) (1024 * (i + 1)) = sym (count_before_next cs i) ∙ count_before_is ws cs (i + 1) exact (omega arith) in
@@ -244,7 +231,7 @@ counts_rise ws cs exact i h =
     let m = ones_below_mono (bit_in ws) (1024 * (i + 1)) (1024 * (i + 1 + 1)) (omega arith) in
     omega arith
 
--- the bit was found in word i
+-- the bit is in word i
 pub found_in : (ws : List ℕ) (i w p sum rank : ℕ) → w ≡ slice_index ws i → p < 64 → bit w p ≡ true → ones_below (bit w) p ≡ rank - sum → sum ≤ rank → sum ≡ ones_below (bit_in ws) (64 * i) → (bit_in ws (64 * i + p) ≡ true) × (ones_below (bit_in ws) (64 * i + p) ≡ rank)
 found_in ws i w p sum rank e l b o le s =
     let c : ones_below (bit (slice_index ws i)) p ≡ rank - sum = sym (ap (λ (x : ℕ). ones_below (bit x) p) e) ∙ o in

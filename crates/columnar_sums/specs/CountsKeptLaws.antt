@@ -1,4 +1,4 @@
--- Counts of a list that grows or is cut, and places.
+-- Counts of bits that are appended or truncated, and positions of set bits.
 use Rattle.std.proofs.Common.{◌≡◌, ℕ, zero, suc, ◌+◌, ◌*◌, ◌/◌, ◌%◌, ◌<◌, ◌≤◌, Bool, true, false, cond, List, [], ◌∷◌, ◌++◌, length, take, refl, sym, ap, ◌∙◌, subst, ⊎_elim, arith, Option, Some, None}
 use Rattle.std.specs.Prelude.{count_by, slice_index_or, option_map, IfSome, IfNone, IsNone}
 use Rattle.std.proofs.lemmas.List.{take-append-le, take_at, length_push, get_or_append_left, get_or_push, take-take, get_or-take, length-take-le}
@@ -62,7 +62,7 @@ pub record IsFound (b : List Bool) (k p : ℕ) : Type 0 where
   pub set : slice_index_or b p false ≡ true
   pub before : ones b p ≡ k
 
--- the same one place on
+-- the position moves by one
 after_false : (b : List Bool) (k q p : ℕ) → IsFound b k q → suc q ≡ p → IsFound (false ∷ b) k p
 after_false b k q p h e =
     subst (λ (x : ℕ). IsFound (false ∷ b) k x) e (record { within = let l = h.within in omega arith; set = h.set; before = ones_false b q ∙ h.before })
@@ -75,7 +75,7 @@ moved : (P : ℕ → Type 0) (Q : ℕ → Type 0) (o : Option ℕ) (p : ℕ) →
 moved P Q None p h f e = cc e
 moved P Q (Some q) p h f e = f q (h q refl) (cc e)
 
--- a place is where a true stands with k before it
+-- at a position there is a set bit, with k set bits before it
 pub place_found : (b : List Bool) (k p : ℕ) → place b k ≡ Some p → IsFound b k p
 unfolding place
 place_found [] k p e = cc e
@@ -88,7 +88,7 @@ place_found (true ∷ b) (suc k) p e = moved (IsFound b k) (IsFound (true ∷ b)
 pub place_within : (b : List Bool) (k p : ℕ) → place b k ≡ Some p → p < length b
 place_within b k p e = (place_found b k p e).within
 
--- no place: at most k are set
+-- there is no position, so at most k bits are set
 none_of : (o : Option ℕ) → option_map suc o ≡ None → o ≡ None
 none_of None h = refl
 none_of (Some x) h = cc
@@ -105,7 +105,7 @@ place_past (true ∷ b) (suc k) e =
     let r : suc (ones b (length b)) ≤ suc k = omega arith in
     subst (λ (x : ℕ). x ≤ suc k) (sym (ones_true b (length b))) r
 
--- what a place that was found tells
+-- the facts about a position that was found
 pub found_set : (b : List Bool) (k : ℕ) (o : Option ℕ) → o ≡ place b k → IfSome o (λ q. (slice_index_or b q false ≡ true) × (ones b q ≡ k))
 found_set b k None e = tt
 found_set b k (Some q) e = let f = place_found b k q (sym e) in (f.set, f.before)

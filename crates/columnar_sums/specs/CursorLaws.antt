@@ -1,4 +1,4 @@
--- What a cursor keeps.
+-- The invariant of a cursor.
 use Rattle.std.proofs.Common.{◌≡◌, ℕ, zero, suc, ◌+◌, ◌-◌, ◌*◌, ◌/◌, ◌^◌, ◌<◌, ◌≤◌, max, Bool, true, false, cond, List, length, refl, sym, ap, ◌∙◌, ⊎_elim, arith}
 use Rattle.std.specs.Prelude.{slice_index_or, Some}
 use Rattle.std.proofs.lemmas.Bool.{cases_lt}
@@ -29,7 +29,7 @@ stands_first {c} {a} {b} {ws} {i} {r} {p} s e h z y = record {
   rank = sym (ap (ones (bits_in a b)) z ∙ ones_zero (bits_in a b));
 }
 
--- the words that are asked for
+-- the words that are read
 pub stands_words : {c a b ws : List ℕ} {i r p k : ℕ} → CursorStands c a b i r p k → ws ≡ bit_words a b → IsAt ws i r p × (length ws ≤ 2 ^ 58) × (bit_in ws (64 * length ws - 1) ≡ false) × (length ws ≡ length (bits_in a b) / 64 + 1)
 stands_words s e = rw e (s.at, words_few (bools_of s), last_clear (bools_of s), words_length (bools_of s))
 
@@ -100,7 +100,7 @@ ones_up_by b p (suc n) l =
 ones_up : (b : List Bool) (p q : ℕ) → p ≤ q → q ≤ length b → ones b p ≤ ones b q
 ones_up b p q h l = let e : p + (q - p) ≡ q = omega arith in rw e at (ones_up_by b p (q - p) (omega arith))
 
--- a set bit before which at least as many are set as before the cursor does not stand before it
+-- a set bit with at least as many set bits before it as before the cursor is not before the cursor
 pub not_before : (b : List Bool) (p q k : ℕ) → place b k ≡ Some q → ones b p ≤ k → p ≤ length b → p ≤ q
 not_before b p q k e l m =
     let f = place_found b k q e in
@@ -112,7 +112,7 @@ not_before b p q k e l m =
     (λ (h : p ≤ q). h)
     (cases_lt q p)
 
--- a place that was found stands not before the cursor
+-- a position that was found is not before the cursor
 pub stands_place : {c a b : List ℕ} {i r p k : ℕ} (n q : ℕ) → CursorStands c a b i r p k → Some q ≡ place (bits_in a b) n → ones (bits_in a b) p ≤ n → (q < length (bits_in a b)) × (p ≤ q) × (length (bits_in a b) < 2 ^ 64)
 stands_place {c} {a} {b} {i} {r} {p} {k} n q s e l =
     ((place_found (bits_in a b) n q (sym e)).within, not_before (bits_in a b) p q n (sym e) l s.inside, omega (arith, bits_length a b, (bools_of s).short))

@@ -1,4 +1,4 @@
--- Where a cursor stands.
+-- The state of a cursor.
 use Rattle.std.proofs.Common.{◌≡◌, ℕ, ◌*◌, ◌≤◌, List, length}
 use Rattle.columnar_core.specs.Format.{slice, both, IsSound}
 use Rattle.columnar_core.specs.WordViews.{bit_words}
@@ -6,7 +6,7 @@ use Rattle.columnar_bits.specs.BoolColumns.{bits_in}
 use Rattle.columnar_sums.specs.Counting.{ones}
 use Rattle.columnar_sums.specs.RankColumns.{ranks_format, IsAt}
 
--- where a cursor over the counts c, words a and tail b stands
+-- the state of a cursor over the counts c, words a and tail b
 pub record CursorStands (c a b : List ℕ) (index rest pos count : ℕ) : Type 0 where
   pub ranked : IsSound ranks_format (both (slice c) (both (slice a) (slice b)))
   pub inside : pos ≤ length (bits_in a b)

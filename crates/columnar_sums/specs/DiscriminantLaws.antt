@@ -28,7 +28,7 @@ use Rattle.columnar_sums.specs.RankLaws.{same_numbers, numbers_same}
 use Rattle.columnar_sums.specs.Discriminants.{times, earlier, is_mixed, has_form, variants_in, variants_of, variant_rows, form_test, form_lengths, discriminant_format}
 use Rattle.columnar_base.specs.Elements.{bytes_format}
 
--- how often one is among others
+-- how often a variant occurs
 
 pub times-append : (v : ℕ) (xs ys : List ℕ) → times v (xs ++ ys) ≡ times v xs + times v ys
 times-append v xs ys = sum_by-append (λ x. cond (nat_eq v x) 1 0) xs ys
@@ -53,7 +53,7 @@ pub times_absent : (v k n : ℕ) → (v ≡ k → ⊥) → times v (replicate n 
 times_absent v k zero h = refl
 times_absent v k (suc n) h = times_other v k (replicate n k) h ∙ times_absent v k n h
 
--- as often as there are any: all are equal to it
+-- as often as there are rows: all are equal to it
 pub times_all : (v : ℕ) (xs : List ℕ) → times v xs ≡ length xs → xs ≡ replicate (length xs) v
 times_all v [] h = refl
 times_all v (x ∷ xs) h = ⊎_elim
@@ -96,7 +96,7 @@ pub same_replicate : (k n : ℕ) → is_mixed (replicate n k) ≡ false
 same_replicate k zero = refl
 same_replicate k (suc n) = same_from k (replicate n k) (times-replicate k n ∙ sym (length-replicate n k))
 
--- where all are equal, the last one is equal to those before it
+-- if all are equal, the last one is equal to those before it
 pub same_last : (xs : List ℕ) (k : ℕ) → is_mixed (xs ++ k ∷ []) ≡ false → times k xs ≡ length xs
 same_last [] k h = refl
 same_last (v ∷ vs) k h =
@@ -137,7 +137,7 @@ earlier-get i before [] v h = cc
 earlier-get zero before (x ∷ xs) v h = let e : x ≡ v = cc in rw (e, append-nil before) refl
 earlier-get (suc i) before (x ∷ xs) v h = earlier-get i (before ++ x ∷ []) xs v h ∙ ap (λ (b : List ℕ). Some (times v b)) (append_assoc before (x ∷ []) (take i xs))
 
--- those of one variant are counted from 0 on
+-- equal variants are numbered from 0
 pub earlier-replicate : (k n m : ℕ) → earlier (replicate m k) (replicate n k) ≡ range_with_len m n
 earlier-replicate k zero m = refl
 earlier-replicate k (suc n) m =
@@ -197,7 +197,7 @@ pub has_mixed : (vs : List ℕ) → is_mixed vs ≡ true → has_form vs (earlie
 has_mixed [] h = cc
 has_mixed (v ∷ vs) h = and_from _ _ h (numbers_same (earlier [] (v ∷ vs)))
 
--- what the soundness of variants and offsets is made of
+-- what the soundness of variants and offsets consists of
 pub record SoundForms (vs bs : List ℕ) : Type 0 where
   pub whole : length bs % 8 ≡ 0
   pub form : Form vs (words_in bs)
@@ -223,7 +223,7 @@ forms_sound {vs} {bs} w h =
       own = h;
     })
 
--- a sound content is of two slices
+-- a sound content has two slices
 pub record FormSlices (c : Content) : Type 0 where
   pub variants : List ℕ
   pub offsets : List ℕ
@@ -280,7 +280,7 @@ discriminant_lawful = record {
 
 -- changes
 
--- one row more of a variant
+-- one more row
 pub forms_took : {old new : Content} (v offset : ℕ) → IsSound discriminant_format new → variants_of new ≡ variants_of old ++ v ∷ [] → offset ≡ times v (variants_of old) → Took discriminant_format old new (tuple (unsigned_row w8 v) (word_row offset) ∷ [])
 forms_took {old} {new} v offset s e o =
     let ks : List ℕ = variants_of old in
@@ -328,7 +328,7 @@ forms_cut {old} {new} n s l e =
     take_twice [] (suc n) (suc i) k = refl
     take_twice (x ∷ ks) (suc n) (suc i) k = ap (λ t. x ∷ t) (take_twice ks n i (omega arith))
 
--- there are as many rows as can be
+-- there is the maximum number of rows
 pub forms_refused_length : {c : Content} (r : Row) → IsSound discriminant_format c → length (discriminant_format.rows c) ≡ 2 ^ 64 - 1 → Refused discriminant_format c c (r ∷ []) Length
 forms_refused_length {c} r s n = record { stayed = unchanged s; cause = lt-ltb (2 ^ 64 - 1) (length (discriminant_format.rows c) + 1) (omega arith) }
 

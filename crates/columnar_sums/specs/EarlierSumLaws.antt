@@ -1,4 +1,4 @@
--- What offsets in unary, options and results that are made of an earlier form keep to.
+-- Offsets in unary, options and results that are made from an earlier form.
 use Rattle.std.proofs.Common.{◌≡◌, ◌+◌, ◌<◌, true, ◌||◌, List, [], length, refl, sym, ◌∙◌, ap, arith, ⊎_elim, inl, inr}
 use Rattle.std.proofs.lemmas.List.{nil_from_length}
 use Rattle.std.proofs.lemmas.Bool.{or_left, or_right}
@@ -66,7 +66,7 @@ results_made a' a b' b {x} {y'} {y} {z'} {z} s g h =
       rows = rw (g.rows, h.rows) refl;
     }
 
--- results without rows have none in their parts
+-- results without rows have parts without rows
 no_results : (a b : Format) {x y z : Content} → IsSound (results_format a b) (both x (both y z)) → weave_results (ranks_bits x) (a.rows y) (b.rows z) ≡ [] → (a.rows y ≡ []) × (b.rows z ≡ [])
 no_results a b {x} {y} {z} s e =
     let p = ap oks e in

@@ -1,4 +1,4 @@
--- What the parts of a column of variants tell, and what they are after a change.
+-- The facts that the parts of a column of variants imply, and the parts after a change.
 use Rattle.std.proofs.Common.{◌≡◌, ℕ, zero, suc, ◌+◌, ◌-◌, ◌*◌, ◌%◌, ◌^◌, ◌<◌, ◌≤◌, Bool, true, false, ◌&&◌, List, [], ◌∷◌, ◌++◌, length, take, drop, map, replicate, refl, sym, ◌∙◌, ap, arith, ⊎_elim}
 use Rattle.columnar_core.specs.StoreLaws.{drop_at}
 use Rattle.std.specs.Prelude.{slice_get, slice_index, slice_index_or, slice_set, Option, Some, None, IfSome, nat_eq, nat_lt}
@@ -44,7 +44,7 @@ is_common_form {vs} {bs} s n m = elim_form s.form
         record { least = rw (t.0) l; most = rw (t.0) k; some = rw (t.1) o; all = rw (p, q, t.0, t.1) refl }
     elim_form (mixed v rest p k q) = absurd (omega (arith, n, ap length p))
 
--- else the variants stand as they are
+-- otherwise the variants are the stored ones
 pub stand_alone : {vs bs : List ℕ} → SoundForms vs bs → (length vs ≡ 0 → length bs ≡ 16 → ⊥) → variants_in vs (words_in bs) ≡ vs
 stand_alone {vs} {bs} s h = elim_form s.form
   where
@@ -55,7 +55,7 @@ stand_alone {vs} {bs} s h = elim_form s.form
         absurd (h (ap length p) (omega (arith, w, length-words_in bs, ap length q)))
     elim_form (mixed v rest p k q) = rw p refl
 
--- there are variants: two different ones, each with its number of earlier ones
+-- there are variants: at least two differ, and each has its number of earlier ones
 pub record IsNumbered (vs bs : List ℕ) : Type 0 where
   pub all : variants_in vs (words_in bs) ≡ vs
   pub mixed : is_mixed vs ≡ true
@@ -69,7 +69,7 @@ is_numbered_form {vs} {bs} s n = elim_form s.form
     elim_form (common tag count p q l k o) = absurd (omega (arith, n, ap length p))
     elim_form (mixed v rest p k q) = record { all = rw p refl; mixed = rw p k; numbers = rw p q }
 
--- how many rows there are
+-- the number of rows
 pub count_common : {vs bs : List ℕ} → SoundForms vs bs → length vs ≡ 0 → length bs ≡ 16 → slice_index (words_in bs) 1 ≡ length (variants_in vs (words_in bs))
 count_common {vs} {bs} s n m =
     let c = is_common_form s n m in
@@ -99,7 +99,7 @@ sole_none {vs} {bs} s h = elim_form s.form
         absurd (h (ap length p) (omega (arith, w, length-words_in bs, ap length q)))
     elim_form (mixed v rest p k q) = rw p (sole_mixed (v ∷ rest) k)
 
--- there are variants exactly where there are two different ones
+-- there are stored variants if and only if two rows differ
 pub mixed_where : {vs bs : List ℕ} → SoundForms vs bs → nat_lt 0 (length vs) ≡ is_mixed (variants_in vs (words_in bs))
 mixed_where {vs} {bs} s = elim_form s.form
   where
@@ -122,7 +122,7 @@ get_of_many zero k i l = absurd (omega arith)
 get_of_many (suc n) k zero l = refl
 get_of_many (suc n) k (suc i) l = get_of_many n k i (omega arith)
 
--- row i is of the variant v, and m rows before it are
+-- row i has variant v, and m earlier rows have it
 pub record IsRowOf (ks : List ℕ) (i v m : ℕ) : Type 0 where
   pub variant : slice_get ks i ≡ Some v
   pub before : m ≡ times v (take i ks)
@@ -151,7 +151,7 @@ numbered_row {vs} {bs} i s n l =
     let e : word bs i ≡ times (slice_index vs i) (take i vs) = sym (word_is bs i w.1) ∙ (ap (λ ws. slice_index ws i) c.numbers ∙ get_or_from_slice_get (earlier [] vs) i (times (slice_index vs i) (take i vs)) 0 (earlier-get i [] vs (slice_index vs i) g)) in
     rw c.all (record { variant = g; before = e })
 
--- what is kept where all rows are of one variant
+-- the stored parts if all rows have one variant
 pub record IsSoleForm (vs bs : List ℕ) (v : ℕ) : Type 0 where
   pub next : times v (variants_in vs (words_in bs)) ≡ length (variants_in vs (words_in bs))
   pub bare : vs ≡ []
@@ -185,11 +185,11 @@ forms_no_variants = let e : words_in [] ≡ [] = words_back [] in rw e refl
 pub forms_no_rows : discriminant_format.rows (owned_forms [] []) ≡ []
 forms_no_rows = ap (variant_rows []) forms_no_variants
 
--- the bytes of words are whole
+-- the bytes of words are whole words
 whole_words : (os : List ℕ) → length (le_bytes os) % 8 ≡ 0
 whole_words os = omega (arith, length-le_bytes os)
 
--- A column of its own that holds these is well formed, and has these variants.
+-- An owned column of these parts is well-formed, and has these variants.
 pub record Holds (vs os ks : List ℕ) : Type 0 where
   pub sound : IsSound discriminant_format (owned_forms vs os)
   pub variants : variants_of (owned_forms vs os) ≡ ks
@@ -204,7 +204,7 @@ holds_mixed (v ∷ vs) os e m = record { sound = forms_sound (whole_words os) (r
 words_of_two : (a b : ℕ) → a < 2 ^ 64 → b < 2 ^ 64 → words_in (le_bytes (a ∷ b ∷ [])) ≡ a ∷ b ∷ []
 words_of_two a b p q = words_back (a ∷ b ∷ []) ∙ ap₂ (λ (x y : ℕ). x ∷ y ∷ []) (word_back a p) (word_back b q)
 
--- all rows, which are of one variant, and one of another
+-- n rows of one variant, and one of another
 pub holds_two : (k v n : ℕ) → 1 ≤ n → n < 2 ^ 64 → (k ≡ v → ⊥) → Holds (replicate n k ++ v ∷ []) (range_with_len 0 n ++ 0 ∷ []) (replicate n k ++ v ∷ [])
 holds_two k v n l m h =
     let e : earlier [] (replicate n k ++ v ∷ []) ≡ range_with_len 0 n ++ 0 ∷ [] = earlier-append [] (replicate n k) (v ∷ []) ∙ ap₂ (λ (xs : List ℕ) (x : ℕ). xs ++ x ∷ []) (earlier-replicate k n 0) (times_absent v k n (λ q. h (sym q))) in
@@ -239,7 +239,7 @@ two_words_of {vs} {os} s z n =
       all = c.all ∙ ap (λ (k : ℕ). replicate k (word (le_bytes os) 0 - 1)) (sym m);
     }
 
--- the count of the two words set
+-- the two words with the count replaced
 words_counted : (os : List ℕ) (n : ℕ) → length os ≡ 2 → n < 2 ^ 64 → words_in (le_bytes (slice_set os 1 n)) ≡ word (le_bytes os) 0 ∷ n ∷ []
 words_counted [] n l m = absurd (omega arith)
 words_counted (a ∷ []) n l m = absurd (omega arith)
@@ -276,7 +276,7 @@ holds_first vs os os' v s z n l e =
         absurd (omega (arith, n, ap length g, length-replicate count (tag - 1), c))
     none_held (mixed u rest a b c) = absurd (omega (arith, z, ap length a))
 
--- one row more, where the variants are written out
+-- one more row, if the variants are stored for each row
 pub holds_more : (vs os : List ℕ) (v o : ℕ) → IsSound discriminant_format (owned_forms vs os) → 0 < length vs → o < 2 ^ 64 → o ≡ times v (variants_of (owned_forms vs os)) → Holds (vs ++ v ∷ []) (os ++ o ∷ []) (variants_of (owned_forms vs os) ++ v ∷ [])
 holds_more vs os v o s n l q =
     let c = is_numbered_form (forms_parts s) n in
@@ -285,7 +285,7 @@ holds_more vs os v o s n l q =
     let w : words_in (le_bytes (os ++ o ∷ [])) ≡ earlier [] (vs ++ v ∷ []) = words_pushed os o l ∙ (ap₂ (λ (ws : List ℕ) (x : ℕ). ws ++ x ∷ []) c.numbers t ∙ sym (earlier-append [] vs (v ∷ []))) in
     rw e (holds_mixed (vs ++ v ∷ []) (os ++ o ∷ []) w (mixed_more vs v c.mixed))
 
--- one more of the variant of all rows
+-- one more row of the variant of all rows
 pub holds_same : (vs os : List ℕ) (v rows : ℕ) → IsSound discriminant_format (owned_forms vs os) → length vs ≡ 0 → rows ≡ length (variants_of (owned_forms vs os)) → 0 < rows → rows + 1 < 2 ^ 64 → v ≡ word (le_bytes os) 0 - 1 → Holds vs (slice_set os 1 (rows + 1)) (variants_of (owned_forms vs os) ++ v ∷ [])
 holds_same vs os v rows s z e n l q =
     let t = two_words_of s z (omega arith) in
@@ -293,7 +293,7 @@ holds_same vs os v rows s z e n l q =
     let f : vs ≡ [] = t.none in
     rw (a, f, q, replicate_more rows (word (le_bytes os) 0 - 1)) (holds_counted os (rows + 1) t.two (omega arith) l t.least t.most)
 
--- the first of another variant
+-- the first row of another variant
 pub holds_other : (vs os : List ℕ) (kind v rows : ℕ) → IsSound discriminant_format (owned_forms vs os) → length vs ≡ 0 → rows ≡ length (variants_of (owned_forms vs os)) → 0 < rows → rows < 2 ^ 64 → kind ≡ word (le_bytes os) 0 - 1 → (kind ≡ v → ⊥) → Holds (replicate rows kind ++ v ∷ []) (range_with_len 0 rows ++ 0 ∷ []) (variants_of (owned_forms vs os) ++ v ∷ [])
 holds_other vs os kind v rows s z e n l q h =
     let t = two_words_of s z (omega arith) in
@@ -303,14 +303,14 @@ holds_other vs os kind v rows s z e n l q h =
 pub took_held : (vs os vs' os' : List ℕ) (v o : ℕ) → o ≡ times v (variants_of (owned_forms vs os)) → Holds vs' os' (variants_of (owned_forms vs os) ++ v ∷ []) → Took discriminant_format (owned_forms vs os) (owned_forms vs' os') (tuple (unsigned_row w8 v) (word_row o) ∷ [])
 took_held vs os vs' os' v o q h = forms_took v o h.sound h.variants q
 
--- a row of the one variant finds it
+-- the variant of all rows, from its stored word
 pub sole_of_two : (vs os : List ℕ) (v : ℕ) → IsSound discriminant_format (owned_forms vs os) → length vs ≡ 0 → 0 < length (variants_of (owned_forms vs os)) → sole (variants_of (owned_forms vs os)) ≡ Some v → word (le_bytes os) 0 - 1 ≡ v
 sole_of_two vs os v s z n h =
     let p = forms_parts s in
     let e = sole_common p z (common_size 0 p z (omega (arith, n, length-variant_rows (variants_of (owned_forms vs os))))) in
     same_Some (word (le_bytes os) 0 - 1) v (e ∙ h)
 
--- as many offsets as variants, two at least
+-- as many offsets as variants, and at least two
 pub long_offsets : (vs os : List ℕ) → IsSound discriminant_format (owned_forms vs os) → 0 < length vs → (length os ≡ length vs) × (2 ≤ length os)
 long_offsets vs os s z =
     let c = is_numbered_form (forms_parts s) z in
@@ -323,11 +323,11 @@ long_offsets vs os s z =
 
 -- ---- cuts
 
--- none left
+-- no rows remain
 pub holds_none : (ks : List ℕ) (n : ℕ) → n ≡ 0 → Holds [] [] (take n ks)
 holds_none ks n z = rw z (record { sound = forms_empty; variants = forms_no_variants })
 
--- of one variant, as before
+-- one variant, as before
 pub holds_fewer : (vs os : List ℕ) (n : ℕ) → IsSound discriminant_format (owned_forms vs os) → length vs ≡ 0 → 1 ≤ n → n < 2 ^ 64 → n ≤ length (variants_of (owned_forms vs os)) → Holds vs (slice_set os 1 n) (take n (variants_of (owned_forms vs os)))
 holds_fewer vs os n s z p l m =
     let t = two_words_of s z (omega arith) in
@@ -335,7 +335,7 @@ holds_fewer vs os n s z p l m =
     let f : vs ≡ [] = t.none in
     rw (a, f) (holds_counted os n t.two p l t.least t.most)
 
--- what stands at the last of the first n rows
+-- the offset of the last of the first n rows
 last_number : (vs os : List ℕ) (n : ℕ) → IsSound discriminant_format (owned_forms vs os) → 0 < length vs → 1 ≤ n → n ≤ length vs → word (le_bytes os) (n - 1) ≡ times (slice_index vs (n - 1)) (take (n - 1) vs)
 last_number vs os n s z p l =
     let c = is_numbered_form (forms_parts s) z in
@@ -347,7 +347,7 @@ front_and_last vs n p l =
     let e : suc (n - 1) ≡ n = omega arith in
     ap (λ (k : ℕ). take k vs) (sym e) ∙ take-suc_get (n - 1) vs (slice_index vs (n - 1)) (slice_get-get_or vs (n - 1) 0 (omega arith))
 
--- of one variant, though there were others
+-- one variant remains, of several
 pub holds_one_left : (vs os os' : List ℕ) (n kind : ℕ) → IsSound discriminant_format (owned_forms vs os) → 0 < length vs → 1 ≤ n → n < 2 ^ 64 → n ≤ length vs → kind < 256 → kind ≡ slice_index vs (n - 1) → word (le_bytes os) (n - 1) ≡ n - 1 → os' ≡ take 2 (slice_set (slice_set os 0 (kind + 1)) 1 n) → Holds [] os' (take n (variants_of (owned_forms vs os)))
 holds_one_left vs os os' n kind s z p l m k q h e =
     let c = is_numbered_form (forms_parts s) z in
@@ -366,7 +366,7 @@ holds_one_left vs os os' n kind s z p l m k q h e =
     two_set (i ∷ []) x y b = absurd (omega arith)
     two_set (i ∷ j ∷ os) x y b = refl
 
--- of two variants still
+-- at least two variants remain
 pub holds_front : (vs os : List ℕ) (n : ℕ) → IsSound discriminant_format (owned_forms vs os) → 0 < length vs → 1 ≤ n → n ≤ length vs → (word (le_bytes os) (n - 1) ≡ n - 1 → ⊥) → Holds (take n vs) (take n os) (take n (variants_of (owned_forms vs os)))
 holds_front vs os n s z p m h =
     let c = is_numbered_form (forms_parts s) z in
@@ -383,7 +383,7 @@ holds_front vs os n s z p m h =
 pub cut_held : (vs os vs' os' : List ℕ) (n : ℕ) → n ≤ length (variant_rows [] (variants_of (owned_forms vs os))) → Holds vs' os' (take n (variants_of (owned_forms vs os))) → WasCut discriminant_format (owned_forms vs os) (owned_forms vs' os') n
 cut_held vs os vs' os' n l h = forms_cut n h.sound (omega (arith, l, length-variant_rows (variants_of (owned_forms vs os)))) h.variants
 
--- what is left of the first n rows, where these are of one variant
+-- the first n rows, if they have one variant
 pub cut_to_one : (vs os vs' os' : List ℕ) (n : ℕ) → n ≤ length (variant_rows [] (variants_of (owned_forms vs os))) → Holds vs' os' (take n (variants_of (owned_forms vs os))) → IfSome (sole (take n (variants_of (owned_forms vs os)))) (λ v. (vs' ≡ []) × (words_in (le_bytes os') ≡ (v + 1) ∷ n ∷ []))
 cut_to_one vs os vs' os' n l h = if_some (sole (take n ks)) (λ v e.
     let f = sole_form v (forms_parts h.sound) (ap sole h.variants ∙ e) in
@@ -398,7 +398,7 @@ cut_to_one vs os vs' os' n l h = if_some (sole (take n ks)) (λ v e.
 
 -- tests
 
--- how often each variant is among the first
+-- how often each variant occurs among the first rows
 abbrev pub AreCounted : List ℕ → List ℕ → ℕ → Type 0
 AreCounted vs counts at = (k : ℕ) → k < 256 → slice_index counts k ≡ times k (take at vs)
 
@@ -458,7 +458,7 @@ range_from s (suc n) =
 pub range_more : (n : ℕ) → range_with_len 0 (n + 1) ≡ range_with_len 0 n ++ n ∷ []
 range_more n = range_from 0 n ∙ ap (λ (k : ℕ). range_with_len 0 n ++ k ∷ []) (let e : 0 + n ≡ n = omega arith in e)
 
--- another number of offsets than of variants
+-- the numbers of offsets and of variants differ
 pub not_level : (vs os : List ℕ) → 0 < length vs → (length os ≡ length vs → ⊥) → has_form vs os ≡ false
 not_level [] os l h = absurd (omega arith)
 not_level (v ∷ vs) os l h = and_right (is_mixed (v ∷ vs)) (numbers_eq os (earlier [] (v ∷ vs))) (unequal (numbers_eq os (earlier [] (v ∷ vs))) refl)

@@ -1,4 +1,4 @@
--- Counting by halves of chunks, eight words each.
+-- Counting by half chunks of eight words.
 use Rattle.std.proofs.Common.{◌≡◌, ℕ, zero, suc, ◌+◌, ◌-◌, ◌*◌, ◌/◌, ◌%◌, ◌^◌, ◌<◌, ◌≤◌, Bool, List, length, refl, sym, ap, ◌∙◌, ⊎_elim, arith}
 use Rattle.std.specs.Prelude.{slice_index, slice_set, count_ones}
 use Rattle.std.proofs.lemmas.List.{get_or-set_other}
@@ -12,7 +12,8 @@ use Rattle.columnar_sums.specs.CountLaws.{halves_start, ones_below_le}
 pub ones_of_word : (w : ℕ) → w < 2 ^ 64 → count_ones w ≤ 64
 ones_of_word w h = let e = halves_start w h in let l = ones_below_le (bit w) (2 ^ 6) in omega arith
 
--- the nearest count, and of the eight words of a half of its chunk how many are set in all and before word `block`
+-- from the nearest count, the numbers of set bits of the eight words of a half chunk: all, and those before word
+-- `block`
 pub half_counted : (f : ℕ → Bool) (block all below counted i : ℕ) → i ≡ 8 → counted ≡ ones_below f (1024 * ((block / 8 + 1) / 2)) → ones_below f (64 * (block - block % 8 + i)) ≡ ones_below f (64 * (block - block % 8)) + all → ones_below f (64 * (block - block % 8 + block % 8)) ≡ ones_below f (64 * (block - block % 8)) + below → (all * (block / 8 % 2) ≤ counted) × (counted - all * (block / 8 % 2) + below ≡ ones_below f (64 * block))
 half_counted f block all below counted i n c a b =
     let p : block - block % 8 + block % 8 ≡ block = omega arith in
@@ -30,7 +31,7 @@ half_counted f block all below counted i n c a b =
         (omega arith, omega arith)
     go d (suc (suc n)) e = absurd (omega arith)
 
--- one word more, of which it is known how many stand set before it
+-- one more word, with the number of set bits before it
 pub before_more : (f : ℕ → Bool) (first i all : ℕ) (before : List ℕ) → ((j : ℕ) → j < i → ones_below f (64 * (first + j)) ≡ ones_below f (64 * first) + slice_index before j) → i < length before → ones_below f (64 * (first + i)) ≡ ones_below f (64 * first) + all → (j : ℕ) → j < i + 1 → ones_below f (64 * (first + j)) ≡ ones_below f (64 * first) + slice_index (slice_set before i all) j
 before_more f first i all before h l a j k =
     ⊎_elim

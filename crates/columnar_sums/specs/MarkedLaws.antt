@@ -1,4 +1,4 @@
--- A refusal by either part is none of the whole's.
+-- A refusal by either part is a refusal of the whole.
 use Rattle.std.specs.Prelude.{Result, Ok, Err, OnOk}
 
 pub on_ok_both : {T E P Q R : Type 0} (r : Result T E) → (P → Q → R) → OnOk r P → OnOk r Q → OnOk r R

@@ -1,4 +1,4 @@
--- What columns of counted bits, options, results, variants and offsets in unary refuse, their limits deny.
+-- Limits of counted bits, options, results, variants and offsets in unary: they deny what the columns refuse.
 use Rattle.std.proofs.Common.{◌≡◌, ℕ, ◌+◌, Bool, true, ◌||◌, List, [], ◌∷◌, ◌++◌, length, map, refl, sym, ◌∙◌, ap, subst, arith, ◌⊎◌, inl, inr, ⊎_elim, length-append}
 use Rattle.std.specs.Prelude.{◌&&◌}
 use Rattle.std.proofs.lemmas.Bool.{or_cases, or_right, and_parts, and_from, false≢true}
@@ -107,7 +107,7 @@ unaries_denied e c rs s h =
 pub unaries_limited : IsLimited unaries_format unary_limit
 unaries_limited = record { denied = unaries_denied }
 
--- with more rows too
+-- also with more rows
 
 pub among_somes : (rs ss : List Row) → AreAmong rs ss → AreAmong (somes rs) (somes ss)
 among_somes = among_made value_of somes (λ r rs. refl) refl
@@ -134,6 +134,6 @@ results_steady {a} {b} p q = record {
       (λ (i : b e (errs rs)). inr (q.more e (errs rs) (errs ss) (among_errs rs ss h) i)) w)) k;
 }
 
--- what lists over these stand on: their rows are numbers
+-- the precondition of lists over these: their rows are numbers
 pub unaries_numbered : AreNumbers unaries_format
 unaries_numbered = (unary_bounds ranks_format (omega arith)).are_numbers

@@ -22,13 +22,13 @@ use Rattle.columnar_sums.specs.Marked.{NeitherTook}
 use Rattle.columnar_sums.specs.CountLaws.{ones_zero, ones_true, ones_false, ones_le}
 use Rattle.columnar_sums.specs.WeaveLaws.{ones_nil, ones_first, ones_cut, ones_grows, ones_most, ones_range, ones_both, ones_taken, ones_before, bit_of_row, ones_of_true, ones_of_false, length-weave, weave-append, weave-take, weave-range, weave_some, weave_none, somes-append, somes-weave, weave_alike}
 
--- what the soundness of options is made of
+-- what the soundness of options consists of
 pub record SoundOptions (t : Format) (x y : Content) : Type 0 where
   pub bits : IsSound ranks_format x
   pub values : IsSound t y
   pub level : ones (ranks_bits x) (length (ranks_bits x)) ≡ length (t.rows y)
 
--- bits that are counted, and then values
+-- counted bits, then values
 pub options_two : (t : Format) → TwoParts (options_format t) ranks_format t (options_level t) 10
 options_two t = record { count = refl; sizes = refl; aligns = refl; build = λ ss. refl; broken = λ c. refl }
 
@@ -45,7 +45,7 @@ length-options t x y = length-weave (ranks_bits x) (t.rows y)
 pub option_same : (same : Row → Row → Bool) → IsSame same → IsSame (option_alike same)
 option_same same e = same_both (λ r s. row_eq (bare_option r) (bare_option s)) (λ r s. same (inner_of r) (inner_of s)) (same_pulled row_eq bare_option row_eq_same) (same_pulled same inner_of e)
 
--- Options may not take rows where there would be too many bits or the values may not take theirs.
+-- Options refuse rows if there would be too many bits, or if the column of values refuses the values.
 pub options_refuses_more : (t : Format) {x y : Content} → IsSound (options_format t) (both x y) → (e : Excess) (rs : List Row) → refuses_more (options_format t) e (both x y) rs ≡ (past_count e (length (ranks_bits x) + length rs) || refuses_more t e y (somes rs))
 options_refuses_more t {x} {y} s e rs =
     let p = options_parts t s in
@@ -73,7 +73,7 @@ options_more t lt e (slice bs) n rs ss h = h
 options_more t lt e (part l u x) n rs ss h = h
 options_more t lt e (plain ts) n rs ss h = h
 
--- what is alike is kin
+-- rows that represent an item are kin to it
 pub options_related : (alike kin : Row → Row → Bool) → ((r s : Row) → alike r s ≡ true → kin r s ≡ true) → (r s : Row) → option_alike alike r s ≡ true → option_alike kin r s ≡ true
 options_related alike kin e r s h =
     let p = and_parts (row_eq (bare_option r) (bare_option s)) (alike (inner_of r) (inner_of s)) h in
@@ -103,7 +103,7 @@ options_none t {x} {y} s u e f =
 
 -- changes
 
--- What stays the same of the values of the set bits, up to n bits.
+-- The values of the set bits stay the same, up to n bits.
 pub record Follows (t : Format) (b b' : List Bool) (y y' : Content) (n : ℕ) : Type 0 where
   pub extents : (i : ℕ) → i ≤ n → t.extent y' (ones b' i) ≡ t.extent y (ones b i)
   pub limits : (i : ℕ) → i ≤ n → (e : Excess) (rs : List Row) → t.refuses e y' (ones b' i) rs ≡ t.refuses e y (ones b i) rs
@@ -114,7 +114,7 @@ values_keep t b b' n e l g = record {
   limits = λ i h z rs. let m = ones_grows b i n h in rw (e i h) (g.limits (ones b i) (omega arith) z rs);
 }
 
--- what stays the same of the bits' trues and of the values stays the same of the options
+-- if the set bits and the values stay the same, so do the options
 options_keeps : (t : Format) (x x' : Content) {y y' : Content} (n : ℕ) {k : ℕ} → ((i : ℕ) → i ≤ n → ones (ranks_bits x') i ≡ ones (ranks_bits x) i) → ones (ranks_bits x) n ≤ k → Keeps t y y' k → Keeps (options_format t) (both x y) (both x' y') n
 options_keeps t x x' n e l g =
     let f = values_keep t (ranks_bits x) (ranks_bits x') n e l g in
@@ -139,7 +139,7 @@ options_grew t {x} {x'} {y} {y'} cs {vs} s l g h =
       kept = options_keeps t x x' (length (weave (ranks_bits x) (t.rows y))) (λ i k. rw e (ones_first (ranks_bits x) cs i (omega arith))) (rw n (omega (arith, p.level))) h.kept;
     }
 
--- what the options can't hold besides, the old ones could not hold with the added rows
+-- rows that the new options refuse, the old ones refuse after the added rows
 options_adds : (t : Format) {x x' y y' : Content} (cs : List Bool) (vs : List Row) → IsSound (options_format t) (both x y) → IsSound (options_format t) (both x' y') → ranks_bits x' ≡ ranks_bits x ++ cs → ones cs (length cs) ≡ length vs → ((e : Excess) (rs : List Row) → refuses_more t e y' rs ≡ true → refuses_more t e y (vs ++ rs) ≡ true) → (e : Excess) (rs : List Row) → refuses_more (options_format t) e (both x' y') rs ≡ true → refuses_more (options_format t) e (both x y) (weave cs vs ++ rs) ≡ true
 options_adds t {x} {x'} {y} {y'} cs vs s s' b l h e rs k =
     let v : somes (weave cs vs ++ rs) ≡ vs ++ somes rs = somes-append (weave cs vs) rs ∙ ap (λ (u : List Row). u ++ somes rs) (somes-weave cs vs l) in
@@ -190,7 +190,7 @@ options_stayed t {x} {x'} {y} {y'} s g h =
       kept = options_keeps t x x' (length (weave (ranks_bits x) (t.rows y))) (λ i k. rw b refl) (rw n (omega (arith, p.level))) h.kept;
     }
 
--- the bits were cut at n, and the values at the trues before n
+-- the bits were truncated to n, and the values to the set bits before n
 pub options_cut : (t : Format) {x x' y y' : Content} {n : ℕ} → IsSound (options_format t) (both x y) → WasCut ranks_format x x' n → WasCut t y y' (ones (ranks_bits x) n) → n ≤ length (weave (ranks_bits x) (t.rows y)) → WasCut (options_format t) (both x y) (both x' y') n
 options_cut t {x} {x'} {y} {y'} {n} s g h l =
     let p = options_parts t s in
@@ -205,7 +205,7 @@ options_cut t {x} {x'} {y} {y'} {n} s g h l =
       kept = options_keeps t x x' n (λ i q. rw e (ones_cut (ranks_bits x) n i q)) (omega arith) h.kept;
     }
 
--- rows that one of the parts may not take, the options may not take
+-- rows that one part refuses, the options refuse
 refuses_bits : (t : Format) {x y : Content} (cs : List Bool) (vs : List Row) → IsSound (options_format t) (both x y) → (e : Excess) → refuses_more ranks_format e x (map truth cs) ≡ true → refuses_more (options_format t) e (both x y) (weave cs vs) ≡ true
 refuses_bits t {x} {y} cs vs s e h =
     let n : length (map truth (ranks_bits x)) + length (map truth cs) ≡ length (ranks_bits x) + length (weave cs vs) = omega (arith, length-map (ranks_bits x) truth, length-map cs truth, length-weave cs vs) in
@@ -215,7 +215,7 @@ refuses_values : (t : Format) {x y : Content} (cs : List Bool) (vs : List Row) �
 refuses_values t {x} {y} cs vs s l e h =
     options_refuses_more t s e (weave cs vs) ∙ or_right (past_count e (length (ranks_bits x) + length (weave cs vs))) (refuses_more t e y (somes (weave cs vs))) (rw (somes-weave cs vs l) h)
 
--- the values refused, and nothing was done to the bits; or the bits refused, and the values were cut back
+-- the values were refused and the bits unchanged; or the bits were refused and the values truncated back
 pub options_refused_values : (t : Format) {x x' y y' : Content} (cs : List Bool) (vs : List Row) {error : GrowError} → IsSound (options_format t) (both x y) → ones cs (length cs) ≡ length vs → Stayed ranks_format x x' → Refused t y y' vs error → Refused (options_format t) (both x y) (both x' y') (weave cs vs) error
 options_refused_values t {x} {x'} {y} {y'} cs vs {error} s l g h = record {
   stayed = options_stayed t s g h.stayed;
@@ -264,7 +264,7 @@ options_some t x y i v h k = weave_some i (ranks_bits x) (t.rows y) v (bit_of_ro
 pub options_absent : (t : Format) (x y : Content) (i : ℕ) → slice_get (map truth (ranks_bits x)) i ≡ Some (truth false) → slice_get (weave (ranks_bits x) (t.rows y)) i ≡ Some none
 options_absent t x y i h = weave_none i (ranks_bits x) (t.rows y) (bit_of_row (ranks_bits x) i false h)
 
--- the values are those of the rows that have one
+-- the values are the somes of the rows
 pub options_somes : (t : Format) {x y : Content} → IsSound (options_format t) (both x y) → somes (weave (ranks_bits x) (t.rows y)) ≡ t.rows y
 options_somes t {x} {y} s = somes-weave (ranks_bits x) (t.rows y) (options_parts t s).level
 
@@ -275,7 +275,7 @@ all_some (true ∷ b) (v ∷ vs) e l = ap (λ (t : List Row). some v ∷ t) (all
 all_some (true ∷ b) [] e l = absurd (omega arith)
 all_some (false ∷ b) vs e l = absurd (omega (arith, ones_le b (length b), ones_false b (length b)))
 
--- as many values as rows: each row has one; and back
+-- if there are as many values as rows, each row has one; and conversely
 pub options_all : (t : Format) {x y : Content} → IsSound (options_format t) (both x y) → length (map truth (ranks_bits x)) ≡ length (t.rows y) → weave (ranks_bits x) (t.rows y) ≡ map some (t.rows y)
 options_all t {x} {y} s l = all_some (ranks_bits x) (t.rows y) (options_parts t s).level (sym (length-map (ranks_bits x) truth) ∙ l)
 
@@ -290,13 +290,13 @@ options_some_back t {x} {y} s h =
 
 -- ranges
 
--- the values of a range of rows are those between the ranks of its ends
+-- the values of a range of rows lie between the ranks of its ends
 pub options_range : (t : Format) (x y : Content) (start end : ℕ) → start ≤ end → weave (take (end - start) (drop start (ranks_bits x))) (take (ones (ranks_bits x) end - ones (ranks_bits x) start) (drop (ones (ranks_bits x) start) (t.rows y))) ≡ take (end - start) (drop start (weave (ranks_bits x) (t.rows y)))
 options_range t x y start end l =
     let e : start + (end - start) ≡ end = omega arith in
     weave-range (ranks_bits x) (t.rows y) start (end - start) (ones (ranks_bits x) start) (ones (ranks_bits x) end) refl (ap (ones (ranks_bits x)) (sym e))
 
--- there are just as many
+-- their number is right
 pub options_range_level : (t : Format) {x y : Content} (start end : ℕ) → IsSound (options_format t) (both x y) → start ≤ end → end ≤ length (weave (ranks_bits x) (t.rows y)) → ones (take (end - start) (drop start (ranks_bits x))) (length (take (end - start) (drop start (ranks_bits x)))) ≡ length (take (ones (ranks_bits x) end - ones (ranks_bits x) start) (drop (ones (ranks_bits x) start) (t.rows y)))
 options_range_level t {x} {y} start end s l m = ones_range (ranks_bits x) (t.rows y) start end (options_parts t s).level l (options_within t x y end m)
 

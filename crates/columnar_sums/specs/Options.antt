@@ -1,4 +1,4 @@
--- Columns whose rows may be absent: a bit for each row, and the values of the rows that have one.
+-- Columns of options: a bit for each row, and the values of the rows that have one.
 use Rattle.std.specs.Prelude.{ℕ, Bool, true, false, List, [], ◌∷◌, ◌++◌, ◌≡◌, length, ◌+◌, drop, map, ◌&&◌, ◌||◌, nat_eq}
 use Rattle.columnar_core.specs.Row.{Row, unit, none, some, row_eq}
 use Rattle.columnar_core.specs.Format.{Format, Content, slice, both, part, plain, Fault, two_broken, Excess}
@@ -6,7 +6,7 @@ use Rattle.columnar_core.specs.Elements.{past_count}
 use Rattle.columnar_sums.specs.Counting.{ones}
 use Rattle.columnar_sums.specs.RankColumns.{ranks_bits, ranks_format}
 
--- a true takes the next value, a false is none
+-- a set bit takes the next value, a clear bit is none
 abbrev pub weave : List Bool → List Row → List Row
 weave [] vs = []
 weave (false ∷ b) vs = none ∷ weave b vs
@@ -23,7 +23,7 @@ abbrev pub somes : List Row → List Row
 somes [] = []
 somes (r ∷ rs) = value_of r ++ somes rs
 
--- the row in an option, and an option without its row; any other row as it is
+-- the row in an option, without the option; any other row unchanged
 abbrev pub inner_of : Row → Row
 inner_of (some r) = r
 inner_of _ = unit
@@ -32,7 +32,7 @@ abbrev pub bare_option : Row → Row
 bare_option (some r) = some unit
 bare_option r = r
 
--- are there as many values as set bits
+-- there are as many values as set bits
 abbrev pub options_level : Format → Content → Content → Bool
 options_level t x y = nat_eq (ones (ranks_bits x) (length (ranks_bits x))) (length (t.rows y))
 
@@ -45,25 +45,25 @@ options_rows t (slice bs) = []
 options_rows t (part l u x) = []
 options_rows t (plain rs) = []
 
--- those of n bits, and of the values of the trues among them
+-- the extents of n bits, and of the values of the set bits among them
 abbrev pub options_extent : Format → Content → ℕ → List ℕ
 options_extent t (both x y) n = ranks_format.extent x n ++ t.extent y (ones (ranks_bits x) n)
 options_extent t (slice bs) n = []
 options_extent t (part l u x) n = []
 options_extent t (plain rs) n = []
 
--- none with none, else the values
+-- none represents none; otherwise the values decide
 abbrev pub option_alike : (Row → Row → Bool) → Row → Row → Bool
 option_alike same r s = row_eq (bare_option r) (bare_option s) && same (inner_of r) (inner_of s)
 
--- There are too many rows, or the values may not be held.
+-- There are too many rows, or the column cannot hold the values.
 abbrev pub options_refuses : Format → Excess → Content → ℕ → List Row → Bool
 options_refuses t e (both x y) n rs = past_count e (n + length rs) || t.refuses e y (ones (ranks_bits x) n) (somes rs)
 options_refuses t e (slice bs) n rs = false
 options_refuses t e (part l u x) n rs = false
 options_refuses t e (plain rs) n ss = false
 
--- bits that are counted, and a value for each that is set
+-- counted bits, and a value for each set bit
 abbrev pub options_format : Format → Format
 options_format t = record {
   count = 3 + t.count;
@@ -79,7 +79,7 @@ options_format t = record {
   refuses = options_refuses t;
 }
 
--- each row has a value; no row has one
+-- every row has a value; no row has one
 abbrev pub AreSome : List Row → Type 0
 AreSome rs = rs ≡ map some (somes rs)
 

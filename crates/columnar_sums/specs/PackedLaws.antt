@@ -1,4 +1,4 @@
--- What offsets that are packed into the words of bits keep to.
+-- Offsets that are packed into the words of bits.
 use Rattle.std.proofs.Common.{◌≡◌, ℕ, zero, suc, ◌+◌, ◌-◌, ◌*◌, ◌%◌, ◌^◌, ◌<◌, ◌≤◌, Bool, true, false, ◌||◌, ◌&&◌, List, [], ◌∷◌, ◌++◌, length, take, map, refl, sym, ◌∙◌, ap, arith, append_assoc, length-append, ⊎_elim}
 use Rattle.std.specs.Prelude.{slice_get, Some, nat_lt, bit_or}
 use Rattle.std.proofs.Math.Seq.{take-length}
@@ -67,11 +67,11 @@ pub no_truths : (w : ℕ) → truths (bit w) 0 ≡ []
 unfolding truths
 no_truths w = refl
 
--- the bits of the run came to those of the word
+-- the bits of the run were appended to those of the word
 pub run_gathered : (old now done word after more : List Bool) → now ++ word ≡ old ++ done → after ≡ word ++ more → now ++ after ≡ old ++ (done ++ more)
 run_gathered old now done word after more h e = ap (λ (t : List Bool). now ++ t) e ∙ sym (append_assoc now word more) ∙ ap (λ (t : List Bool). t ++ more) h ∙ append_assoc old done more
 
--- they did not, and the word began anew
+-- they were not, and a new word was started
 pub run_apart : (old now full new done word after : List Bool) (n : ℕ) → now ++ word ≡ old ++ done → full ≡ now ++ word → new ≡ full ++ all_false (n - n % 64) → after ≡ all_false (n % 64) ++ true ∷ [] → new ++ after ≡ old ++ (done ++ (all_false n ++ true ∷ []))
 run_apart old now full new done word after n h e f g =
     let m : n - n % 64 + n % 64 ≡ n = omega arith in
@@ -84,7 +84,7 @@ run_apart old now full new done word after n h e f g =
 apart : true ≡ false → ⊥
 apart h = cc
 
--- offsets don't both fall and not
+-- offsets either fall or do not
 pub not_both : (from : ℕ) (ns : List ℕ) → falls from ns ≡ true → falls from ns ≡ false → ⊥
 not_both from ns p q = apart (sym p ∙ q)
 
@@ -109,7 +109,7 @@ long_runs from (n ∷ ns) =
     let i = long_runs n ns in
     rw e (omega arith)
 
--- a column without offsets refuses just what one of no content does
+-- a column without offsets refuses the same as an empty one
 new_refuses : (k : Excess) (c : Content) (rs : List Row) → unaries_format.rows c ≡ [] → ranks_format.refuses k c 0 (map truth (runs 0 (numbers rs))) || (is_misplaced k && falls 0 (numbers rs)) ≡ true → refuses_more unaries_format k c rs ≡ true
 new_refuses k c rs e h = ap (λ (t : List Row). unaries_format.refuses k c (length t) rs) e ∙ h
 
@@ -128,9 +128,9 @@ too_long_new rs l = λ c s e. new_refuses too_many c rs e (rw past refl)
 pub no_bits : (xs : List Bool) → map truth xs ≡ [] → xs ≡ []
 no_bits xs h = bits_from_rows xs [] h
 
--- ---- what was made
+-- ---- the result
 
--- the column of these bits is made of the offsets
+-- the column of these bits is made from the offsets
 pub made_of_runs : {c y : Content} → IsSound ranks_format y → ranks_bits y ≡ runs 0 (numbers (words_format.rows c)) → falls 0 (numbers (words_format.rows c)) ≡ false → IsMadeOf words_format unaries_format c y
 made_of_runs {c} {y} s b h =
     let ns : List ℕ = numbers (words_format.rows c) in
@@ -140,7 +140,7 @@ made_of_runs {c} {y} s b h =
       rows = ap (λ (t : List Bool). map number (ends_of 0 t)) bits ∙ ap (map number) (ends-runs 0 ns h) ∙ sym (words_numbers c);
     }
 
--- no counts are those of the words, as far as they go
+-- an empty list of counts is right, as far as it goes
 pub none_counted : (ws xs : List ℕ) → xs ≡ [] → CountWords ws (words_in (le_bytes xs))
 unfolding CountWords
 none_counted ws xs e = λ i l. absurd (omega (arith, l, length_words_back xs, ap (λ (t : List ℕ). length t) e))

@@ -1,4 +1,4 @@
--- How a place among words moves.
+-- Moves of a place among words.
 use Rattle.std.proofs.Common.{◌≡◌, ℕ, zero, suc, ◌+◌, ◌-◌, ◌*◌, ◌/◌, ◌%◌, ◌^◌, ◌<◌, ◌≤◌, max, Bool, true, false, eqb, List, [], ◌∷◌, ◌++◌, length, take, refl, sym, ap, ◌∙◌, ⊎_elim, arith}
 use Rattle.std.proofs.Math.Path.{ap₂}
 use Rattle.std.specs.Int.{bit_at, bit_not, w64, trailing_zeros}
@@ -19,7 +19,7 @@ bit_of_zero : (j : ℕ) → bit 0 j ≡ false
 unfolding bit
 bit_of_zero j = ap (λ (x : ℕ). eqb x 1) (bit_at-zero j)
 
--- nothing is left in the word: no bit is set before the next one
+-- no bit of the word is left: no bit is set before the next word
 pub clear_here : (ws : List ℕ) (i r p : ℕ) → IsAt ws i r p → r ≡ 0 → AreClear ws p (64 * i + 64)
 clear_here ws i r p h z = λ k a b.
     ⊎_elim (λ (c : k < 64 * i). h.skipped k a c)
@@ -102,7 +102,7 @@ after_found ws i r p z q h pos fits ez eq =
       skipped = λ k a b. absurd (omega arith);
     }
 
--- ---- what was loaded
+-- ---- loaded words
 
 pub load_none : (xs : List ℕ) (i : ℕ) → xs ≡ xs ++ range_with_len (i + 1) (i - i)
 load_none xs i = let e : i - i ≡ 0 = omega arith in sym (append-nil xs) ∙ ap (λ (n : ℕ). xs ++ range_with_len (i + 1) n) (sym e)
@@ -123,6 +123,10 @@ place_inside ws i r p z q h pos fits ez eq short last =
     ⊎_elim (λ (a : q ≡ 64 * length ws - 1). absurd (true≢false (sym l.set ∙ ap (bit_in ws) a ∙ last))) (λ (a : q ≡ 64 * length ws - 1 → ⊥).
     ⊎_elim (λ (b : q < 64 * length ws - 1). omega arith) (λ (b : 64 * length ws - 1 ≤ q). absurd (a (omega arith))) (cases_lt q (64 * length ws - 1)))
     (cases_eq q (64 * length ws - 1))
+
+-- the word of a bit
+pub word_of : (i r z : ℕ) → 0 < r → r < 2 ^ 64 → z ≡ trailing_zeros w64 r → i ≡ (64 * i + z) / 64
+word_of i r z pos fits ez = let t = bit_at-trailing_zeros w64 r pos fits in let low : z < 64 = omega (arith, ez, t.0) in omega (arith, low)
 
 pub at_start : (ws : List ℕ) (w : ℕ) → w ≡ slice_index ws 0 → 0 < length ws → IsAt ws 0 w 0
 at_start ws w e h = record {
@@ -145,13 +149,13 @@ at_word ws k w p e h d = record {
   skipped = λ m a b. absurd (omega arith);
 }
 
--- the bit at a place in its word, as it is read
+-- the bit at a place in its word
 pub bit_here : (ws : List ℕ) (i r p at : ℕ) → IsAt ws i r p → 64 * i ≤ p → p < 64 * i + 64 → at ≡ p - 64 * i → eqb (bit_and (r / 2 ^ at) 1) 1 ≡ bit_in ws p
 bit_here ws i r p at h f l e =
     let d : 64 * i + at ≡ p = omega arith in
     bit_shown r at ∙ h.same at (omega arith) (omega arith) ∙ ap (bit_in ws) d
 
--- and the next place
+-- the next place
 pub after_bit : (ws : List ℕ) (i r p at : ℕ) → IsAt ws i r p → 64 * i ≤ p → p < 64 * i + 64 → at ≡ p - 64 * i → IsAt ws i (bit_and r (bit_not w64 (1 * 2 ^ at % 2 ^ 64))) (p + 1)
 unfolding bit
 after_bit ws i r p at h f l e =
@@ -170,7 +174,7 @@ after_bit ws i r p at h f l e =
       skipped = λ k a b. absurd (omega arith);
     }
 
--- a place whose word was loaded, without what lies before it
+-- a place whose word was loaded, without the bits before it
 pub at_loaded : (ws : List ℕ) (i w r p at : ℕ) → w ≡ slice_index ws i → i < length ws → at ≡ p % 64 → i ≡ p / 64 → ((j : ℕ) → j < at → bit r j ≡ false) → ((j : ℕ) → at ≤ j → j < 64 → bit r j ≡ bit w j) → IsAt ws i r p
 at_loaded ws i w r p at e h ea ei low high = record {
   within = h;
@@ -180,7 +184,7 @@ at_loaded ws i w r p at e h ea ei low high = record {
   skipped = λ m a b. absurd (omega arith);
 }
 
--- a place further on in the same word
+-- a later place in the same word
 pub at_later : (ws : List ℕ) (i r r' p q at : ℕ) → IsAt ws i r p → 64 * i ≤ p → p ≤ q → q < 64 * i + 64 → at ≡ q - 64 * i → ((j : ℕ) → j < at → bit r' j ≡ false) → ((j : ℕ) → at ≤ j → j < 64 → bit r' j ≡ bit r j) → IsAt ws i r' q
 at_later ws i r r' p q at h f le l e low high = record {
   within = h.within;
@@ -190,7 +194,7 @@ at_later ws i r r' p q at h f le l e low high = record {
   skipped = λ m a b. absurd (omega arith);
 }
 
--- no bit of what is left lies before the place
+-- no remaining bit is before the place
 rest_clear : (ws : List ℕ) (i r p n : ℕ) → IsAt ws i r p → 64 * i + n ≤ p → n ≤ 64 → ones_below (bit r) n ≡ 0
 unfolding ones_below
 rest_clear ws i r p zero h l m = refl
@@ -203,7 +207,7 @@ rest_clear ws i r p (suc n) h l m =
     not_set true h = absurd (h refl)
     not_set false h = refl
 
--- how many set bits lie between
+-- the number of set bits between two places
 pub ones_passed : (ws : List ℕ) (i r p q at : ℕ) → IsAt ws i r p → 64 * i ≤ p → p ≤ q → q < 64 * i + 64 → at ≡ q - 64 * i → ones_below (bit_in ws) p + ones_below (bit r) at ≡ ones_below (bit_in ws) q
 ones_passed ws i r p q at h f le l e =
     let d : ℕ = p - 64 * i in
@@ -218,7 +222,7 @@ ones_passed ws i r p q at h f le l e =
     let w : ones_below (bit r) at ≡ ones_below (λ (j : ℕ). bit r (d + j)) n = sym (ap (ones_below (bit r)) ed) ∙ u ∙ (rw z (omega arith)) in
     rw w (sym v ∙ ap (ones_below (bit_in ws)) eq)
 
--- reads one after the other
+-- two reads in sequence
 pub adds_twice : (a b m n : ℕ) (x y z : Reads) → Adds a m x y → Adds b n y z → Adds (a + b) (m + n) x z
 adds_twice a b m n x y z p q =
     let l = p.1 in let k = q.1 in

@@ -17,7 +17,7 @@ use Rattle.columnar_sums.specs.RankColumns.{ranks_broken, ranks_format}
 use Rattle.columnar_sums.specs.RankLaws.{ranks_two, ranks_parts, counts_test, counts_in_words}
 use Rattle.columnar_sums.specs.RankChangeLaws.{counts_differ, counts_complete, length-truths_rows, sum_more}
 
--- the counts of the chunks below one, as a loop over words goes on
+-- the counts of the chunks below n, the invariant of a loop over words
 abbrev pub AreRight : List ℕ → List ℕ → ℕ → Type 0
 AreRight ws cs n = (i : ℕ) → i < n → slice_index cs i ≡ ones_below (bit_in ws) (1024 * (i + 1))
 
@@ -45,7 +45,7 @@ pub wrong_count : {a b : List ℕ} (cs : List ℕ) (chunk sum : ℕ) → SoundBo
 unfolding CountWords
 wrong_count {a} {b} cs chunk sum s l m h o = counts_differ a b cs (λ k. h (counts_in_words a b cs s.few k chunk m ∙ sym o))
 
--- one whole word more
+-- one more whole word
 pub sum_word : (a b : List ℕ) (at w sum : ℕ) → at < length (words_in a) → sum ≡ ones_below (bit_in (bit_words a b)) (64 * at) → w ≡ slice_index (words_in a) at → w < 2 ^ 64 → sum + count_ones w ≡ ones_below (bit_in (bit_words a b)) (64 * (at + 1))
 sum_word a b at w sum l e d h = sum_more (bit_words a b) at w sum e (d ∙ sym (get_or_append_left (words_in a) (slice_index (words_in b) 0 ∷ []) 0 at l)) h
 

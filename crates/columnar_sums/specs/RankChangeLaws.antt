@@ -1,4 +1,4 @@
--- Columns of bits and counts that grow or are cut.
+-- Columns of bits and counts that grow or are truncated.
 use Rattle.std.proofs.Common.{◌≡◌, ℕ, ◌+◌, ◌*◌, ◌/◌, ◌%◌, ◌^◌, ◌<◌, ◌≤◌, Bool, true, false, cond, List, [], ◌∷◌, ◌++◌, length, take, map, refl, sym, ◌∙◌, ap, arith, length-append, ⊎_elim}
 use Rattle.std.specs.Prelude.{slice_index, count_by, count_ones}
 use Rattle.std.proofs.lemmas.List.{map-append, length-map, take-map, length-take-le, take-append-le, get_or_append_left, get_or_push, length_push, take_at, nil_from_length}
@@ -25,7 +25,7 @@ use Rattle.columnar_sums.specs.RankLaws.{SoundRanks, ranks_parts, ranks_sound, o
 abbrev three : List ℕ → List ℕ → List ℕ → Content
 three c a b = both (slice c) (both (slice a) (slice b))
 
--- the bits more came after those before
+-- bits were appended
 pub record Ranked (c a b c' a' b' : List ℕ) (cs : List Bool) : Type 0 where
   pub sound : SoundRanks c' a' b'
   pub bits : bits_in a' b' ≡ bits_in a b ++ cs
@@ -63,14 +63,14 @@ ranks_refused {c} {a} {b} rs FormatError s k h = absurd k
 pub ranks_same : {c a b : List ℕ} {y : Content} → IsSound ranks_format (three c a b) → y ≡ three c a b → Stayed ranks_format (three c a b) y
 ranks_same {c} {a} {b} {y} s e = rw e (unchanged s)
 
--- a bit more that completes no chunk
+-- one more bit that completes no chunk
 pub ranked_plain : {c a b a' b' : List ℕ} {x : Bool} → SoundRanks c a b → SoundBools a' b' → bits_in a' b' ≡ bits_in a b ++ x ∷ [] → length (bits_in a b) % 1024 < 1023 → Ranked c a b c a' b' (x ∷ [])
 ranked_plain {c} {a} {b} {a'} {b'} {x} s t e l = record {
   sound = record { whole = s.whole; bools = t; are_counts = rw e (counts_stay (bits_in a b) (words_in c) x s.are_counts l) };
   bits = e;
 }
 
--- a bit more that completes a chunk, and its count
+-- one more bit that completes a chunk, and its count
 pub ranked_count : {c a b c' a' b' : List ℕ} {x : Bool} (n : ℕ) → SoundRanks c a b → SoundBools a' b' → bits_in a' b' ≡ bits_in a b ++ x ∷ [] → length (bits_in a b) % 1024 ≡ 1023 → words_in c' ≡ words_in c ++ n ∷ [] → length c' ≡ 8 + length c → n ≡ ones (bits_in a b) (length (bits_in a b)) + cond x 1 0 → Ranked c a b c' a' b' (x ∷ [])
 ranked_count {c} {a} {b} {c'} {a'} {b'} {x} n s t e l w m o = record {
   sound = record { whole = omega (arith, s.whole); bools = t; are_counts = rw (e, w) (counts_grow (bits_in a b) (words_in c) x n s.are_counts l o) };
@@ -122,7 +122,7 @@ pub counts_complete : (a b cs : List ℕ) → CountWords (bit_words a b) cs → 
 unfolding CountWords AreCounts
 counts_complete a b cs h l = (l, λ i k. h i k ∙ sym (ones_bits a b (1024 * (i + 1)) (omega arith)))
 
--- one word more, within a chunk and at its end
+-- one more word, within a chunk and at its end
 pub sum_more : (ws : List ℕ) (at w sum : ℕ) → sum ≡ ones_below (bit_in ws) (64 * at) → w ≡ slice_index ws at → w < 2 ^ 64 → sum + count_ones w ≡ ones_below (bit_in ws) (64 * (at + 1))
 sum_more ws at w sum e d h = (rw e refl) ∙ sym (ones_word_whole ws at w d h)
 
@@ -150,7 +150,7 @@ counts_differ a b cs h = not_true (numbers_eq cs (counts_of (bits_in a b))) (λ 
     not_true true h = absurd (h refl)
     not_true false h = refl
 
--- one pushed and taken back
+-- one item pushed and removed again
 pub items_back : (xs ys zs : List ℕ) (n k : ℕ) → ys ≡ xs ++ n ∷ [] → zs ≡ take k ys → k ≡ length xs → zs ≡ xs
 items_back xs ys zs n k e f l = f ∙ ap (take k) e ∙ take_at xs (n ∷ []) k (sym l)
 
@@ -176,7 +176,7 @@ held_cut {a} {b} {a'} {b'} {n} xs ys s e w l =
     let m = length-le_bytes ys in
     ranks_cut (ranks_parts s) w (omega (arith, l, length-map (bits_in a b) truth)) (rw e (words_cut xs (n / 1024))) (omega arith)
 
--- what the loop that counts chunks on keeps
+-- the invariant of the loop that counts chunks
 pub record CountedTo (ws before ys : List ℕ) (n chunk : ℕ) : Type 0 where
   pub exact : CountWords ws (words_in (le_bytes ys))
   pub many : length ys ≡ chunk
@@ -193,7 +193,7 @@ counted_on {ws} {before} {xs} {ys} {n} {chunk} sum k l e h d =
       front = ap (take n) d ∙ take-append-le n xs (sum ∷ []) (omega arith) ∙ k.front;
     }
 
--- bits that stayed, under the same counts
+-- bits that stay the same, with the same counts
 pub ranks_stayed : {c a b a' b' : List ℕ} → IsSound ranks_format (three c a b) → Stayed bools_format (both (slice a) (slice b)) (both (slice a') (slice b')) → Stayed ranks_format (three c a b) (three c a' b')
 ranks_stayed {c} {a} {b} {a'} {b'} s g =
     let e : bits_in a' b' ≡ bits_in a b = bits_from_rows (bits_in a' b') (bits_in a b) g.rows in
@@ -214,17 +214,17 @@ ranked_on {c} {a} {b} {a'} {b'} {cs} ys t e h =
     let l : length (words_in (le_bytes ys)) ≡ length (bits_in a' b') / 1024 = omega (arith, length_words_back ys, h.1, bits_length a' b') in
     record { sound = record { whole = omega arith; bools = t; are_counts = counts_complete a' b' (words_in (le_bytes ys)) h.0 l }; bits = e }
 
--- the counts before lie within the words after
+-- the old counts are within the new words
 pub counts_within : {a b a' b' : List ℕ} (xs : List ℕ) → SoundRanks (le_bytes xs) a b → SoundBools a' b' → length (bits_in a b) ≤ length (bits_in a' b') → length xs ≤ length (words_in a') / 16
 counts_within {a} {b} {a'} {b'} xs s t l = omega (arith, counts_many xs s, bits_length a' b', t.few)
 
 pub words_short : {a b : List ℕ} → SoundBools a b → length (words_in a) < 2 ^ 58
 words_short {a} {b} s = omega (arith, s.short)
 
--- turns for words, and for new chunks and their words
+-- steps for words, and for new chunks and their words
 pub turns_fit : (old mid new l m w n : ℕ) → mid ≤ old + (m / 64 + 1) → new + 17 * n ≤ mid + 17 * w → n ≡ l / 1024 → w ≡ (l + m) / 1024 → new ≤ old + (m / 16 + 64)
 turns_fit old mid new l m w n p q r s = omega arith
 
--- a bit that may be refused for want of memory fills a word
+-- a bit whose push may fail to allocate fills a word
 pub fills_word : (n : ℕ) → (n % 64 < 63 → ⊥) → n % 64 ≡ 63
 fills_word n h = ⊎_elim (λ (l : n % 64 < 63). absurd (h l)) (λ (m : 63 ≤ n % 64). omega arith) (cases_lt (n % 64) 63)

@@ -1,4 +1,4 @@
--- Columns of truth values with counts, and where a cursor over them stands.
+-- Columns of bits with counts, and the state of a cursor over them.
 use Rattle.std.specs.Prelude.{ℕ, Bool, true, false, List, [], ◌∷◌, ◌≡◌, ◌≤◌, ◌<◌, ◌+◌, ◌*◌, ◌/◌, length, map, drop, slice_index_or, Vec}
 use Rattle.std.specs.Global.{Global}
 use Rattle.columnar_core.specs.Row.{truth, row_eq}
@@ -11,7 +11,7 @@ use Rattle.columnar_bits.specs.BoolColumns.{bools_bits, bools_format, bools_cont
 use Rattle.columnar_sums.specs.Counting.{counts_of}
 use Rattle.columnar_sums.specs.declared.rank_select.RankSelect.{RankSelect}
 
--- are the counts the numbers of set bits
+-- the counts are the numbers of set bits
 abbrev pub counts_match : Content → Content → Bool
 counts_match x y = numbers_eq (words_in (bytes_of x)) (counts_of (bools_bits y))
 
@@ -26,7 +26,7 @@ ranks_bits (slice bs) = []
 ranks_bits (part l u x) = []
 ranks_bits (plain rs) = []
 
--- bits with their counts, each a truth value
+-- bits with their counts; each row is a truth value
 abbrev pub ranks_format : Format
 ranks_format = record {
   count = 3;
@@ -42,7 +42,7 @@ ranks_format = record {
   refuses = λ e c n rs. past_count e (n + length rs);
 }
 
--- what a column of bits and counts holds
+-- the content of a column of bits and counts
 abbrev pub ranks_content : {C V W : Type 0} → (C → List ℕ) → (V → List ℕ) → (W → List ℕ) → RankSelect C V W → Content
 ranks_content counts values tail r = both (slice (counts r.counts)) (bools_content values tail r.values)
 
@@ -50,11 +50,11 @@ ranks_content counts values tail r = both (slice (counts r.counts)) (bools_conte
 abbrev pub bits_ranked : {C V W : Type 0} → (V → List ℕ) → (W → List ℕ) → RankSelect C V W → List Bool
 bits_ranked values tail r = bits_held values tail r.values
 
--- it is well formed
+-- the column is well-formed
 abbrev pub IsRanked : {C V W : Type 0} → (C → List ℕ) → (V → List ℕ) → (W → List ℕ) → RankSelect C V W → Type 0
 IsRanked counts values tail r = IsSound ranks_format (ranks_content counts values tail r)
 
--- these for a column that owns its words
+-- the same for a column that owns its words
 abbrev pub OwnedRanks : Type 0
 OwnedRanks = RankSelect (Vec ℕ Global) (Vec ℕ Global) (List ℕ)
 
@@ -66,15 +66,15 @@ ranked_bits r = bits_ranked (λ (v : Vec ℕ Global). le_bytes v.items) le_bytes
 
 -- ---- cursors
 
--- where a cursor stands: the bits that it goes over, the place of the next one to look at, and the number of the word
--- that it has loaded; and how many counts the column has
+-- the state of a cursor: its bits, the position of the next bit, the number of the word that it has loaded, and the
+-- number of counts of the column
 pub record Standing : Type 0 where
   pub bits : List Bool
   pub pos : ℕ
   pub word : ℕ
   pub counts : ℕ
 
--- the least place of a set bit, from pos on
+-- q is the position of the first set bit from pos on
 abbrev pub IsNextTrue : List Bool → ℕ → ℕ → Type 0
 IsNextTrue b pos q =
     (pos ≤ q) × (slice_index_or b q false ≡ true) × ((k : ℕ) → pos ≤ k → k < q → slice_index_or b k false ≡ false)
@@ -83,8 +83,8 @@ IsNextTrue b pos q =
 abbrev pub AreFalseFrom : List Bool → ℕ → Type 0
 AreFalseFrom b pos = (k : ℕ) → pos ≤ k → slice_index_or b k false ≡ false
 
--- A place among words. It stands in word `index`. `rest` is that word without what lies before `pos`, and no bit
--- from `pos` up to that word is set.
+-- A place among words. Its current word is `index`. `rest` is that word without the bits before `pos`, and no bit from
+-- `pos` up to that word is set.
 pub record IsAt (words : List ℕ) (index rest pos : ℕ) : Type 0 where
   pub within : index < length words
   pub reach : pos ≤ 64 * index + 64
@@ -92,6 +92,6 @@ pub record IsAt (words : List ℕ) (index rest pos : ℕ) : Type 0 where
   pub same : (j : ℕ) → j < 64 → pos ≤ 64 * index + j → bit rest j ≡ bit_in words (64 * index + j)
   pub skipped : (k : ℕ) → pos ≤ k → k < 64 * index → bit_in words k ≡ false
 
--- no bit from `from` on, below `end`
+-- no bit from `from` on, below `end`, is set
 abbrev pub AreClear : List ℕ → ℕ → ℕ → Type 0
 AreClear words from end = (k : ℕ) → from ≤ k → k < end → bit_in words k ≡ false

@@ -49,13 +49,13 @@ counts_test b cs h =
     let e : cs ≡ counts_of b = fill_by_all (λ (i : ℕ). ones b (1024 * (i + 1))) cs (length b / 1024) 0 l (λ k m. h.1 k (omega arith)) in
     rw (← e) (numbers_same cs)
 
--- what the soundness of a column of bits and counts is made of
+-- what the soundness of a column of bits and counts consists of
 pub record SoundRanks (counts values tail : List ℕ) : Type 0 where
   pub whole : length counts % 8 ≡ 0
   pub bools : SoundBools values tail
   pub are_counts : AreCounts (bits_in values tail) (words_in counts)
 
--- counts, and then bits
+-- counts, then bits
 pub ranks_two : TwoParts ranks_format words_format bools_format counts_match 12
 ranks_two = record { count = refl; sizes = refl; aligns = refl; build = λ ss. refl; broken = λ c. refl }
 
@@ -75,7 +75,7 @@ ranks_sound {c} {a} {b} s = two_sound ranks_two (slice c) (both (slice a) (slice
   own = counts_test (bits_in a b) (words_in c) s.are_counts;
 })
 
--- a sound content is of three slices
+-- a sound content has three slices
 pub record ThreeSlices (x : Content) : Type 0 where
   pub counts : List ℕ
   pub values : List ℕ
@@ -177,7 +177,7 @@ no_bit {a} {b} p s c = λ k i.
     (λ (l : length (bits_in a b) ≤ k). get_or_past (bits_in a b) k false l)
     (cases_lt k (length (bits_in a b)))
 
--- the rank over a run of falses
+-- the rank does not change over clear bits
 ones_flat : (b : List Bool) (p m : ℕ) → ((k : ℕ) → p ≤ k → k < p + m → slice_index_or b k false ≡ false) → p + m ≤ length b → ones b (p + m) ≡ ones b p
 ones_flat b p zero h l = ap (ones b) (add-zero p)
 ones_flat b p (suc m) h l =
@@ -192,7 +192,7 @@ ones_next b p q h =
 pub ones_none : (b : List Bool) (p q : ℕ) → AreFalseFrom b p → p ≤ q → q ≤ length b → ones b q ≡ ones b p
 ones_none b p q h l m = let e : p + (q - p) ≡ q = omega arith in sym (ap (ones b) e) ∙ ones_flat b p (q - p) (λ k a d. h k a) (omega arith)
 
--- what the search through counts and words asks for
+-- the preconditions of the search in counts and words
 pub counts_cover : {c a b : List ℕ} → SoundRanks c a b → (16 * length (words_in c) < length (bit_words a b)) × (length (bit_words a b) ≤ 16 * length (words_in c) + 16)
 unfolding AreCounts
 counts_cover {c} {a} {b} s = let n = s.are_counts.0 in let w = words_length s.bools in (omega arith, omega arith)
@@ -207,7 +207,7 @@ counts_exact {c} {a} {b} s = counts_in_words a b (words_in c) s.bools.few s.are_
 pub words_few : {a b : List ℕ} → SoundBools a b → length (bit_words a b) ≤ 2 ^ 58
 words_few {a} {b} s = omega (arith, words_length s, bits_length a b, s.short)
 
--- what the search found is the place
+-- the result of the search is the position
 pub found_place : {a b : List ℕ} (k : ℕ) (o : Option ℕ) → SoundBools a b → MatchOption o (ones_below (bit_in (bit_words a b)) (64 * length (bit_words a b)) ≤ k) (λ p. (p < 64 * length (bit_words a b)) × (bit_in (bit_words a b) p ≡ true) × (ones_below (bit_in (bit_words a b)) p ≡ k)) → o ≡ place (bits_in a b) k
 found_place {a} {b} k None s h = sym (select_none k s h)
 found_place {a} {b} k (Some q) s h = sym (select_some k q s h.0 h.1 h.2)

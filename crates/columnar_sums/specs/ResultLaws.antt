@@ -28,7 +28,7 @@ use Rattle.columnar_sums.specs.Marked.{NeitherTook}
 abbrev woven : (a b : Format) (x y z : Content) → List Row
 woven a b x y z = weave_results (ranks_bits x) (a.rows y) (b.rows z)
 
--- what the soundness of results is made of
+-- what the soundness of results consists of
 pub record SoundResults (a b : Format) (x y z : Content) : Type 0 where
   pub bits : IsSound ranks_format x
   pub oks : IsSound a y
@@ -40,7 +40,7 @@ pub record SoundResults (a b : Format) (x y z : Content) : Type 0 where
 pub beside_two : (a b : Format) → TwoParts (beside_format a b) a b (λ x y. true) 10
 beside_two a b = record { count = refl; sizes = refl; aligns = refl; build = λ ss. refl; broken = λ c. refl }
 
--- bits that are counted, and then these
+-- counted bits, then these
 pub results_two : (a b : Format) → TwoParts (results_format a b) ranks_format (beside_format a b) (results_level a b) 10
 results_two a b = record { count = refl; sizes = refl; aligns = refl; build = λ ss. refl; broken = λ c. refl }
 
@@ -79,7 +79,7 @@ result_same p q e f =
     same_both (λ r s. row_eq (bare_result r) (bare_result s)) (λ r s. option_alike p (ok_part r) (ok_part s) && option_alike q (err_part r) (err_part s)) (same_pulled row_eq bare_result row_eq_same)
     (same_both (λ r s. option_alike p (ok_part r) (ok_part s)) (λ r s. option_alike q (err_part r) (err_part s)) (same_pulled (option_alike p) ok_part (option_same p e)) (same_pulled (option_alike q) err_part (option_same q f)))
 
--- Results may not take rows where there would be too many bits, or the oks or the errs may not take theirs.
+-- Results refuse rows if there would be too many bits, or if the column of oks or that of errs refuses its rows.
 pub results_refuses_more : (a b : Format) {x y z : Content} → IsSound (results_format a b) (both x (both y z)) → (e : Excess) (rs : List Row) → refuses_more (results_format a b) e (both x (both y z)) rs ≡ (past_count e (length (ranks_bits x) + length rs) || (refuses_more a e y (oks rs) || refuses_more b e z (errs rs)))
 results_refuses_more a b {x} {y} {z} s e rs =
     let p = results_parts a b s in
@@ -112,7 +112,7 @@ results_more a b la lb e (slice bs) n rs ss h = h
 results_more a b la lb e (part l u x) n rs ss h = h
 results_more a b la lb e (plain ts) n rs ss h = h
 
--- what is alike is kin
+-- rows that represent an item are kin to it
 results_related : (p q p' q' : Row → Row → Bool) → ((r s : Row) → p r s ≡ true → p' r s ≡ true) → ((r s : Row) → q r s ≡ true → q' r s ≡ true) → (r s : Row) → result_alike p q r s ≡ true → result_alike p' q' r s ≡ true
 results_related p q p' q' e f r s h =
     let u = and_parts (row_eq (bare_result r) (bare_result s)) (option_alike p (ok_part r) (ok_part s) && option_alike q (err_part r) (err_part s)) h in
@@ -143,7 +143,7 @@ results_none a b {x} {y} {z} s t u e f g =
 
 -- changes
 
--- What stays the same of the bits' trues and falses, of the oks and of the errs, stays the same of the results.
+-- If the set and clear bits, the oks and the errs stay the same, so do the results.
 results_keeps : (a b : Format) (x x' : Content) {y y' z z' : Content} (n : ℕ) {k m : ℕ} → ((i : ℕ) → i ≤ n → ones (ranks_bits x') i ≡ ones (ranks_bits x) i) → ((i : ℕ) → i ≤ n → zeros (ranks_bits x') i ≡ zeros (ranks_bits x) i) → ones (ranks_bits x) n ≤ k → zeros (ranks_bits x) n ≤ m → Keeps a y y' k → Keeps b z z' m → Keeps (results_format a b) (both x (both y z)) (both x' (both y' z')) n
 results_keeps a b x x' n e e' l l' g g' =
     let f = values_keep a (ranks_bits x) (ranks_bits x') n e l g in
@@ -153,7 +153,7 @@ results_keeps a b x x' n e e' l l' g g' =
       limits = λ i q w rs. let u = f.limits i q w (oks rs) in let v = h.limits i q w (errs rs) in rw (u, v) refl;
     }
 
--- bits, the values of the set ones, and those of the clear ones
+-- bits, the values of the set ones, and the errors of the clear ones
 pub results_grew : (a b : Format) {x x' y y' z z' : Content} (cs : List Bool) {vs ws : List Row} → IsSound (results_format a b) (both x (both y z)) → ones cs (length cs) ≡ length vs → zeros cs (length cs) ≡ length ws → Grew ranks_format x x' (map truth cs) → Grew a y y' vs → Grew b z z' ws → Grew (results_format a b) (both x (both y z)) (both x' (both y' z')) (weave_results cs vs ws)
 results_grew a b {x} {x'} {y} {y'} {z} {z'} cs {vs} {ws} s l m g h k =
     let p = results_parts a b s in
@@ -173,7 +173,7 @@ results_grew a b {x} {x'} {y} {y'} {z} {z'} cs {vs} {ws} s l m g h k =
       kept = results_keeps a b x x' (length (woven a b x y z)) (λ i j. rw e (ones_first (ranks_bits x) cs i (omega arith))) (λ i j. ap (λ (c : List Bool). zeros c i) e ∙ zeros_first (ranks_bits x) cs i (omega arith)) (rw n (omega (arith, p.ok_level))) (rw n (omega (arith, p.err_level))) h.kept k.kept;
     }
 
--- what the results can't hold besides, the old ones could not hold with the added rows
+-- rows that the new results refuse, the old ones refuse after the added rows
 results_adds : (a b : Format) {x x' y y' z z' : Content} (cs : List Bool) (vs ws : List Row) → IsSound (results_format a b) (both x (both y z)) → IsSound (results_format a b) (both x' (both y' z')) → ranks_bits x' ≡ ranks_bits x ++ cs → ones cs (length cs) ≡ length vs → zeros cs (length cs) ≡ length ws → ((e : Excess) (rs : List Row) → refuses_more a e y' rs ≡ true → refuses_more a e y (vs ++ rs) ≡ true) → ((e : Excess) (rs : List Row) → refuses_more b e z' rs ≡ true → refuses_more b e z (ws ++ rs) ≡ true) → (e : Excess) (rs : List Row) → refuses_more (results_format a b) e (both x' (both y' z')) rs ≡ true → refuses_more (results_format a b) e (both x (both y z)) (weave_results cs vs ws ++ rs) ≡ true
 results_adds a b {x} {x'} {y} {y'} {z} {z'} cs vs ws s s' t l m g h e rs k =
     let u : oks (weave_results cs vs ws ++ rs) ≡ vs ++ oks rs = oks-append (weave_results cs vs ws) rs ∙ ap (λ (q : List Row). q ++ oks rs) (oks-woven cs vs ws l) in
@@ -216,7 +216,7 @@ results_stayed a b {x} {x'} {y} {y'} {z} {z'} s g h k =
       kept = results_keeps a b x x' (length (woven a b x y z)) (λ i j. rw e refl) (λ i j. rw e refl) (rw n (omega (arith, p.ok_level))) (rw n (omega (arith, p.err_level))) h.kept k.kept;
     }
 
--- the bits were cut at n, the oks at the trues before n, and the errs at the falses
+-- the bits were truncated to n, the oks to the set bits before n, and the errs to the clear bits
 pub results_cut : (a b : Format) {x x' y y' z z' : Content} {n : ℕ} → IsSound (results_format a b) (both x (both y z)) → WasCut ranks_format x x' n → WasCut a y y' (ones (ranks_bits x) n) → WasCut b z z' (zeros (ranks_bits x) n) → n ≤ length (woven a b x y z) → WasCut (results_format a b) (both x (both y z)) (both x' (both y' z')) n
 results_cut a b {x} {x'} {y} {y'} {z} {z'} {n} s g h k l =
     let p = results_parts a b s in
@@ -234,7 +234,7 @@ results_cut a b {x} {x'} {y} {y'} {z} {z'} {n} s g h k l =
       kept = results_keeps a b x x' n (λ i j. rw e (ones_cut c n i j)) (λ i j. rw e (zeros_cut c n i j)) (omega arith) (omega arith) h.kept k.kept;
     }
 
--- rows that one of the parts may not take, the results may not take
+-- rows that one part refuses, the results refuse
 refuses_bits : (a b : Format) {x y z : Content} (cs : List Bool) (vs ws : List Row) → IsSound (results_format a b) (both x (both y z)) → (e : Excess) → refuses_more ranks_format e x (map truth cs) ≡ true → refuses_more (results_format a b) e (both x (both y z)) (weave_results cs vs ws) ≡ true
 refuses_bits a b {x} {y} {z} cs vs ws s e h =
     let n : length (map truth (ranks_bits x)) + length (map truth cs) ≡ length (ranks_bits x) + length (weave_results cs vs ws) = omega (arith, length-map (ranks_bits x) truth, length-map cs truth, length-weave_results cs vs ws) in
@@ -252,7 +252,7 @@ refuses_errs a b {x} {y} {z} cs vs ws s l e h =
     let k : refuses_more b e z (errs rs) ≡ true = rw (errs-woven cs vs ws l) h in
     results_refuses_more a b s e rs ∙ or_right (past_count e (length (ranks_bits x) + length rs)) (refuses_more a e y (oks rs) || refuses_more b e z (errs rs)) (or_right (refuses_more a e y (oks rs)) (refuses_more b e z (errs rs)) k)
 
--- one part refused, and the others are as they were
+-- one part refused, and the others are unchanged
 pub results_refused_bits : (a b : Format) {x x' y y' z z' : Content} (cs : List Bool) (vs ws : List Row) {error : GrowError} → IsSound (results_format a b) (both x (both y z)) → Refused ranks_format x x' (map truth cs) error → Stayed a y y' → Stayed b z z' → Refused (results_format a b) (both x (both y z)) (both x' (both y' z')) (weave_results cs vs ws) error
 results_refused_bits a b {x} {x'} {y} {y'} {z} {z'} cs vs ws {error} s g h k = record {
   stayed = results_stayed a b s g.stayed h k;
@@ -297,11 +297,11 @@ results_bit a b x y z i l = omega (arith, length-results a b x y z, length-map (
 pub results_within : (a b : Format) (x y z : Content) (i : ℕ) → i ≤ length (woven a b x y z) → i ≤ length (ranks_bits x)
 results_within a b x y z i l = omega (arith, length-results a b x y z)
 
--- how many of the first n are clear
+-- the number of clear bits among the first n
 pub results_clear : (a b : Format) (x y z : Content) (n : ℕ) → n ≤ length (woven a b x y z) → ones (ranks_bits x) n + zeros (ranks_bits x) n ≡ n
 results_clear a b x y z n l = ones_zeros (ranks_bits x) n (results_within a b x y z n l)
 
--- what is left of n is that, where the rank of n was taken away
+-- n minus the rank of n is the number of clear bits
 pub results_clear_of : (a b : Format) (x y z : Content) (n at : ℕ) → at ≡ ones (ranks_bits x) n → n ≤ length (woven a b x y z) → n - at ≡ zeros (ranks_bits x) n
 results_clear_of a b x y z n at e l = omega (arith, e, results_clear a b x y z n l)
 
@@ -311,7 +311,7 @@ results_ok_top a b x y z n s l = omega (arith, ones_most (ranks_bits x) n (resul
 pub results_err_top : (a b : Format) (x y z : Content) (n : ℕ) → IsSound (results_format a b) (both x (both y z)) → n ≤ length (woven a b x y z) → zeros (ranks_bits x) n ≤ length (b.rows z)
 results_err_top a b x y z n s l = omega (arith, ones_most (turned (ranks_bits x)) n (omega (arith, length-map (ranks_bits x) not, results_within a b x y z n l)), zeros_all (ranks_bits x), (results_parts a b s).err_level)
 
--- the value of a row that is Ok, the error of one that is Err
+-- the value of an Ok row, the error of an Err row
 pub results_ok_value : (a b : Format) {x y z : Content} (i : ℕ) → IsSound (results_format a b) (both x (both y z)) → slice_get (map truth (ranks_bits x)) i ≡ Some (truth true) → ones (ranks_bits x) i < length (a.rows y)
 results_ok_value a b {x} {y} {z} i s h = omega (arith, ones_before (ranks_bits x) i (bit_of_row (ranks_bits x) i true h), (results_parts a b s).ok_level)
 
@@ -324,7 +324,7 @@ results_ok a b x y z i v h k = weave_ok i (ranks_bits x) (a.rows y) (b.rows z) v
 pub results_err : (a b : Format) (x y z : Content) (i : ℕ) (w : Row) → slice_get (map truth (ranks_bits x)) i ≡ Some (truth false) → slice_get (b.rows z) (zeros (ranks_bits x) i) ≡ Some w → slice_get (woven a b x y z) i ≡ Some (err w)
 results_err a b x y z i w h k = weave_err i (ranks_bits x) (a.rows y) (b.rows z) w (bit_of_row (ranks_bits x) i false h) k
 
--- no errs: each row is Ok; and back
+-- without errs each row is Ok; and conversely
 pub results_all_ok : (a b : Format) {x y z : Content} → IsSound (results_format a b) (both x (both y z)) → length (b.rows z) ≡ 0 → woven a b x y z ≡ map ok (a.rows y)
 results_all_ok a b {x} {y} {z} s n = let p = results_parts a b s in weave_all_ok (ranks_bits x) (a.rows y) (b.rows z) p.ok_level p.err_level n
 
@@ -351,7 +351,7 @@ results_no_oks a b {x} {y} {z} s h = ap length (sym (results_oks a b s) ∙ (ap 
 
 -- ranges
 
--- the oks of a range of rows are those between the ranks of its ends, the errs those between what is left of its ends
+-- the oks of a range lie between the numbers of set bits before its ends, the errs between the numbers of clear bits
 range_of : (a b : Format) (x y z : Content) (start end : ℕ) → start ≤ end → weave_results (take (end - start) (drop start (ranks_bits x))) (take (ones (ranks_bits x) end - ones (ranks_bits x) start) (drop (ones (ranks_bits x) start) (a.rows y))) (take (zeros (ranks_bits x) end - zeros (ranks_bits x) start) (drop (zeros (ranks_bits x) start) (b.rows z))) ≡ take (end - start) (drop start (woven a b x y z))
 range_of a b x y z start end l =
     let e : end ≡ start + (end - start) = omega arith in
@@ -368,7 +368,7 @@ oks_in a x y start end = take (ones (ranks_bits x) end - ones (ranks_bits x) sta
 abbrev errs_in : Format → Content → Content → ℕ → ℕ → List Row
 errs_in b x z start end = take (zeros (ranks_bits x) end - zeros (ranks_bits x) start) (drop (zeros (ranks_bits x) start) (b.rows z))
 
--- a column of results takes a range of the rows of another
+-- a copy of a range of the rows of another column of results
 pub results_copied_range : (a b c d : Format) {x x' y y' z z' : Content} (v w u : Content) (start end : ℕ) → IsSame a.alike → IsSame b.alike → IsSound (results_format a b) (both x (both y z)) → IsSound (results_format c d) (both v (both w u)) → start ≤ end → end ≤ length (woven c d v w u) → Copied ranks_format x x' start (take (end - start) (drop start (map truth (ranks_bits v)))) → Copied a y y' (ones (ranks_bits v) start) (oks_in c v w start end) → Copied b z z' (zeros (ranks_bits v) start) (errs_in d v u start end) → Copied (results_format a b) (both x (both y z)) (both x' (both y' z')) start (take (end - start) (drop start (woven c d v w u)))
 results_copied_range a b c d {x} {x'} {y} {y'} {z} {z'} v w u start end qa qb s r l m g h k =
     let p = results_parts c d r in
@@ -393,7 +393,7 @@ results_refused_bits_range a b c d {x} {x'} {y} {y'} {z} {z'} v w u start end {e
 
 -- bytes
 
--- are there as many oks as trues, and as many errs as falses
+-- there are as many oks as set bits, and as many errs as clear bits
 pub results_level_from : (a b : Format) (x y z : Content) (trues rows n m : ℕ) → trues ≡ ones (ranks_bits x) (length (ranks_bits x)) → rows ≡ length (map truth (ranks_bits x)) → n ≡ length (a.rows y) → m ≡ length (b.rows z) → trues ≡ n → rows - trues ≡ m → results_level a b x (both y z) ≡ true
 results_level_from a b x y z trues rows n m p q r s h k =
     let l = length-map (ranks_bits x) truth in
@@ -421,7 +421,7 @@ results_level_at a b o ss v h =
     let d : drop a.count (drop (o + 3) ss) ≡ drop (o + 3 + a.count) ss = drop-drop a.count (o + 3) ss in
     rw d h
 
--- its parts are representable, and fit where it does
+-- its parts are representable, and fit if it does
 pub oks_representable : (a b : Format) → representable (results_format a b) ≡ true → representable a ≡ true
 oks_representable a b h = representable_left (beside_two a b) (representable_right (results_two a b) h)
 
@@ -437,7 +437,7 @@ errs_fit a b o ss h = two_fits_right (beside_two a b) (o + 3) ss (two_fits_right
 pub results_turns : (ra rb old mid later new m n o : ℕ) → mid ≤ old + 4 * m → later ≤ mid + (ra * n + rb * o) → new ≤ later + 16 → 16 ≤ m → new ≤ old + (5 * m + (ra * n + rb * o))
 results_turns ra rb old mid later new m n o p q r h = omega arith
 
--- of the whole, 16 for a byte
+-- at most 16 steps for each byte of the whole
 pub results_spread : (ra rb old new m n o : ℕ) → new ≤ old + (5 * m + (ra * n + rb * o)) → ra ≤ 16 → rb ≤ 16 → new ≤ old + 16 * (m + (n + o))
 results_spread ra rb old new m n o p k l =
     let t = two_turns 16 ra rb n o k l in

@@ -1,4 +1,4 @@
--- Columns whose rows are of one of two kinds: a bit for each row, the values of the set bits, and those of the clear ones.
+-- Columns of results: a bit for each row, the values of the set bits, and the errors of the clear ones.
 use Rattle.std.specs.Prelude.{ℕ, Bool, true, false, not, List, [], ◌∷◌, ◌++◌, ◌≡◌, length, ◌+◌, drop, map, ◌&&◌, ◌||◌, nat_eq}
 use Rattle.columnar_core.specs.Row.{Row, unit, none, some, ok, err, row_eq}
 use Rattle.columnar_core.specs.Format.{Format, Content, slice, both, part, plain, Fault, two_broken, Excess}
@@ -8,15 +8,15 @@ use Rattle.columnar_sums.specs.RankColumns.{ranks_bits, ranks_format, ranks_cont
 use Rattle.columnar_sums.specs.Options.{somes, option_alike}
 use Rattle.columnar_sums.specs.declared.result.Results.{Results}
 
--- each bit turned
+-- each bit inverted
 abbrev pub turned : List Bool → List Bool
 turned b = map not b
 
--- how many of the first n are false
+-- the number of clear bits among the first n
 abbrev pub zeros : List Bool → ℕ → ℕ
 zeros b n = ones (turned b) n
 
--- a true takes the next of the oks, a false the next of the errs
+-- a set bit takes the next of the oks, a clear bit the next of the errs
 abbrev pub weave_results : List Bool → List Row → List Row → List Row
 weave_results [] vs ws = []
 weave_results (true ∷ b) (v ∷ vs) ws = ok v ∷ weave_results b vs ws
@@ -33,7 +33,7 @@ abbrev pub err_part : Row → Row
 err_part (err r) = some r
 err_part _ = none
 
--- a result without its value; any other row as it is
+-- a result without its value; any other row unchanged
 abbrev pub bare_result : Row → Row
 bare_result (ok r) = ok unit
 bare_result (err r) = err unit
@@ -55,7 +55,7 @@ abbrev pub right_of : Content → Content
 right_of (both x y) = y
 right_of c = c
 
--- Two parts one after the other that have no rule in common; it has no rows of its own.
+-- Two parts, one after the other, without a common rule; it has no rows of its own.
 abbrev pub beside_format : Format → Format → Format
 beside_format a b = record {
   count = a.count + b.count;
@@ -71,7 +71,7 @@ beside_format a b = record {
   refuses = λ e c n rs. false;
 }
 
--- are there as many oks as set bits, and as many errs as clear ones
+-- there are as many oks as set bits, and as many errs as clear bits
 abbrev pub results_level : Format → Format → Content → Content → Bool
 results_level a b x y =
     nat_eq (ones (ranks_bits x) (length (ranks_bits x))) (length (a.rows (left_of y)))
@@ -86,7 +86,7 @@ results_rows a b (slice bs) = []
 results_rows a b (part l u x) = []
 results_rows a b (plain rs) = []
 
--- those of n bits, and of the values of the trues and the falses among them
+-- the extents of n bits, and of the values of the set and the clear bits among them
 abbrev pub results_extent : Format → Format → Content → ℕ → List ℕ
 results_extent a b (both x y) n =
     ranks_format.extent x n ++ (a.extent (left_of y) (ones (ranks_bits x) n) ++ b.extent (right_of y) (zeros (ranks_bits x) n))
@@ -94,12 +94,12 @@ results_extent a b (slice bs) n = []
 results_extent a b (part l u x) n = []
 results_extent a b (plain rs) n = []
 
--- of one kind, and the values of that kind
+-- both have the same kind, and the values of that kind decide
 abbrev pub result_alike : (Row → Row → Bool) → (Row → Row → Bool) → Row → Row → Bool
 result_alike a b r s =
     row_eq (bare_result r) (bare_result s) && (option_alike a (ok_part r) (ok_part s) && option_alike b (err_part r) (err_part s))
 
--- There are too many rows, or the oks or the errs may not be held.
+-- There are too many rows, or the columns cannot hold the oks or the errs.
 abbrev pub results_refuses : Format → Format → Excess → Content → ℕ → List Row → Bool
 results_refuses a b e (both x y) n rs =
     past_count e (n + length rs)
@@ -108,7 +108,7 @@ results_refuses a b e (slice bs) n rs = false
 results_refuses a b e (part l u x) n rs = false
 results_refuses a b e (plain rs) n ss = false
 
--- bits that are counted, a value for each that is set, and one for each that is clear
+-- counted bits, a value for each set bit, and an error for each clear bit
 abbrev pub results_format : Format → Format → Format
 results_format a b = record {
   count = 3 + (a.count + b.count);
@@ -124,11 +124,11 @@ results_format a b = record {
   refuses = results_refuses a b;
 }
 
--- what a column of results holds
+-- the content of a column of results
 abbrev pub results_content : {S T C V W : Type 0} → (S → Content) → (T → Content) → (C → List ℕ) → (V → List ℕ) → (W → List ℕ) → Results S T C V W → Content
 results_content of_oks of_errs counts values tail r = both (ranks_content counts values tail r.indexes) (both (of_oks r.oks) (of_errs r.errs))
 
--- each row is Ok; each row is Err
+-- every row is Ok; every row is Err
 abbrev pub AreOks : List Row → Type 0
 AreOks rs = rs ≡ map ok (oks rs)
 

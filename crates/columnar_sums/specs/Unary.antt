@@ -1,4 +1,4 @@
--- Offsets in unary: for each of them as many falses as it is above the one before, and then a true.
+-- Offsets in unary: for each offset a clear bit for each unit above the previous one, then a set bit.
 use Rattle.std.specs.Prelude.{ℕ, zero, suc, Bool, true, false, List, [], ◌∷◌, ◌++◌, ◌+◌, ◌-◌, ◌||◌, ◌&&◌, nat_lt, take, drop, map}
 use Rattle.columnar_core.specs.Row.{Row, number, truth, row_eq}
 use Rattle.columnar_core.specs.Format.{Format, Content, Fault, fault, unless, Excess, too_many, misplaced}
@@ -6,7 +6,7 @@ use Rattle.columnar_core.specs.Bounds.{numbers, last_or}
 use Rattle.columnar_sums.specs.Counting.{ones}
 use Rattle.columnar_sums.specs.RankColumns.{Standing}
 
--- the truth value that a row is, false for any other row
+-- the truth value of a row; false for any other row
 abbrev pub is_set : Row → Bool
 is_set (truth b) = b
 is_set _ = false
@@ -15,24 +15,24 @@ is_set _ = false
 abbrev pub unary_bits : Format → Content → List Bool
 unary_bits f c = map is_set (f.rows c)
 
--- how many falses stand before each true, with n before the first bit
+-- the number of clear bits before each set bit, starting from n
 abbrev pub ends_of : ℕ → List Bool → List ℕ
 ends_of n [] = []
 ends_of n (true ∷ bs) = n ∷ ends_of n bs
 ends_of n (false ∷ bs) = ends_of (n + 1) bs
 
--- how many falses there are, with n before the first bit
+-- the number of clear bits, starting from n
 abbrev pub falses : ℕ → List Bool → ℕ
 falses n [] = n
 falses n (true ∷ bs) = falses n bs
 falses n (false ∷ bs) = falses (n + 1) bs
 
--- the last bit, b where there is none
+-- the last bit; b if there is none
 abbrev pub last_bit : Bool → List Bool → Bool
 last_bit b [] = b
 last_bit b (c ∷ bs) = last_bit c bs
 
--- where the first k trues end
+-- the number of bits up to the k-th set bit
 abbrev pub upto : List Bool → ℕ → ℕ
 upto bs zero = 0
 upto [] (suc k) = 0
@@ -43,12 +43,12 @@ abbrev pub all_false : ℕ → List Bool
 all_false zero = []
 all_false (suc n) = false ∷ all_false n
 
--- the bits that offsets are, after an offset `from`
+-- the bits that encode offsets after an offset `from`
 abbrev pub runs : ℕ → List ℕ → List Bool
 runs from [] = []
 runs from (n ∷ ns) = all_false (n - from) ++ true ∷ runs n ns
 
--- is one of the offsets below the one before it
+-- one of the offsets is below the previous one
 abbrev pub falls : ℕ → List ℕ → Bool
 falls from [] = false
 falls from (n ∷ ns) = nat_lt n from || falls n ns
@@ -61,11 +61,11 @@ is_misplaced misplaced = true
 abbrev pub unary_end : Format → Content → ℕ → ℕ
 unary_end f c n = last_or 0 (take n (ends_of 0 (unary_bits f c)))
 
--- the bits can't take the runs, or an offset is below the one before it
+-- the bits refuse the runs, or an offset is below the previous one
 abbrev pub unary_refuses : Format → Excess → Content → ℕ → List Row → Bool
 unary_refuses f e c n rs = f.refuses e c (upto (unary_bits f c) n) (map truth (runs (unary_end f c n) (numbers rs))) || (is_misplaced e && falls (unary_end f c n) (numbers rs))
 
--- the bits' rules, and then that the last bit is true
+-- the bits' rules, then that the last bit is set
 abbrev pub unary_broken : Format → Content → List Fault
 unary_broken f c = f.broken c ++ unless (last_bit true (unary_bits f c)) (fault 11 0)
 
@@ -85,7 +85,7 @@ unary f = record {
   refuses = unary_refuses f;
 }
 
--- where a walk over offsets stands: those that are left, and the number of the word that it has loaded
+-- the state of an iteration over offsets: the remaining ones, and the number of the loaded word
 pub record EndsLeft : Type 0 where
   pub left : List ℕ
   pub word : ℕ
@@ -93,6 +93,6 @@ pub record EndsLeft : Type 0 where
 abbrev pub ends_left : List ℕ → ℕ → EndsLeft
 ends_left ns n = record { left = ns; word = n }
 
--- the offsets whose trues a cursor has before it
+-- the offsets whose set bits are not before the cursor
 abbrev pub ends_after : Standing → List ℕ
 ends_after s = drop (ones s.bits s.pos) (ends_of 0 s.bits)

@@ -1,4 +1,4 @@
--- Offsets in unary, by the ranks and the places of their bits.
+-- Offsets in unary, from the ranks and positions of their bits.
 use Rattle.std.proofs.Common.{◌≡◌, ℕ, zero, suc, ◌+◌, ◌-◌, ◌*◌, ◌/◌, ◌%◌, ◌^◌, ◌<◌, ◌≤◌, Bool, true, false, List, [], ◌∷◌, ◌++◌, length, drop, map, refl, sym, ◌∙◌, ap, arith, length-append, append-nil, append_assoc, ⊎_elim}
 use Rattle.std.specs.Prelude.{slice_get, slice_index_or, count_by, Some, bit_or}
 use Rattle.std.proofs.lemmas.List.{take-append-le, get_or_append_left, get_or-append_right}
@@ -24,13 +24,13 @@ four = omega arith
 pub ranks_bits_are : (c : Content) → unary_bits ranks_format c ≡ ranks_bits c
 ranks_bits_are c = set_truths (ranks_bits c)
 
--- there is an offset for each true
+-- there is an offset for each set bit
 pub ones_ends : (n : ℕ) (b : List Bool) → ones b (length b) ≡ length (ends_of n b)
 ones_ends n [] = ones_zero []
 ones_ends n (true ∷ b) = ones_true b (length b) ∙ ap suc (ones_ends n b)
 ones_ends n (false ∷ b) = ones_false b (length b) ∙ ones_ends (n + 1) b
 
--- the offset of the true at p
+-- the offset of the set bit at p
 pub ends_found : (n : ℕ) (b : List Bool) (p : ℕ) → slice_index_or b p false ≡ true → (slice_get (ends_of n b) (ones b p) ≡ Some (n + (p - ones b p))) × (ones b p ≤ p)
 ends_found n [] p h = cc
 ends_found n (true ∷ b) zero h =
@@ -49,7 +49,7 @@ ends_found n (false ∷ b) (suc p) h =
     let d : n + (suc p - ones b p) ≡ n + 1 + (p - ones b p) = omega (arith, q.1) in
     (rw (e, d) q.0, omega (arith, e, q.1))
 
--- where that true ends
+-- the end of that set bit
 pub upto_found : (b : List Bool) (p : ℕ) → slice_index_or b p false ≡ true → upto b (suc (ones b p)) ≡ p + 1
 upto_found [] p h = cc
 upto_found (true ∷ b) zero h = let e : ones (true ∷ b) 0 ≡ 0 = ones_zero (true ∷ b) in rw e (omega arith)
@@ -57,7 +57,7 @@ upto_found (true ∷ b) (suc p) h = let e = ones_true b p in rw e (let q = upto_
 upto_found (false ∷ b) zero h = cc
 upto_found (false ∷ b) (suc p) h = ap (λ (t : ℕ). upto (false ∷ b) (suc t)) (ones_false b p) ∙ (let q = upto_found b p h in let r : upto b (suc (ones b p)) + 1 ≡ suc p + 1 = omega arith in r)
 
--- how many falses there are
+-- the number of clear bits
 pub falses_are : (b : List Bool) → falses 0 b ≡ length b - ones b (length b)
 falses_are b = let h = falses-ends 0 b in let k = ones_ends 0 b in omega arith
 
@@ -70,7 +70,7 @@ last_bit_is c (x ∷ (y ∷ b)) l =
     let h : last_bit x (y ∷ b) ≡ slice_index_or (y ∷ b) (suc (length b) - 1) false = last_bit_is x (y ∷ b) (omega arith) in
     rw e (rw d at h)
 
--- ---- falses after others
+-- ---- clear bits after other bits
 
 zeros_push : (n : ℕ) → all_false n ++ false ∷ [] ≡ all_false (suc n)
 zeros_push zero = refl
@@ -92,7 +92,7 @@ truths_zero (suc n) =
     let h : bit 0 n ≡ false = bit_above 0 0 n (omega arith) (omega arith) in
     rw (e, h, truths_zero n, zeros_push n) at (truths_push (bit 0) n)
 
--- and then a true, as a number
+-- clear bits and a set bit, as a number
 pub truths_run : (n : ℕ) → n < 64 → truths (bit (1 * 2 ^ n % 2 ^ 64)) (n + 1) ≡ all_false n ++ true ∷ []
 truths_run n l =
     let z : bit_or 0 (1 * 2 ^ n % 2 ^ 64) ≡ 1 * 2 ^ n % 2 ^ 64 = or_zero_l (1 * 2 ^ n % 2 ^ 64) in
@@ -105,7 +105,7 @@ run_below n l = rw (or_zero_l (1 * 2 ^ n % 2 ^ 64)) at (set_below 0 n l (zero_be
     zero_below zero = omega arith
     zero_below (suc n) = let h = zero_below n in omega arith
 
--- no true is after them
+-- no set bit follows them
 ones_none : (m p : ℕ) → ones (all_false m) p ≡ 0
 unfolding ones
 ones_none zero zero = refl
@@ -132,7 +132,7 @@ pub repeated_push : (n x : ℕ) → repeated n x ++ x ∷ [] ≡ repeated (n + 1
 repeated_push zero x = refl
 repeated_push (suc n) x = let e : suc n + 1 ≡ suc (n + 1) = omega arith in rw e (ap (λ (t : List ℕ). x ∷ t) (repeated_push n x))
 
--- the counts of bits with others after them, which complete no chunk
+-- the counts of bits after other bits are appended that complete no chunk
 pub counts_kept : (b ds : List Bool) (cs : List ℕ) → AreCounts b cs → (length b + length ds) / 1024 ≡ length b / 1024 → AreCounts (b ++ ds) cs
 unfolding AreCounts ones
 counts_kept b ds cs h e =
@@ -140,7 +140,7 @@ counts_kept b ds cs h e =
     let l : length (b ++ ds) ≡ length b + length ds = length-append b ds in
     (omega arith, λ i m. h.1 i m ∙ sym (ap (λ (x : List Bool). count_by (λ (y : Bool). y) x) (take-append-le (1024 * (i + 1)) b ds (omega arith))))
 
--- the counts of bits with falses after them
+-- the counts of bits after clear bits are appended
 pub counts_run : (b : List Bool) (cs : List ℕ) (m n : ℕ) → AreCounts b cs → n ≡ (length b + m) / 1024 - length cs → AreCounts (b ++ all_false m) (cs ++ repeated n (ones b (length b)))
 unfolding AreCounts ones
 counts_run b cs m n h en =
@@ -163,9 +163,9 @@ pub counted_more : (w ys zs : List ℕ) (n total : ℕ) → words_in (le_bytes y
 counted_more w ys zs n total p q l =
     (words_grown ys zs total q l).0 ∙ ap (λ (t : List ℕ). t ++ total ∷ []) p ∙ append_assoc w (repeated n total) (total ∷ []) ∙ ap (λ (t : List ℕ). w ++ t) (repeated_push n total)
 
--- ---- the next true
+-- ---- the next set bit
 
--- no true stands between
+-- there is no set bit between
 pub ones_skip : (b : List Bool) (p q : ℕ) → p ≤ q → q ≤ length b → ((k : ℕ) → p ≤ k → k < q → slice_index_or b k false ≡ false) → ones b q ≡ ones b p
 ones_skip b p zero l m h = let e : p ≡ 0 = omega arith in ap (ones b) (sym e)
 ones_skip b p (suc q) l m h =
@@ -178,7 +178,7 @@ ones_skip b p (suc q) l m h =
 ones_past : (b : List Bool) (p : ℕ) → length b ≤ p → ones b p ≡ ones b (length b)
 ones_past b p l = ap (λ (t : List Bool). ones t p) (sym (append-nil b)) ∙ ones_after b 0 p l
 
--- what the next true tells: the next offset
+-- the next set bit gives the next offset
 pub record NextEnd (b : List Bool) (pos q : ℕ) : Type 0 where
   pub row : slice_get (ends_of 0 b) (ones b pos) ≡ Some (q - ones b pos)
   pub before : ones b q ≡ ones b pos
@@ -198,14 +198,14 @@ next_end b pos q h =
       within = omega (arith, e, f.1);
     }
 
--- no true is left: no offset
+-- without further set bits there is no offset
 pub no_end : (b : List Bool) (pos : ℕ) → AreFalseFrom b pos → ones b pos ≡ length (ends_of 0 b)
 no_end b pos h =
     ⊎_elim (λ (l : pos < length b). sym (ones_skip b pos (length b) (omega arith) (omega arith) (λ k u v. h k u)) ∙ ones_ends 0 b)
     (λ (l : length b ≤ pos). ones_past b pos l ∙ ones_ends 0 b)
     (cases_lt pos (length b))
 
--- the last bit, as it is read
+-- the last bit
 pub last_read : (b : List Bool) (n : ℕ) (v : Bool) → n ≡ length b → (n ≡ 0 → ⊥) → slice_get (map truth b) (n - 1) ≡ Some (truth v) → v ≡ last_bit true b
 last_read b n v e z h =
     let l : 0 < length b = omega arith in
@@ -222,7 +222,7 @@ last_read b n v e z h =
     get_is (x ∷ b) zero v h = cc
     get_is (x ∷ b) (suc i) v h = get_is b i v h
 
--- ---- a walk over offsets
+-- ---- an iteration over offsets
 
 get_drop : (xs : List ℕ) (i x : ℕ) → slice_get xs i ≡ Some x → drop i xs ≡ x ∷ drop (i + 1) xs
 get_drop [] i x h = cc
@@ -233,7 +233,7 @@ get_drop (y ∷ ys) (suc i) x h = let e : suc i + 1 ≡ suc (i + 1) = omega arit
 pub ends_begin : (s : Standing) (b : List Bool) (n : ℕ) → s ≡ record { bits = b; pos = 0; word = 0; counts = n } → ends_left (ends_after s) s.word ≡ ends_left (ends_of 0 b) 0
 ends_begin s b n e = rw e (let z : ones b 0 ≡ 0 = ones_zero b in rw z refl)
 
--- the next true is the next offset
+-- the next set bit is the next offset
 pub ends_next : (s t : Standing) (q rank : ℕ) → t.bits ≡ s.bits → IsNextTrue s.bits s.pos q → t.pos ≡ q + 1 → rank ≡ ones t.bits t.pos → ends_after s ≡ (q - (rank - 1)) ∷ ends_after t
 ends_next s t q rank e h p r =
     let k = next_end s.bits s.pos q h in
@@ -247,7 +247,7 @@ rank_next s t q rank e h p r =
     let o : ones t.bits t.pos ≡ ones s.bits s.pos + 1 = ap (λ (b : List Bool). ones b t.pos) e ∙ ap (ones s.bits) p ∙ k.after in
     (omega (arith, r, o), omega (arith, r, o, k.within))
 
--- no true is left: no offset is
+-- without further set bits there is no offset
 drop_past : (xs : List ℕ) (i : ℕ) → length xs ≤ i → drop i xs ≡ []
 drop_past [] zero l = refl
 drop_past [] (suc i) l = refl
@@ -260,7 +260,7 @@ ends_done s t e h l =
     let n = no_end s.bits t.pos (λ k u. h k (omega arith)) in
     (drop_past (ends_of 0 s.bits) (ones s.bits s.pos) (omega (arith, m)), rw e (drop_past (ends_of 0 s.bits) (ones s.bits t.pos) (omega (arith, n))))
 
--- the same number, where there is any
+-- the same number, if there is any
 pub repeated_same : (n x y : ℕ) → (0 < n → x ≡ y) → repeated n x ≡ repeated n y
 repeated_same zero x y h = refl
 repeated_same (suc n) x y h = ap (repeated (suc n)) (h (omega arith))

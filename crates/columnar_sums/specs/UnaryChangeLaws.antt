@@ -1,4 +1,4 @@
--- Columns of offsets in unary that are read, grow, and are cut.
+-- Reads, growth and truncation of columns of offsets in unary.
 use Rattle.std.proofs.Common.{◌≡◌, ℕ, zero, suc, ◌+◌, ◌-◌, ◌/◌, ◌%◌, ◌^◌, ◌<◌, ◌≤◌, Bool, true, false, ◌||◌, List, [], ◌∷◌, ◌++◌, length, take, drop, map, refl, sym, ◌∙◌, ap, arith, length-append, length-take, length-drop, append_assoc, append-nil, subst, ⊎_elim}
 use Rattle.std.specs.Prelude.{slice_get, slice_index_or, slice_range, Some, None, Result, Ok, Err, OnErr, IfErr, nat_lt, nat_eq}
 use Rattle.std.proofs.lemmas.List.{length-map, map-append}
@@ -44,7 +44,7 @@ unaries_sound {c} {a} {b} s h = unary_sound ranks_format (record { bits = s; end
 pub unaries_length : (c a b : List ℕ) → ones (bits_in a b) (length (bits_in a b)) ≡ length (unaries_format.rows (three c a b))
 unaries_length c a b = ones_ends 0 (bits_in a b) ∙ ap (λ (t : List Bool). length (ends_of 0 t)) (sym (set_truths (bits_in a b))) ∙ sym (length-offsets ranks_format (three c a b))
 
--- the offset of the true at p
+-- the offset of the set bit at p
 pub unaries_row : (c a b : List ℕ) (i p : ℕ) → slice_index_or (bits_in a b) p false ≡ true → ones (bits_in a b) p ≡ i → (slice_get (unaries_format.rows (three c a b)) i ≡ Some (number (p - i))) × (i ≤ p)
 unaries_row c a b i p h e =
     let q = ends_found 0 (bits_in a b) p h in
@@ -55,7 +55,7 @@ unaries_row c a b i p h e =
 pub unaries_word : (c a b : List ℕ) (i p : ℕ) → p < 2 ^ 64 → slice_index_or (bits_in a b) p false ≡ true → ones (bits_in a b) p ≡ i → slice_get (unaries_format.rows (three c a b)) i ≡ Some (word_row (p - i))
 unaries_word c a b i p l h e = rw (word_is (p - i) (omega arith)) (unaries_row c a b i p h e).0
 
--- the last offset, 0 where there is none
+-- the last offset; 0 if there is none
 abbrev pub last_end : List ℕ → List ℕ → ℕ
 last_end a b = length (bits_in a b) - ones (bits_in a b) (length (bits_in a b))
 
@@ -74,7 +74,7 @@ last_is_end c a b s = ap (last_or 0) (numbers_back (ends_of 0 (unary_bits ranks_
 
 -- ---- growth
 
--- bits after others, which complete no chunk
+-- appended bits that complete no chunk
 pub short_ranked : {c a b a' b' : List ℕ} (ds : List Bool) → SoundRanks c a b → SoundBools a' b' → bits_in a' b' ≡ bits_in a b ++ ds → (length (bits_in a b) + length ds) / 1024 ≡ length (bits_in a b) / 1024 → Ranked c a b c a' b' ds
 short_ranked {c} {a} {b} ds s t e k = record {
   sound = record { whole = s.whole; bools = t; are_counts = rw e (counts_kept (bits_in a b) ds (words_in c) s.are_counts k) };
@@ -112,7 +112,7 @@ run_too_long {c} {a} {b} item run s l e w h = record {
 pub run_refused : {c a b : List ℕ} {y : Content} (item : ℕ) → IsSound unaries_format (three c a b) → Stayed ranks_format (three c a b) y → Refused unaries_format (three c a b) y (word_row item ∷ []) Memory
 run_refused item s g = record { stayed = unary_stayed ranks_format s g; cause = tt }
 
--- falses after, with the counts of the chunks that they complete
+-- appended clear bits, with the counts of the chunks that they complete
 pub falses_ranked : {c a b c' a' b' : List ℕ} (m n : ℕ) → SoundRanks c a b → SoundBools a' b' → bits_in a' b' ≡ bits_in a b ++ all_false m → n ≡ (length (bits_in a b) + m) / 1024 - length (words_in c) → words_in c' ≡ words_in c ++ repeated n (ones (bits_in a b) (length (bits_in a b))) → length c' % 8 ≡ 0 → Ranked c a b c' a' b' (all_false m)
 falses_ranked {c} {a} {b} {c'} {a'} {b'} m n s t e k w l = record {
   sound = record { whole = l; bools = t; are_counts = rw (e, w) (counts_run (bits_in a b) (words_in c) m n s.are_counts k) };
@@ -152,14 +152,14 @@ judged_ended f c o h e =
 
 -- ---- by the calls
 
--- the same tests, of bits with counts
+-- the same tests of counted bits
 pub judged_true : (x : Content) (o : ℕ) → None ≡ first (moved o (ranks_format.broken x)) → last_bit true (ranks_bits x) ≡ true → None ≡ first (moved o (unary_broken ranks_format x))
 judged_true x o h e = judged_ended ranks_format x o h (ap (last_bit true) (set_truths (ranks_bits x)) ∙ e)
 
 pub judged_false : (x : Content) (o : ℕ) → None ≡ first (moved o (ranks_format.broken x)) → last_bit true (ranks_bits x) ≡ false → Some (fault 11 o) ≡ first (moved o (unary_broken ranks_format x))
 judged_false x o h e = judged_open ranks_format x o h (ap (last_bit true) (set_truths (ranks_bits x)) ∙ e)
 
--- as many offsets as trues
+-- as many offsets as set bits
 pub content_length : (x : Content) → ones (ranks_bits x) (length (ranks_bits x)) ≡ length (unaries_format.rows x)
 content_length x = ones_ends 0 (ranks_bits x) ∙ ap (λ (t : List Bool). length (ends_of 0 t)) (sym (set_truths (ranks_bits x))) ∙ sym (length-offsets ranks_format x)
 
@@ -170,25 +170,25 @@ content_rises x end s = unary_rises ranks_format end s ∙ ap (λ (t : ℕ). nat
 pub bits_fit : (o : ℕ) (ss : List (List ℕ)) → Fits unaries_format o ss → Fits ranks_format o ss
 bits_fit o ss h = record { room = h.room; sound = (unary_parts ranks_format h.sound).bits }
 
--- falses, and then a true
+-- clear bits, then a set bit
 pub run_bits : (x u v : List Bool) (n : ℕ) → u ≡ x ++ all_false n → v ≡ u ++ true ∷ [] → v ≡ x ++ (all_false n ++ true ∷ [])
 run_bits x u v n p q = q ∙ ap (λ (t : List Bool). t ++ true ∷ []) p ∙ append_assoc x (all_false n) (true ∷ [])
 
--- growth that was refused after what had been taken, and taken back
+-- growth that failed after a part succeeded, and was rolled back
 pub run_undone : (x x' y z w : Content) (rs : List Row) (n : ℕ) → x' ≡ x → IsSound ranks_format x → Grew ranks_format x' y rs → Stayed ranks_format y z → n ≡ length (ranks_format.rows x) → WasCut ranks_format z w n → Stayed ranks_format x w
 run_undone x x' y z w rs n e s g st l cut =
     let h : Grew ranks_format x y rs = subst (λ (k : Content). Grew ranks_format k y rs) e g in
     let d : WasCut ranks_format z w (length (ranks_format.rows x)) = subst (λ (k : ℕ). WasCut ranks_format z w k) l cut in
     undone ranks_lawful s (grew_stayed h st) d
 
--- what was pushed row by row is a copy
+-- rows pushed one by one are a copy
 pub copied_exactly : (f : Format) {x y : Content} (start : ℕ) {rs : List Row} → IsExact f.alike → Took f x y rs → Copied f x y start rs
 copied_exactly f {x} {y} start {rs} ex t = record {
   took = t;
   front = λ e z. (grew_exactly ex t).rows ∙ ap (λ (us : List Row). us ++ rs) e;
 }
 
--- ---- a range of other offsets, its bits copied at once
+-- ---- a range of other offsets, whose bits are copied at once
 
 range_is : (p q r : List ℕ) (m n lower start from to : ℕ) → m ≤ n → n ≤ length (unaries_format.rows (three p q r)) → slice_get (0 ∷ numbers (unaries_format.rows (three p q r))) m ≡ Some lower → from ≡ lower + m → to ≡ upto (bits_in q r) n → RangeBits (bits_in q r) (slice_range (bits_in q r) from to) m n lower start
 range_is p q r m n lower start from to l k h d e =
@@ -215,7 +215,7 @@ range_refused {c} {a} {b} {y} {error} p q r m n lower start from to s l k h e d 
     let v : Refused ranks_format (three c a b) y (map truth (runs (falses 0 (unary_bits ranks_format (three c a b))) (numbers (map number (ends_of start ds))))) error = rw (f, numbers_back (ends_of start ds), runs_back start ds w.ended) t in
     rw (ends_are p q r, ← w.rows) (unary_refused ranks_format (map number (ends_of start ds)) s v)
 
--- a refused copy of the bits
+-- a failed copy of the bits
 length_range : (b : List Bool) (from to : ℕ) → to ≤ length b → length (slice_range b from to) ≡ to - from
 length_range b from to l = length-take (to - from) (drop from b) ∙ omega (arith, length-drop from b)
 
@@ -225,7 +225,7 @@ range_if_err {T} {c} {a} {b} y p q r m n lower start from to (Err error) s l k h
     let z : length (slice_range (bits_in q r) from to) ≡ to - from = length_range (bits_in q r) from to (omega (arith, t, upto-within (bits_in q r) n)) in
     range_refused {c = c} {a = a} {b = b} {y = y} {error = error} p q r m n lower start from to s l k h e d t st kind (λ x. rw z (w (ap Err x)))
 
--- ---- where offsets stand, by what the calls ask
+-- ---- positions of offsets, from the preconditions of the calls
 
 ends_count : (c a b : List ℕ) → length (unaries_format.rows (three c a b)) ≡ length (ends_of 0 (bits_in a b))
 ends_count c a b = sym (unaries_length c a b) ∙ ones_ends 0 (bits_in a b)
@@ -246,7 +246,7 @@ row_after c a b index before q l h m n =
 pub none_after : (c a b : List ℕ) (index before : ℕ) → index < length (unaries_format.rows (three c a b)) → slice_get (0 ∷ numbers (unaries_format.rows (three c a b))) index ≡ Some before → AreFalseFrom (bits_in a b) (before + index) → ⊥
 none_after c a b index before l h n = end_there (bits_in a b) index (before + index) (omega (arith, ends_count c a b)) (place_after c a b index before (omega arith) h) n
 
--- ---- offsets that were taken do not fall
+-- ---- offsets that were pushed do not fall
 
 first_rises : (x y : Content) (rs : List Row) (n : ℕ) → unaries_format.rows y ≡ unaries_format.rows x ++ rs → slice_get rs 0 ≡ Some (number n) → last_offset x ≤ n
 first_rises x y [] n e h = cc
@@ -263,11 +263,11 @@ first_taken [] start (suc k) r l h = cc
 first_taken (x ∷ rs) zero (suc k) r l h = h
 first_taken (x ∷ rs) (suc start) (suc k) r l h = first_taken rs start (suc k) r l h
 
--- of a range of which one was taken, the first is not below the last that stood before
+-- if a row of a range was pushed, the range's first is not below the column's last one before it
 pub range_rises : {x y : Content} (rs : List Row) (start i n : ℕ) → Took unaries_format x y (take (i - start) (drop start rs)) → start < i → slice_get rs start ≡ Some (number n) → last_offset x ≤ n
 range_rises {x} {y} rs start i n t l h = first_rises x y (take (i - start) (drop start rs)) n (grew_exactly row_eq_exact t).rows (first_taken rs start (i - start) (number n) (omega (arith, l)) h)
 
--- of a range of which none was taken, the last is that which stood before
+-- if no row of a range was pushed, the last offset is unchanged
 same_last : {x y : Content} (rs : List Row) (start : ℕ) → Took unaries_format x y (take (start - start) (drop start rs)) → last_offset y ≡ last_offset x
 same_last {x} {y} rs start t =
     let e : start - start ≡ 0 = omega arith in
@@ -280,7 +280,7 @@ number_same m n l h = let e : number m ≡ number n = rw (word_is m l) at (some_
     some_same : {r s : Row} → Some r ≡ Some s → r ≡ s
     some_same h = cc
 
--- The first of a range was pushed, or it is not below the last that stood before.
+-- The first of a range was pushed, or it is not below the column's last one before it.
 pub range_refuses : {T : Type 0} {x y : Content} (rs : List Row) (start i n m : ℕ) (done : Result T GrowError) → Took unaries_format x y (take (i - start) (drop start rs)) → start ≤ i → slice_get rs start ≡ Some (number n) → n < last_offset x → slice_get rs i ≡ Some (word_row m) → m < 2 ^ 64 → (m < last_offset y → done ≡ Err Offset) → done ≡ Err Offset
 range_refuses {T} {x} {y} rs start i n m done t l h b g k f = ⊎_elim
     (λ (p : start < i). let w = range_rises {x = x} {y = y} rs start i n t p h in absurd (omega (arith, w, b)))

@@ -1,4 +1,4 @@
--- Columns of offsets in unary over bits with counts.
+-- Columns of offsets in unary over counted bits.
 use Rattle.std.specs.Prelude.{ℕ, zero, suc, ◌-◌, List, [], ◌∷◌, length, Vec}
 use Rattle.columnar_sums.specs.Counting.{ones}
 use Rattle.std.specs.Global.{Global}
@@ -13,7 +13,7 @@ use Rattle.columnar_sums.specs.declared.unaries.Unaries.{Unaries}
 abbrev pub unaries_format : Format
 unaries_format = unary ranks_format
 
--- what a column of offsets in unary holds
+-- the content of a column of offsets in unary
 abbrev pub unaries_content : {C V W : Type 0} → (C → List ℕ) → (V → List ℕ) → (W → List ℕ) → Unaries C V W → Content
 unaries_content counts values tail u = ranks_content counts values tail u.bits
 
@@ -25,14 +25,14 @@ abbrev pub repeated : ℕ → ℕ → List ℕ
 repeated zero x = []
 repeated (suc n) x = x ∷ repeated n x
 
--- how many falses a column of bits has
+-- the number of clear bits of a column of bits
 abbrev pub all_falses : Content → ℕ
 all_falses x = length (ranks_bits x) - ones (ranks_bits x) (length (ranks_bits x))
 
--- the last offset of a column, 0 where there is none
+-- the last offset of a column; 0 if there is none
 abbrev pub last_offset : Content → ℕ
 last_offset c = last_or 0 (numbers (unaries_format.rows c))
 
--- the offsets that words are
+-- the offsets that words encode
 abbrev pub offsets_of : List ℕ → List ℕ
 offsets_of words = numbers (words_format.rows (slice (le_bytes words)))

@@ -1,4 +1,4 @@
--- What the format of offsets in unary keeps to, and what growth, a refusal and a cut of its bits leave of it.
+-- Laws of the format of offsets in unary, and growth, refusals and truncations of its bits.
 use Rattle.std.proofs.Common.{◌≡◌, ℕ, zero, suc, ◌+◌, ◌≤◌, Bool, true, false, ◌||◌, List, [], ◌∷◌, ◌++◌, length, take, map, refl, sym, ◌∙◌, ap, arith, append-nil}
 use Rattle.std.specs.Prelude.{nat_le, nat_eq, ◌&&◌}
 use Rattle.std.proofs.Math.Seq.{take-length}
@@ -15,7 +15,7 @@ use Rattle.columnar_core.specs.declared.fault.GrowError.{GrowError}
 use Rattle.columnar_sums.specs.Unary.{is_set, unary_bits, ends_of, falses, last_bit, upto, runs, falls, is_misplaced, unary_end, unary_refuses, unary}
 use Rattle.columnar_sums.specs.UnaryListLaws.{set_truths, ends-append, last-falses, upto-within, upto-all, upto-append, upto-mono, ends_cut, upto-cut, cut-ended, last-append, runs-ended, ends-runs, runs-append, falls-append, last-or-append}
 
--- what the soundness of offsets in unary is made of
+-- what the soundness of offsets in unary consists of
 pub record SoundUnary (f : Format) (c : Content) : Type 0 where
   pub bits : IsSound f c
   pub ended : last_bit true (unary_bits f c) ≡ true
@@ -34,7 +34,7 @@ length-offsets f c = length-map (ends_of 0 (unary_bits f c)) number
 pub length-bits : (f : Format) (c : Content) → length (unary_bits f c) ≡ length (f.rows c)
 length-bits f c = length-map (f.rows c) is_set
 
--- all offsets are all bits
+-- all offsets have all bits
 pub upto_rows : (f : Format) {c : Content} → SoundUnary f c → upto (unary_bits f c) (length ((unary f).rows c)) ≡ length (f.rows c)
 upto_rows f {c} p = ap (upto (unary_bits f c)) (length-offsets f c) ∙ (upto-all true 0 (unary_bits f c) p.ended).1 ∙ length-bits f c
 
@@ -85,9 +85,9 @@ numbers_back (n ∷ ns) = ap (λ (t : List ℕ). n ∷ t) (numbers_back ns)
 pub unary_bounds : (f : Format) → f.turns ≤ 8 → IsBounds (unary f)
 unary_bounds f l = record { exact = row_eq_exact; swift = l; are_numbers = λ c s. ap (map number) (sym (numbers_back (ends_of 0 (unary_bits f c)))) }
 
--- ---- what is kept
+-- ---- rows that stay
 
--- bits with more after them keep the first offsets
+-- appended bits leave the first offsets the same
 pub unary_kept : (f : Format) {x y : Content} (bs : List Bool) → unary_bits f y ≡ unary_bits f x ++ bs → Keeps f x y (length (f.rows x)) → Keeps (unary f) x y (length ((unary f).rows x))
 unary_kept f {x} {y} bs e g = record {
   extents = λ m l.
@@ -125,11 +125,11 @@ end_of_all f {x} p =
     let k : take (length ((unary f).rows x)) (ends_of 0 (unary_bits f x)) ≡ ends_of 0 (unary_bits f x) = rw (length-offsets f x) (take-length (ends_of 0 (unary_bits f x))) in
     ap (last_or 0) k ∙ last-falses true 0 0 (unary_bits f x) (λ h. refl) p.ended
 
--- What is refused in all: the bits can't take the runs after the last offset, or an offset falls.
+-- All refusals: the bits refuse the runs after the last offset, or an offset falls.
 pub unary_refuse_more : (f : Format) (e : Excess) {x : Content} → SoundUnary f x → (rs : List Row) → refuses_more (unary f) e x rs ≡ (refuses_more f e x (map truth (runs (falses 0 (unary_bits f x)) (numbers rs))) || (is_misplaced e && falls (falses 0 (unary_bits f x)) (numbers rs)))
 unary_refuse_more f e {x} p rs = rw (end_of_all f p, upto_rows f p) refl
 
--- the bits took the runs of offsets that do not fall
+-- the bits accepted the runs of offsets that do not fall
 pub unary_took : (f : Format) {x y : Content} (ns : List ℕ) → IsExact f.alike → IsSound (unary f) x → falls (falses 0 (unary_bits f x)) ns ≡ false → Took f x y (map truth (runs (falses 0 (unary_bits f x)) ns)) → Took (unary f) x y (map number ns)
 unary_took f {x} {y} ns ex s h g =
     let p = unary_parts f s in
@@ -163,7 +163,7 @@ unary_took f {x} {y} ns ex s h g =
     falls_after too_many from xs ys h = cc
     falls_after misplaced from xs ys h = falls-append from xs ys ∙ or_right (falls from xs) (falls (last_or from xs) ys) h
 
--- the bits were cut after true n - 1
+-- the bits were truncated after set bit n - 1
 pub unary_cut : (f : Format) {x y : Content} {n : ℕ} → IsSound (unary f) x → n ≤ length ((unary f).rows x) → WasCut f x y (upto (unary_bits f x) n) → WasCut (unary f) x y n
 unary_cut f {x} {y} {n} s l g =
     let p = unary_parts f s in
@@ -199,11 +199,11 @@ unary_refused f {x} {y} {error} rs s g = record {
   cause = true_from f (unary f) x x (map truth (runs (falses 0 (unary_bits f x)) (numbers rs))) rs error (λ e k. unary_refuse_more f e (unary_parts f s) rs ∙ or_left _ (is_misplaced e && falls (falses 0 (unary_bits f x)) (numbers rs)) k) g.cause;
 }
 
--- an offset is below the one before it
+-- an offset is below the previous one
 pub unary_misplaced : (f : Format) {x : Content} (rs : List Row) → IsSound (unary f) x → falls (falses 0 (unary_bits f x)) (numbers rs) ≡ true → refuses_more (unary f) misplaced x rs ≡ true
 unary_misplaced f {x} rs s h = unary_refuse_more f misplaced (unary_parts f s) rs ∙ or_right (refuses_more f misplaced x (map truth (runs (falses 0 (unary_bits f x)) (numbers rs)))) (falls (falses 0 (unary_bits f x)) (numbers rs)) h
 
--- offsets in unary rise, and end at the number of falses
+-- offsets in unary rise, and end at the number of clear bits
 rises_ends : (n : ℕ) (bs : List Bool) (m end : ℕ) (b : Bool) → m ≤ n → (b ≡ true → m ≡ n) → last_bit b bs ≡ true → rises m (ends_of n bs) end ≡ rises (falses n bs) [] end
 rises_ends n [] m end b l h e = ap (λ (t : ℕ). rises t [] end) (h e)
 rises_ends n (true ∷ bs) m end b l h e = rises_on m n (rises n (ends_of n bs) end) l ∙ rises_ends n bs n end true (omega arith) (λ p. refl) e

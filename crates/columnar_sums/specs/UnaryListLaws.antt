@@ -1,4 +1,4 @@
--- Lists of bits as offsets.
+-- Lists of bits that encode offsets.
 use Rattle.std.proofs.Common.{◌≡◌, ℕ, zero, suc, ◌+◌, ◌-◌, ◌<◌, ◌≤◌, Bool, true, false, ◌||◌, List, [], ◌∷◌, ◌++◌, length, take, map, refl, sym, ◌∙◌, ap, arith, append_assoc}
 use Rattle.std.specs.Prelude.{nat_lt}
 use Rattle.std.proofs.lemmas.Bool.{ltb-false}
@@ -16,13 +16,13 @@ ends-append n [] ys = refl
 ends-append n (true ∷ xs) ys = ap (λ (t : List ℕ). n ∷ t) (ends-append n xs ys)
 ends-append n (false ∷ xs) ys = ends-append (n + 1) xs ys
 
--- the last offset is the number of all falses, where the last bit is true
+-- if the last bit is set, the last offset is the number of clear bits
 pub last-falses : (b : Bool) (m n : ℕ) (bs : List Bool) → (b ≡ true → m ≡ n) → last_bit b bs ≡ true → last_or m (ends_of n bs) ≡ falses n bs
 last-falses b m n [] h e = h e
 last-falses b m n (true ∷ bs) h e = last-falses true n n bs (λ p. refl) e
 last-falses b m n (false ∷ bs) h e = last-falses false m (n + 1) bs (λ p. cc) e
 
--- there is a bit for each false and for each true
+-- there is a bit for each clear and each set bit
 pub falses-ends : (n : ℕ) (bs : List Bool) → falses n bs + length (ends_of n bs) ≡ n + length bs
 falses-ends n [] = refl
 falses-ends n (true ∷ bs) = let h = falses-ends n bs in omega arith
@@ -41,7 +41,7 @@ upto-mono [] (suc j) (suc k) l = omega arith
 upto-mono (true ∷ bs) (suc j) (suc k) l = let h = upto-mono bs j k (omega arith) in omega arith
 upto-mono (false ∷ bs) (suc j) (suc k) l = let h = upto-mono bs (suc j) (suc k) l in omega arith
 
--- all trues end where the bits do, where the last bit is true
+-- if the last bit is set, the last set bit is the last bit
 upto-false : (bs : List Bool) (k : ℕ) → 0 < k → upto (false ∷ bs) k ≡ upto bs k + 1
 upto-false bs zero l = absurd (omega arith)
 upto-false bs (suc k) l = refl
@@ -54,7 +54,7 @@ upto-all b n (false ∷ bs) e =
     let l = h.0 refl in
     (λ p. l, upto-false bs (length (ends_of (n + 1) bs)) l ∙ (let q = h.1 in omega arith))
 
--- more bits after change nothing before
+-- appended bits change nothing before them
 pub upto-append : (n : ℕ) (bs cs : List Bool) (k : ℕ) → k ≤ length (ends_of n bs) → upto (bs ++ cs) k ≡ upto bs k
 upto-append n [] cs zero l = refl
 upto-append n [] cs (suc k) l = absurd (omega arith)
@@ -63,7 +63,7 @@ upto-append n (true ∷ bs) cs (suc k) l = ap (λ (t : ℕ). t + 1) (upto-append
 upto-append n (false ∷ bs) cs zero l = refl
 upto-append n (false ∷ bs) cs (suc k) l = ap (λ (t : ℕ). t + 1) (upto-append (n + 1) bs cs (suc k) l)
 
--- the bits up to the end of the first k trues
+-- the bits up to the k-th set bit
 pub ends_cut : (n : ℕ) (bs : List Bool) (k : ℕ) → ends_of n (take (upto bs k) bs) ≡ take k (ends_of n bs)
 ends_cut n bs zero = refl
 ends_cut n [] (suc k) = refl
@@ -133,7 +133,7 @@ pub last-or-append : (from : ℕ) (xs ys : List ℕ) → last_or from (xs ++ ys)
 last-or-append from [] ys = refl
 last-or-append from (x ∷ xs) ys = last-or-append x xs ys
 
--- where offsets after others don't fall, the first of them is not below the last of those
+-- if offsets after others do not fall, their first is not below the last of the others
 pub rises-after : (from n : ℕ) (xs ns : List ℕ) → falls from (xs ++ n ∷ ns) ≡ false → last_or from xs ≤ n
 rises-after from n xs ns h =
     let p = or_false (falls from xs) (falls (last_or from xs) (n ∷ ns)) (sym (falls-append from xs (n ∷ ns)) ∙ h) in

@@ -1,4 +1,4 @@
--- Ranges of offsets in unary: where they stand among the bits, and their bits after those of other offsets.
+-- Ranges of offsets in unary: their positions among the bits, and their bits after those of other offsets.
 use Rattle.std.proofs.Common.{◌≡◌, ℕ, zero, suc, ◌+◌, ◌-◌, ◌<◌, ◌≤◌, Bool, true, false, ◌||◌, List, [], ◌∷◌, ◌++◌, length, take, drop, map, refl, sym, ◌∙◌, ap, arith, length-drop}
 use Rattle.std.specs.Prelude.{slice_get, slice_index_or, slice_range, Some, nat_lt}
 use Rattle.std.proofs.lemmas.List.{length-map, take-map}
@@ -13,9 +13,9 @@ use Rattle.columnar_sums.specs.Unary.{ends_of, last_bit, upto, all_false, runs, 
 use Rattle.columnar_sums.specs.UnaryListLaws.{ends_cut, cut-ended, upto-within}
 use Rattle.columnar_sums.specs.UnaryBitLaws.{ones_ends, ends_found, ones_skip, no_end}
 
--- ---- where offsets stand
+-- ---- positions of offsets
 
--- the last of some offsets does not depend on what is before them
+-- the last of some offsets does not depend on the previous ones
 last_of_some : (m n : ℕ) (ns : List ℕ) → 0 < length ns → last_or m ns ≡ last_or n ns
 last_of_some m n [] l = absurd (omega arith)
 last_of_some m n (x ∷ ns) l = refl
@@ -24,7 +24,7 @@ some_taken : {A : Type 0} (k : ℕ) (xs : List A) → 0 < length xs → 0 < leng
 some_taken k [] l = absurd (omega arith)
 some_taken k (x ∷ xs) l = omega arith
 
--- the first m trues end at the last of their offsets and at their number
+-- the first m set bits end at the sum of the last of their offsets and their number
 upto_ends : (from : ℕ) (b : List Bool) (m : ℕ) → m ≤ length (ends_of from b) → upto b m + from ≡ last_or from (take m (ends_of from b)) + m
 upto_ends from b zero l = omega arith
 upto_ends from [] (suc m) l = absurd (omega arith)
@@ -37,7 +37,7 @@ upto_ends from (false ∷ b) (suc m) l =
 pub upto_at : (b : List Bool) (m lower : ℕ) → m ≤ length (ends_of 0 b) → slice_get (0 ∷ ends_of 0 b) m ≡ Some lower → upto b m ≡ lower + m
 upto_at b m lower l h = let e = upto_ends 0 b m l in let d = last_at m 0 (ends_of 0 b) lower h in omega arith
 
--- there are m trues before that
+-- there are m set bits before that
 ones_upto : (n : ℕ) (b : List Bool) (m : ℕ) → m ≤ length (ends_of n b) → ones b (upto b m) ≡ m
 ones_upto n b zero l = ones_zero b
 ones_upto n [] (suc m) l = absurd (omega arith)
@@ -48,7 +48,7 @@ ones_upto n (false ∷ b) (suc m) l =
     let e : upto b (suc m) + 1 ≡ suc (upto b (suc m)) = omega arith in
     rw e (ones_false b (upto b (suc m)) ∙ ones_upto (n + 1) b (suc m) l)
 
--- the next true from there is that of offset m
+-- the next set bit from there is that of offset m
 pub end_from : (b : List Bool) (m q from : ℕ) → m ≤ length (ends_of 0 b) → from ≡ upto b m → q < length b → IsNextTrue b from q → (slice_get (ends_of 0 b) m ≡ Some (q - m)) × (m ≤ q)
 end_from b m q from l e k h =
     let w = upto-within b m in
@@ -57,7 +57,7 @@ end_from b m q from l e k h =
     let d : 0 + (q - ones b q) ≡ q - m = omega (arith, o) in
     (rw (d, o) at f.0, omega (arith, o, f.1))
 
--- there is one, if there is an offset m
+-- there is one if there is an offset m
 pub end_there : (b : List Bool) (m from : ℕ) → m < length (ends_of 0 b) → from ≡ upto b m → AreFalseFrom b from → ⊥
 end_there b m from l e h =
     let o : ones b from ≡ m = ap (ones b) e ∙ ones_upto 0 b m (omega arith) in
@@ -66,7 +66,7 @@ end_there b m from l e h =
 
 -- ---- bits of a range
 
--- the bits of offsets are the runs of these
+-- the bits of offsets are their runs
 zeros_then : (j : ℕ) (ds : List Bool) → all_false (suc j) ++ ds ≡ all_false j ++ false ∷ ds
 zeros_then zero ds = refl
 zeros_then (suc j) ds = ap (λ (t : List Bool). false ∷ t) (zeros_then j ds)
@@ -98,7 +98,7 @@ rise_from from j (false ∷ ds) = let d : from + suc j ≡ from + j + 1 = omega 
 pub ends_rise : (from : ℕ) (ds : List Bool) → falls from (ends_of from ds) ≡ false
 ends_rise from ds = let e : from + 0 ≡ from = omega arith in rw e at (rise_from from 0 ds)
 
--- the bits after the first m offsets, and how far n of them reach
+-- the bits after the first m offsets, and those of the next n
 ends_drop : (from : ℕ) (b : List Bool) (m : ℕ) → m ≤ length (ends_of from b) → ends_of (last_or from (take m (ends_of from b))) (drop (upto b m) b) ≡ drop m (ends_of from b)
 ends_drop from b zero l = refl
 ends_drop from [] (suc m) l = absurd (omega arith)
@@ -143,7 +143,7 @@ map_both : (lower start : ℕ) (ns : List ℕ) → map number (map (λ n. start 
 map_both lower start [] = refl
 map_both lower start (n ∷ ns) = ap (λ (t : List Row). number (start + (n - lower)) ∷ t) (map_both lower start ns)
 
--- The bits of the offsets m..n, the first after `lower`, where they are appended to bits whose last offset is `start`.
+-- The bits of the offsets m..n, the first after `lower`, appended to bits whose last offset is `start`.
 pub record RangeBits (b ds : List Bool) (m n lower start : ℕ) : Type 0 where
   pub ended : last_bit true ds ≡ true
   pub rows : map number (ends_of start ds) ≡ take (n - m) (drop m (shifted lower start (ends_of 0 b)))

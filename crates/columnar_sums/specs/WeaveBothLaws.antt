@@ -1,4 +1,5 @@
--- Bits, the values of the set ones and those of the clear ones: two weaves, one by the bits and one by the turned bits.
+-- Bits, the values of the set ones and the errors of the clear ones: two weaves, one by the bits and one by the
+-- inverted bits.
 use Rattle.std.proofs.Common.{◌≡◌, ℕ, zero, suc, ◌+◌, ◌-◌, ◌≤◌, Bool, true, false, not, List, [], ◌∷◌, ◌++◌, length, take, drop, map, refl, sym, ◌∙◌, ap, arith}
 use Rattle.std.specs.Prelude.{slice_get, Some, option_map}
 use Rattle.std.proofs.lemmas.Bool.{and_parts, and_from}
@@ -23,7 +24,7 @@ ones_zeros [] (suc n) l = absurd (omega arith)
 ones_zeros (true ∷ b) (suc n) l = omega (arith, ones_true b n, ones_false (turned b) n, ones_zeros b n (omega arith))
 ones_zeros (false ∷ b) (suc n) l = omega (arith, ones_false b n, ones_true (turned b) n, ones_zeros b n (omega arith))
 
--- all falses are the trues of the turned bits
+-- the clear bits are the set bits of the inverted bits
 pub zeros_all : (b : List Bool) → ones (turned b) (length (turned b)) ≡ zeros b (length b)
 zeros_all b = ap (ones (turned b)) (length-map b not)
 
@@ -52,7 +53,7 @@ zeros_range b ws start end e l m =
 
 -- the two weaves
 
--- the result of which one of both options is there
+-- the result of the option that has a value
 abbrev either : Row → Row
 either (tuple (some v) s) = ok v
 either (tuple none (some w)) = err w
@@ -90,7 +91,7 @@ weave_results-take n b vs ws =
     ∙ (rw (t, weave-take n b vs, weave-take n (turned b) ws) (sym (ap (take n) (weave_sides b vs ws)
     ∙ (take-map either n (tuples (weave b vs) (weave (turned b) ws)) ∙ ap (map either) (tuples-take n (weave b vs) (weave (turned b) ws))))))
 
--- a range of woven rows is woven of the range of bits and the values of its trues and of its falses
+-- a range of woven rows is woven from the range of bits and the rows of its set and of its clear bits
 pub weave_results-range : (b : List Bool) (vs ws : List Row) (k m : ℕ) → weave_results (take m (drop k b)) (take (ones b (k + m) - ones b k) (drop (ones b k) vs)) (take (zeros b (k + m) - zeros b k) (drop (zeros b k) ws)) ≡ take m (drop k (weave_results b vs ws))
 weave_results-range b vs ws k m =
     let t : turned (take m (drop k b)) ≡ take m (drop k (turned b)) = sym (turned_range b k m) in
@@ -102,7 +103,7 @@ weave_results-range b vs ws k m =
     ∙ (ap (take m) (drop-map either k both_of) ∙ (take-map either m (drop k both_of)
     ∙ ap (map either) (ap (take m) (tuples-drop k (weave b vs) (weave (turned b) ws)) ∙ tuples-take m (drop k (weave b vs)) (drop k (weave (turned b) ws))))))))
 
--- what they were woven of
+-- the rows they were woven from
 
 ok_parts : (b : List Bool) (vs ws : List Row) → map ok_part (weave_results b vs ws) ≡ weave b vs
 ok_parts [] vs ws = refl
@@ -147,7 +148,7 @@ weave_ok i b vs ws v p q = side_row b vs ws i (some v) none (weave_some i b vs v
 pub weave_err : (i : ℕ) (b : List Bool) (vs ws : List Row) (w : Row) → slice_get b i ≡ Some false → slice_get ws (zeros b i) ≡ Some w → slice_get (weave_results b vs ws) i ≡ Some (err w)
 weave_err i b vs ws w p q = side_row b vs ws i none (some w) (weave_none i b vs p) (weave_some i (turned b) ws w (turned_at b i false p) q)
 
--- values that are alike make rows that are alike
+-- rows woven from values that represent others represent the rows woven from those
 pub weave_results_alike : (p q : Row → Row → Bool) → IsSame p → IsSame q → (b : List Bool) (us vs ws xs : List Row) → all_alike p us vs ≡ true → all_alike q ws xs ≡ true → all_alike (result_alike p q) (weave_results b us ws) (weave_results b vs xs) ≡ true
 weave_results_alike p q sp sq [] us vs ws xs h k = refl
 weave_results_alike p q sp sq (true ∷ b) [] [] ws xs h k =
@@ -165,7 +166,7 @@ weave_results_alike p q sp sq (false ∷ b) us vs (w ∷ ws) (x ∷ xs) h k =
     let e = and_parts (q w x) (all_alike q ws xs) k in
     and_from _ _ (and_from _ _ refl (and_from _ _ (and_from _ _ refl (sp.reflexive unit)) (and_from _ _ refl e.0))) (weave_results_alike p q sp sq b us vs ws xs h e.1)
 
--- all of one kind
+-- all rows of one kind
 
 all_ok : (b : List Bool) (vs : List Row) → ones b (length b) ≡ length vs → zeros b (length b) ≡ 0 → weave_results b vs [] ≡ map ok vs
 all_ok [] [] e z = refl
@@ -189,7 +190,7 @@ pub weave_all_err : (b : List Bool) (vs ws : List Row) → ones b (length b) ≡
 weave_all_err b [] ws e z n = all_err b ws z e
 weave_all_err b (v ∷ vs) ws e z n = absurd (omega arith)
 
--- no errs among oks, no oks among errs
+-- oks have no errs, errs have no oks
 pub errs-oks : (vs : List Row) → errs (map ok vs) ≡ []
 errs-oks [] = refl
 errs-oks (v ∷ vs) = errs-oks vs

@@ -15,7 +15,7 @@ unfolding ones
 ones_nil zero = refl
 ones_nil (suc n) = refl
 
--- the trues of the first k, and those of the m after them
+-- the set bits among the first k, and those among the m after them
 pub ones_over : (b : List Bool) (k m : ℕ) → ones b (k + m) ≡ ones b k + ones (drop k b) m
 ones_over b zero m = let z = ones_zero b in let e : zero + m ≡ m = omega arith in rw (e, z) (let f : zero + ones b m ≡ ones b m = omega arith in sym f)
 ones_over [] (suc k) m = rw (ones_nil (suc k + m), ones_nil (suc k), ones_nil m) refl
@@ -33,7 +33,7 @@ ones_grows b m n l =
     let f : ones b n ≡ ones b m + ones (drop m b) (n - m) = ap (ones b) (sym e) ∙ d in
     omega arith
 
--- the trues of all, whatever n from there on
+-- from the end on, the count is that of all bits
 pub ones_past : (b : List Bool) (n : ℕ) → length b ≤ n → ones b n ≡ ones b (length b)
 ones_past [] n l = rw (ones_nil n, ones_nil 0) refl
 ones_past (x ∷ b) zero l = absurd (omega arith)
@@ -43,7 +43,7 @@ ones_past (false ∷ b) (suc n) l = ones_false b n ∙ (ones_past b n (omega ari
 pub ones_most : (b : List Bool) (n : ℕ) → n ≤ length b → ones b n ≤ ones b (length b)
 ones_most b n l = ones_grows b n (length b) l
 
--- of two lists, one after the other
+-- the set bits of two lists, one after the other
 pub ones_both : (b c : List Bool) → ones (b ++ c) (length (b ++ c)) ≡ ones b (length b) + ones c (length c)
 ones_both [] c = let z = ones_nil 0 in rw z (let f : zero + ones c (length c) ≡ ones c (length c) = omega arith in sym f)
 ones_both (true ∷ b) c = omega (arith, ones_true (b ++ c) (length (b ++ c)), ones_both b c, ones_true b (length b))
@@ -69,7 +69,7 @@ ones_cut [] (suc n) (suc k) l = refl
 ones_cut (true ∷ b) (suc n) (suc k) l = ones_true (take n b) k ∙ (ap suc (ones_cut b n k (omega arith)) ∙ sym (ones_true b k))
 ones_cut (false ∷ b) (suc n) (suc k) l = ones_false (take n b) k ∙ (ones_cut b n k (omega arith) ∙ sym (ones_false b k))
 
--- a true has fewer before it than there are
+-- a set bit has fewer set bits before it than there are
 pub ones_before : (b : List Bool) (i : ℕ) → slice_get b i ≡ Some true → ones b i < ones b (length b)
 ones_before [] i h = cc
 ones_before (true ∷ b) zero h = omega (arith, ones_zero (true ∷ b), ones_true b (length b))
@@ -77,7 +77,7 @@ ones_before (false ∷ b) zero h = cc
 ones_before (true ∷ b) (suc i) h = omega (arith, ones_true b i, ones_before b i h, ones_true b (length b))
 ones_before (false ∷ b) (suc i) h = omega (arith, ones_false b i, ones_before b i h, ones_false b (length b))
 
--- A range of bits has as many trues as values lie between the ranks of its ends.
+-- A range of bits has as many set bits as there are values between the ranks of its ends.
 pub ones_range : (b : List Bool) (vs : List Row) (start end : ℕ) → ones b (length b) ≡ length vs → start ≤ end → end ≤ length b → ones (take (end - start) (drop start b)) (length (take (end - start) (drop start b))) ≡ length (take (ones b end - ones b start) (drop (ones b start) vs))
 ones_range b vs start end e l m =
     let d : start + (end - start) ≡ end = omega arith in
@@ -135,7 +135,7 @@ weave-drop (suc n) (true ∷ b) [] =
     let e : drop (ones b n) [] ≡ [] = drop-none (ones b n) [] refl in
     rw (ones_true b n) (rw e at k)
 
--- a range of woven rows is woven of the range of bits and the values of its trues
+-- a range of woven rows is woven from the range of bits and the values of its set bits
 pub weave-range : (b : List Bool) (vs : List Row) (k m lo hi : ℕ) → lo ≡ ones b k → hi ≡ ones b (k + m) → weave (take m (drop k b)) (take (hi - lo) (drop lo vs)) ≡ take m (drop k (weave b vs))
 weave-range b vs k m lo hi p q =
     let e : hi - lo ≡ ones (drop k b) m = omega (arith, ones_over b k m) in
@@ -179,7 +179,7 @@ weave_none (suc i) (true ∷ b) (w ∷ vs) p = weave_none i b vs p
 weave_none (suc i) (true ∷ b) [] p = weave_none i b [] p
 weave_none (suc i) (false ∷ b) vs p = weave_none i b vs p
 
--- values that are alike make rows that are alike
+-- rows woven from values that represent others represent the rows woven from those
 pub weave_alike : (same : Row → Row → Bool) → IsSame same → (b : List Bool) (us vs : List Row) → ones b (length b) ≡ length vs → all_alike same us vs ≡ true → all_alike (option_alike same) (weave b us) (weave b vs) ≡ true
 weave_alike same s [] us vs e h = refl
 weave_alike same s (true ∷ b) [] [] e h = absurd (omega (arith, ones_true b (length b)))

@@ -1,4 +1,4 @@
-//! Which variant each row is of, and how many earlier rows are of the same.
+//! Columns that store the variant of each row, and how many earlier rows have the same variant.
 ghost use Rattle.std.specs.Prelude.{◌≡◌, ℕ, ◌+◌, ◌<◌, List, [], ◌∷◌, length, take, slice_get, Some, IfSome, IsTrue, IsFalse};
 ghost use Rattle.columnar_core.specs.Format.{both, slice, IsSound};
 ghost use Rattle.columnar_core.specs.WordViews.{view_bytes, words_in};
@@ -11,12 +11,12 @@ use columnar_core::traits::{Column, Index, Len};
 use columnar_core::view::View;
 use columnar_core::words::{Words, byte_count, word_at};
 
-/// Variants, a byte each, that can be viewed: those of a `Vec`, or a slice of them.
+/// Variants, one byte each, that can be read as a slice: a `Vec` of them, or a slice.
 pub trait Variants {
     // the variants
     ghost bytes: { Self → List ℕ };
 
-    /// The variants. Needs no memory.
+    /// Returns the variants. Allocates nothing.
     fn variants(&self) -> &[u8]
         ensures { result.now ≡ bytes self.now };
 }
@@ -37,14 +37,14 @@ impl<'a> Variants for &'a [u8] {
     }
 }
 
-/// For each row its variant, and how many earlier rows are of that variant. It has one of three forms: nothing, where
-/// there is no row; no variants, and as offsets one more than the variant of all rows and their number; or a variant and
-/// an offset for each row, where there are two different variants at least.
+/// A column of rows `(variant, number of earlier rows of that variant)`. It has one of three forms: both parts empty if
+/// there are no rows; no variants, and two offsets (the variant of all rows plus one, and the number of rows); or a
+/// variant and an offset for each row, if at least two variants differ.
 #[derive(Clone, Copy, PartialEq, Drop)]
 pub struct Discriminant<CVar = Vec<u8>, COff = Vec<u64>> {
-    /// The variant of each row, where there are two different ones at least.
+    /// The variant of each row if at least two differ; otherwise empty.
     pub variant: CVar,
-    /// How many earlier rows are of the same variant, for each row; or what all rows have in common.
+    /// For each row the number of earlier rows of its variant; or the two words that describe all rows.
     pub offset: COff,
 }
 
@@ -54,7 +54,7 @@ impl<CVar: Variants, COff: Words> Column for Discriminant<CVar, COff> {
     ghost content = { forms_content CVar.bytes COff.bytes };
 }
 
-// How many rows variants and offsets have.
+// Counts the rows.
 fn count_rows(variants: &[u8], offsets: View<'_, u64>) -> usize
     requires { IsSound discriminant_format (both (slice variants.now) (slice (view_bytes offsets))) }
     ensures { result ≡ length (variants_of (both (slice variants.now) (slice (view_bytes offsets.entry)))) }
@@ -82,7 +82,10 @@ impl<CVar: Variants, COff: Words> Index for Discriminant<CVar, COff> {
 }
 
 impl<CVar: Variants, COff: Words> Discriminant<CVar, COff> {
-    /// The variant of row `index`, and how many earlier rows are of it.
+    /// Returns the variant of row `index`, and how many earlier rows have it.
+    ///
+    /// # Requires
+    /// The column is well-formed, and `index` is less than its length.
     pub fn get(&self, index: usize) -> (u8, u64)
         requires sound { IsSound discriminant_format (forms_content CVar.bytes COff.bytes self.now) }
         requires in_range { index < length (discriminant_format.rows (forms_content CVar.bytes COff.bytes self.now)) }
@@ -97,8 +100,11 @@ impl<CVar: Variants, COff: Words> Discriminant<CVar, COff> {
         }
     }
 
-    /// Are there two different variants at least? Then a variant and an offset are kept for each row, and no variant
-    /// else.
+    /// Tests whether at least two variants differ. If so, each row has a variant and an offset in the slices; otherwise
+    /// there are no variants.
+    ///
+    /// # Requires
+    /// The column is well-formed.
     pub fn is_heterogeneous(&self) -> bool
         requires { IsSound discriminant_format (forms_content CVar.bytes COff.bytes self.now) }
         ensures mixed { result ≡ is_mixed (variants_of (forms_content CVar.bytes COff.bytes self.now)) }
@@ -108,8 +114,11 @@ impl<CVar: Variants, COff: Words> Discriminant<CVar, COff> {
         self.variant.variants().len() > 0
     }
 
-    /// The variant of all rows; None where there is no row, or where there are two different variants. Where there is
-    /// one, one more than it and the number of rows are all that is kept.
+    /// Returns the variant of all rows; `None` if there are no rows or two variants differ. If there is one, the column
+    /// stores only that variant plus one, and the number of rows.
+    ///
+    /// # Requires
+    /// The column is well-formed.
     pub fn homogeneous(&self) -> Option<u8>
         requires { IsSound discriminant_format (forms_content CVar.bytes COff.bytes self.now) }
         ensures sole { result ≡ sole (variants_of (forms_content CVar.bytes COff.bytes self.now)) }

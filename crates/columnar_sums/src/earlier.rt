@@ -1,4 +1,4 @@
-//! Offsets in unary, options and results that are made of an earlier form.
+//! Conversion of stores of an earlier form into offsets in unary, options and results.
 ghost use Rattle.std.specs.Prelude.{◌≡◌, ◌+◌, ◌^◌, ◌≤◌, length, true, false, IfOk, IfErr};
 ghost use Rattle.columnar_core.specs.Format.{IsSound, slice};
 ghost use Rattle.columnar_core.specs.Bounds.{last_or};
@@ -22,8 +22,11 @@ impl Kept for RankSelect<Vec<u64>, Vec<u64>, [u64; 2]> {}
 
 impl Kept for Discriminant<Vec<u8>, Vec<u64>> {}
 
-/// The earlier form is a column of numbers. Offset is answered where they fall, and else Length where the last one and their
-/// number would together pass 2^64 - 1, both before any memory is taken.
+/// Converts a column of numbers.
+///
+/// # Errors
+/// `Offset` if the numbers fall; otherwise `Length` if the last number plus their count exceeds 2^64 - 1. Both are
+/// returned before any allocation.
 impl Earlier for Unaries<Vec<u64>, Vec<u64>, [u64; 2]> {
     type Old = Vec<u64>;
 
@@ -42,7 +45,7 @@ impl Earlier for Unaries<Vec<u64>, Vec<u64>, [u64; 2]> {
     }
 }
 
-/// The earlier form has the same bits.
+/// The earlier form stores the same bits.
 impl<TC: Earlier> Earlier for Options<TC, Vec<u64>, Vec<u64>, [u64; 2]> {
     type Old = Options<TC::Old, Vec<u64>, Vec<u64>, [u64; 2]>;
 
@@ -60,7 +63,7 @@ impl<TC: Earlier> Earlier for Options<TC, Vec<u64>, Vec<u64>, [u64; 2]> {
     }
 }
 
-/// The earlier form has the same bits.
+/// The earlier form stores the same bits.
 impl<SC: Earlier + Drop, TC: Earlier> Earlier for Results<SC, TC, Vec<u64>, Vec<u64>, [u64; 2]> {
     type Old = Results<SC::Old, TC::Old, Vec<u64>, Vec<u64>, [u64; 2]>;
 

@@ -1,5 +1,4 @@
-//! Columns of sums: bits that are counted, offsets in unary, rows that may be absent, rows of one of two kinds, and
-//! variants.
+//! Columns of sum types: counted bits, offsets in unary, options, results and variants.
 #![tactic(auto)]
 
 pub mod discriminant;

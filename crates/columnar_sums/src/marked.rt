@@ -1,4 +1,4 @@
-//! A value in one column, and its bit in another.
+//! Pushes a value to one column and its bit to another.
 ghost use Rattle.std.specs.Prelude.{[], ◌∷◌, OnOk, IfErr};
 ghost use Rattle.columnar_core.specs.Row.{truth};
 ghost use Rattle.columnar_core.specs.Format.{IsSound};
@@ -13,7 +13,10 @@ use columnar_core::traits::{Item, Len, Push, PushRef};
 
 type Held = RankSelect<Vec<u64>, Vec<u64>, [u64; 2]>;
 
-/// Pushes a value, and then its bit; both or neither. Where the bit is refused, the value is taken back.
+/// Pushes a value and then its bit, or neither. If the push of the bit fails, the value is removed again.
+///
+/// # Requires
+/// Both columns are well-formed, and `item` is valid.
 #[inline(always)]
 pub fn push_marked<T: Item, TC: Truncate + Push<T>>(
     values: &mut TC,
@@ -39,7 +42,10 @@ pub fn push_marked<T: Item, TC: Truncate + Push<T>>(
     }
 }
 
-/// The same of a value by reference.
+/// Does the same as `push_marked` with a value by reference.
+///
+/// # Requires
+/// As `push_marked`.
 #[inline(always)]
 pub fn push_ref_marked<T: Item, TC: Truncate + PushRef<T>>(
     values: &mut TC,

@@ -1,4 +1,4 @@
-//! Rows that may be absent.
+//! Columns of optional rows.
 ghost use Rattle.std.specs.Prelude.{◌≡◌, ◌↔◌, ◌≤◌, ℕ, IfSome, IsSome, IsTrue, length, map, take};
 ghost use Rattle.columnar_core.specs.Row.{some};
 ghost use Rattle.columnar_core.specs.Format.{both, IsSound};
@@ -12,7 +12,7 @@ use crate::rank_select::RankSelect;
 use columnar_core::traits::{Column, Index, Len};
 use columnar_core::words::Words;
 
-/// Rows that may be absent: a bit for each row, and the values of the rows that have one.
+/// A column of optional rows: a bit for each row, and the values of the rows that have one.
 #[derive(Clone, Copy, PartialEq, Drop)]
 pub struct Options<TC, CC = Vec<u64>, VC = Vec<u64>, WC = [u64; 2]> {
     /// For each row, whether it has a value.
@@ -46,7 +46,7 @@ impl<TC: Index, CC: Words, VC: Words, WC: Words> Index for Options<TC, CC, VC, W
     }
 }
 
-/// Rows are read through a reference as the values are through one.
+/// Rows are read through a reference if the values are.
 impl<'a, TC: Len, CC: Words, VC: Words, WC: Words> Index for &'a Options<TC, CC, VC, WC>
 where
     &'a TC: Index,
@@ -66,7 +66,10 @@ where
 }
 
 impl<TC: Len, CC: Words, VC: Words, WC: Words> Options<TC, CC, VC, WC> {
-    /// Has no row a value?
+    /// Tests whether no row has a value.
+    ///
+    /// # Requires
+    /// The column is well-formed.
     pub fn is_all_none(&self) -> bool
         requires { IsSound (options_format TC.format) (both (ranks_content CC.bytes VC.bytes WC.bytes self.now.indexes) (TC.content self.now.somes)) }
         ensures { IsTrue result ↔ AreNone ((options_format TC.format).rows (both (ranks_content CC.bytes VC.bytes WC.bytes self.now.indexes) (TC.content self.now.somes))) }
@@ -74,7 +77,10 @@ impl<TC: Len, CC: Words, VC: Words, WC: Words> Options<TC, CC, VC, WC> {
         self.somes.len() == 0
     }
 
-    /// How many of the first `n` rows have a value. Asks that there are as many rows.
+    /// Counts those of the first `n` rows that have a value.
+    ///
+    /// # Requires
+    /// The column is well-formed, and `n` is at most its length.
     pub fn rank(&self, n: usize) -> usize
         requires sound { IsSound (options_format TC.format) (both (ranks_content CC.bytes VC.bytes WC.bytes self.now.indexes) (TC.content self.now.somes)) }
         requires in_range { n ≤ length ((options_format TC.format).rows (both (ranks_content CC.bytes VC.bytes WC.bytes self.now.indexes) (TC.content self.now.somes))) }
@@ -84,8 +90,27 @@ impl<TC: Len, CC: Words, VC: Words, WC: Words> Options<TC, CC, VC, WC> {
     }
 }
 
+impl<TC: Column, CC: Words + Drop, VC: Words + Drop, WC: Words + Drop> Options<TC, CC, VC, WC> {
+    /// Returns the column of the values that are present, in order.
+    ///
+    /// # Requires
+    /// The column is well-formed.
+    pub fn into_somes(self) -> TC
+        requires { IsSound (options_format TC.format) (both (ranks_content CC.bytes VC.bytes WC.bytes self.indexes) (TC.content self.somes)) }
+        ensures sound { IsSound TC.format (TC.content result) }
+        ensures rows { TC.format.rows (TC.content result) ≡ somes ((options_format TC.format).rows (both (ranks_content CC.bytes VC.bytes WC.bytes self.indexes) (TC.content self.somes))) }
+        ensures values { result ≡ self.somes }
+    {
+        let Options { indexes: _, somes } = self;
+        somes
+    }
+}
+
 impl<TC: Len + Drop, CC: Words + Drop, VC: Words + Drop, WC: Words + Drop> Options<TC, CC, VC, WC> {
-    /// The values, where each row has one; None exactly where a row has none.
+    /// Returns the column of values if every row has one; `None` if and only if some row has none.
+    ///
+    /// # Requires
+    /// The column is well-formed.
     pub fn try_unwrap(self) -> Option<TC>
         requires { IsSound (options_format TC.format) (both (ranks_content CC.bytes VC.bytes WC.bytes self.indexes) (TC.content self.somes)) }
         ensures exact { IsSome result ↔ AreSome ((options_format TC.format).rows (both (ranks_content CC.bytes VC.bytes WC.bytes self.indexes) (TC.content self.somes))) }

@@ -1,9 +1,10 @@
-//! Truth values with counts of the trues before a place.
+//! Bit vectors with counts of set bits, for rank and select.
 ghost use Rattle.std.specs.Prelude.{◌≡◌, ℕ, ◌+◌, ◌-◌, ◌*◌, ◌/◌, ◌%◌, ◌^◌, ◌<◌, ◌≤◌, [], ◌∷◌, ◌++◌, length, slice_index, slice_index_or, slice_range, false, true, take, drop, OnOk, OnErr, IfErr, IsOk, IfSome, IfNone, IsNone, Some, None, refl};
 ghost use Rattle.columnar_core.specs.Change.{Stayed};
 ghost use Rattle.columnar_core.specs.WordViews.{words_in, bit_words, le_bytes};
 ghost use Rattle.columnar_bits.specs.BoolColumns.{IsOfGrowth};
-ghost use Rattle.columnar_sums.specs.Counting.{ones, place, Adds, digits};
+ghost use Rattle.columnar_base.specs.Digits.{digits};
+ghost use Rattle.columnar_sums.specs.Counting.{ones, place, Adds};
 ghost use Rattle.columnar_sums.specs.RankColumns.{ranks_format, ranks_content, bits_ranked, IsRanked, owned_ranks, ranked_bits};
 ghost use Rattle.columnar_sums.specs.RankLaws.{ranks_lawful};
 
@@ -24,10 +25,10 @@ pub(crate) use grow::counted;
 pub use search::select_in_word;
 use search::{rank_in, rank_in_words, select_in};
 
-/// Truth values, and how many are set up to the end of each 1024 of them.
+/// A bit vector, with the number of set bits up to the end of each 1,024 bits.
 #[derive(Clone, Copy, PartialEq, Drop)]
 pub struct RankSelect<CC = Vec<u64>, VC = Vec<u64>, WC = [u64; 2]> {
-    /// One count for each complete 1024 bits: how many are set up to its end.
+    /// One count for each complete 1,024 bits: the number of set bits up to their end.
     pub counts: CC,
     /// The bits.
     pub values: Bools<VC, WC>,
@@ -54,14 +55,14 @@ impl<CC: Words, VC: Words, WC: Words> Index for RankSelect<CC, VC, WC> {
 }
 
 impl<CC: Words, VC: Words, WC: Words> RankSelect<CC, VC, WC> {
-    // Its counts, metered.
+    // Returns the counts, metered.
     pub(crate) fn metered_counts<L>(&self) -> MeteredCounts<'_, L>
         ensures { result ≡ words_in (CC.bytes self.now.counts) }
     {
         MeteredCounts::new(self.counts.words())
     }
 
-    // Its words, metered.
+    // Returns the words of the bits, metered.
     pub(crate) fn metered_words<L>(&self) -> MeteredWords<'_, L>
         requires { IsRanked CC.bytes VC.bytes WC.bytes self.now }
         ensures { result ≡ bit_words (VC.bytes self.now.values.values) (WC.bytes self.now.values.tail) }
@@ -69,8 +70,10 @@ impl<CC: Words, VC: Words, WC: Words> RankSelect<CC, VC, WC> {
         MeteredWords::new(self.values.values.words(), self.values.tail.words())
     }
 
-    /// How many of the first `index` bits are set. Asks that there are as many bits. `select` finds a set bit again by
-    /// its rank.
+    /// Counts the set bits among the first `index`. `select` finds a set bit by its rank.
+    ///
+    /// # Requires
+    /// The column is well-formed, and `index` is at most the number of bits.
     #[tactic(auto, using(crate::specs::CountLaws::place_some))]
     pub fn rank(&self, index: usize) -> usize
         requires ranked { IsRanked CC.bytes VC.bytes WC.bytes self.now }
@@ -81,7 +84,10 @@ impl<CC: Words, VC: Words, WC: Words> RankSelect<CC, VC, WC> {
         self.rank_tallied(index, &mut Tally::new())
     }
 
-    /// As `rank`; what it reads is added to the tally: at most one count and 16 words.
+    /// Does the same as `rank`, and adds what it reads to the tally: at most one count and 16 words.
+    ///
+    /// # Requires
+    /// As `rank`.
     pub fn rank_tallied<L>(&self, index: usize, tally: &mut Tally<L>) -> usize
         requires ranked { IsRanked CC.bytes VC.bytes WC.bytes self.now }
         requires in_range { index ≤ length (bits_ranked VC.bytes WC.bytes self.now) }
@@ -93,8 +99,11 @@ impl<CC: Words, VC: Words, WC: Words> RankSelect<CC, VC, WC> {
         rank_in(&self.metered_counts(), &self.metered_words(), index, tally)
     }
 
-    /// As `rank`, by the words since the count before the place: less to do where one place is asked for after the other, as
-    /// rows are read, and more where they are asked for at random.
+    /// Does the same as `rank`, but reads only the words since the last count. It is faster than `rank` if positions
+    /// are sequential, as when rows are read in order, and slower if they are random.
+    ///
+    /// # Requires
+    /// As `rank`.
     pub fn rank_in_turn(&self, index: usize) -> usize
         requires ranked { IsRanked CC.bytes VC.bytes WC.bytes self.now }
         requires in_range { index ≤ length (bits_ranked VC.bytes WC.bytes self.now) }
@@ -104,8 +113,11 @@ impl<CC: Words, VC: Words, WC: Words> RankSelect<CC, VC, WC> {
         self.rank_in_turn_tallied(index, &mut Tally::new())
     }
 
-    /// As `rank_in_turn`; what it reads is added to the tally: at most one count, the words from the last place on that is
-    /// a multiple of 1,024, and the word of the place itself.
+    /// Does the same as `rank_in_turn`, and adds what it reads to the tally: at most one count, the words since the
+    /// last position that is a multiple of 1,024, and the word of the position itself.
+    ///
+    /// # Requires
+    /// As `rank`.
     pub fn rank_in_turn_tallied<L>(&self, index: usize, tally: &mut Tally<L>) -> usize
         requires ranked { IsRanked CC.bytes VC.bytes WC.bytes self.now }
         requires in_range { index ≤ length (bits_ranked VC.bytes WC.bytes self.now) }
@@ -117,7 +129,7 @@ impl<CC: Words, VC: Words, WC: Words> RankSelect<CC, VC, WC> {
         rank_in_words(&self.metered_counts(), &self.metered_words(), index, tally)
     }
 
-    // How many bits are set; what it reads is added to the tally, as of a rank.
+    // Counts all set bits, and adds what it reads to the tally: no more than `rank_tallied`.
     pub(crate) fn trues_tallied<L>(&self, tally: &mut Tally<L>) -> usize
         requires { IsRanked CC.bytes VC.bytes WC.bytes self.now }
         ensures value { result ≡ ones (bits_ranked VC.bytes WC.bytes self.now) (length (bits_ranked VC.bytes WC.bytes self.now)) }
@@ -127,7 +139,11 @@ impl<CC: Words, VC: Words, WC: Words> RankSelect<CC, VC, WC> {
         self.rank_tallied(self.len(), tally)
     }
 
-    /// Where the set bit stands before which `rank` others are set; None exactly where at most `rank` are set.
+    /// Returns the position of the set bit that has `rank` set bits before it; `None` if and only if at most `rank`
+    /// bits are set.
+    ///
+    /// # Requires
+    /// The column is well-formed.
     pub fn select(&self, rank: u64) -> Option<usize>
         requires { IsRanked CC.bytes VC.bytes WC.bytes self.now }
         ensures value { result ≡ place (bits_ranked VC.bytes WC.bytes self.now) rank }
@@ -138,8 +154,11 @@ impl<CC: Words, VC: Words, WC: Words> RankSelect<CC, VC, WC> {
         self.select_tallied(rank, &mut Tally::new())
     }
 
-    /// As `select`; what it reads is added to the tally: at most 16 words, and one count more than the number of
-    /// counts has binary digits. So are its turns: at most 19 more than that number has digits.
+    /// Does the same as `select`, and adds what it reads to the tally: at most 16 words, and one count more than the
+    /// number of counts has binary digits. Takes at most 19 more steps than that number has digits.
+    ///
+    /// # Requires
+    /// The column is well-formed.
     pub fn select_tallied<L>(&self, rank: u64, tally: &mut Tally<L>) -> Option<usize>
         requires { IsRanked CC.bytes VC.bytes WC.bytes self.now }
         ensures value { result ≡ place (bits_ranked VC.bytes WC.bytes self.now) rank }
@@ -150,7 +169,10 @@ impl<CC: Words, VC: Words, WC: Words> RankSelect<CC, VC, WC> {
         select_in(&self.metered_counts(), &self.metered_words(), rank, tally)
     }
 
-    /// A cursor before the first bit.
+    /// Creates a cursor before the first bit.
+    ///
+    /// # Requires
+    /// The column is well-formed.
     pub fn cursor(&self) -> Cursor<'_, CC, VC, WC>
         requires { IsRanked CC.bytes VC.bytes WC.bytes self.now }
         ensures { result ≡ record { bits = bits_ranked VC.bytes WC.bytes self.now; pos = 0; word = 0; counts = length (words_in (CC.bytes self.now.counts)) } }
@@ -158,7 +180,10 @@ impl<CC: Words, VC: Words, WC: Words> RankSelect<CC, VC, WC> {
         self.cursor_tallied(&mut Tally::new())
     }
 
-    /// As `cursor`; it has loaded word 0 and stands in it, which is added to the tally.
+    /// Does the same as `cursor`, and adds word 0, which it loads, to the tally.
+    ///
+    /// # Requires
+    /// The column is well-formed.
     pub fn cursor_tallied<L>(&self, tally: &mut Tally<L>) -> Cursor<'_, CC, VC, WC>
         requires { IsRanked CC.bytes VC.bytes WC.bytes self.now }
         ensures stands { result ≡ record { bits = bits_ranked VC.bytes WC.bytes self.now; pos = 0; word = 0; counts = length (words_in (CC.bytes self.now.counts)) } }

@@ -1,8 +1,8 @@
-//! Rows of one of two kinds: outcomes and errors.
+//! Columns of results.
 ghost use Rattle.std.specs.Prelude.{◌≡◌, ◌↔◌, ℕ, IfSome, IsSome, map};
 ghost use Rattle.columnar_core.specs.Row.{ok, err};
 ghost use Rattle.columnar_core.specs.Format.{IsSound};
-ghost use Rattle.columnar_sums.specs.Results.{results_format, results_content, AreOks, AreErrs};
+ghost use Rattle.columnar_sums.specs.Results.{errs, oks, results_format, results_content, AreOks, AreErrs};
 
 pub mod bytes;
 mod grow;
@@ -11,14 +11,14 @@ use crate::rank_select::RankSelect;
 use columnar_core::traits::{Column, Index, Len};
 use columnar_core::words::Words;
 
-/// Rows of one of two kinds: a bit for each row, the values of the rows that are Ok, and the errors of those that are Err.
+/// A column of results: a bit for each row, the values of the `Ok` rows, and the errors of the `Err` rows.
 #[derive(Clone, Copy, PartialEq, Drop)]
 pub struct Results<SC, TC, CC = Vec<u64>, VC = Vec<u64>, WC = [u64; 2]> {
-    /// For each row, whether it is Ok.
+    /// For each row, whether it is `Ok`.
     pub indexes: RankSelect<CC, VC, WC>,
-    /// The values of the rows that are Ok.
+    /// The values of the `Ok` rows.
     pub oks: SC,
-    /// The errors of the rows that are Err.
+    /// The errors of the `Err` rows.
     pub errs: TC,
 }
 
@@ -48,7 +48,7 @@ impl<SC: Index, TC: Index, CC: Words, VC: Words, WC: Words> Index for Results<SC
     }
 }
 
-/// Rows are read through a reference as the values and the errors are through one.
+/// Rows are read through a reference if the values and the errors are.
 impl<'a, SC: Len, TC: Len, CC: Words, VC: Words, WC: Words> Index
     for &'a Results<SC, TC, CC, VC, WC>
 where
@@ -70,6 +70,34 @@ where
     }
 }
 
+impl<SC: Column, TC: Column, CC: Words + Drop, VC: Words + Drop, WC: Words + Drop> Results<
+    SC,
+    TC,
+    CC,
+    VC,
+    WC,
+> {
+    /// Returns the columns of the values and of the errors, each in order.
+    ///
+    /// # Requires
+    /// The column is well-formed.
+    pub fn into_oks_and_errs(self) -> (SC, TC)
+        requires { IsSound (results_format SC.format TC.format) (results_content SC.content TC.content CC.bytes VC.bytes WC.bytes self) }
+        ensures oks { IsSound SC.format (SC.content result.0) }
+        ensures errs { IsSound TC.format (TC.content result.1) }
+        ensures ok_rows { SC.format.rows (SC.content result.0) ≡ oks ((results_format SC.format TC.format).rows (results_content SC.content TC.content CC.bytes VC.bytes WC.bytes self)) }
+        ensures err_rows { TC.format.rows (TC.content result.1) ≡ errs ((results_format SC.format TC.format).rows (results_content SC.content TC.content CC.bytes VC.bytes WC.bytes self)) }
+        ensures parts { result ≡ (self.oks, self.errs) }
+    {
+        let Results {
+            indexes: _,
+            oks,
+            errs,
+        } = self;
+        (oks, errs)
+    }
+}
+
 impl<SC: Len + Drop, TC: Len + Drop, CC: Words + Drop, VC: Words + Drop, WC: Words + Drop> Results<
     SC,
     TC,
@@ -77,7 +105,10 @@ impl<SC: Len + Drop, TC: Len + Drop, CC: Words + Drop, VC: Words + Drop, WC: Wor
     VC,
     WC,
 > {
-    /// The values. Asks that each row is Ok.
+    /// Returns the column of values.
+    ///
+    /// # Requires
+    /// The column is well-formed, and every row is `Ok`.
     pub fn unwrap(self) -> SC
         requires sound { IsSound (results_format SC.format TC.format) (results_content SC.content TC.content CC.bytes VC.bytes WC.bytes self) }
         requires oks { AreOks ((results_format SC.format TC.format).rows (results_content SC.content TC.content CC.bytes VC.bytes WC.bytes self)) }
@@ -92,7 +123,10 @@ impl<SC: Len + Drop, TC: Len + Drop, CC: Words + Drop, VC: Words + Drop, WC: Wor
         oks
     }
 
-    /// The errors. Asks that each row is Err.
+    /// Returns the column of errors.
+    ///
+    /// # Requires
+    /// The column is well-formed, and every row is `Err`.
     pub fn unwrap_err(self) -> TC
         requires sound { IsSound (results_format SC.format TC.format) (results_content SC.content TC.content CC.bytes VC.bytes WC.bytes self) }
         requires errs { AreErrs ((results_format SC.format TC.format).rows (results_content SC.content TC.content CC.bytes VC.bytes WC.bytes self)) }
@@ -107,7 +141,10 @@ impl<SC: Len + Drop, TC: Len + Drop, CC: Words + Drop, VC: Words + Drop, WC: Wor
         errs
     }
 
-    /// The values, where each row is Ok; None exactly where a row is Err.
+    /// Returns the column of values if every row is `Ok`; `None` if and only if some row is `Err`.
+    ///
+    /// # Requires
+    /// The column is well-formed.
     pub fn try_unwrap(self) -> Option<SC>
         requires { IsSound (results_format SC.format TC.format) (results_content SC.content TC.content CC.bytes VC.bytes WC.bytes self) }
         ensures exact { IsSome result ↔ AreOks ((results_format SC.format TC.format).rows (results_content SC.content TC.content CC.bytes VC.bytes WC.bytes self)) }
@@ -122,7 +159,10 @@ impl<SC: Len + Drop, TC: Len + Drop, CC: Words + Drop, VC: Words + Drop, WC: Wor
         }
     }
 
-    /// The errors, where each row is Err; None exactly where a row is Ok.
+    /// Returns the column of errors if every row is `Err`; `None` if and only if some row is `Ok`.
+    ///
+    /// # Requires
+    /// The column is well-formed.
     pub fn try_unwrap_err(self) -> Option<TC>
         requires { IsSound (results_format SC.format TC.format) (results_content SC.content TC.content CC.bytes VC.bytes WC.bytes self) }
         ensures exact { IsSome result ↔ AreErrs ((results_format SC.format TC.format).rows (results_content SC.content TC.content CC.bytes VC.bytes WC.bytes self)) }

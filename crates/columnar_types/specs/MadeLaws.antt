@@ -1,4 +1,4 @@
--- Columns that are made of values, one after another, or why they are not.
+-- Columns that are made from values, pushed in order, or why that failed.
 use Rattle.std.proofs.Common.{List, [], ◌∷◌, ◌++◌, ◌≡◌, ◌∙◌, map, ap}
 use Rattle.columnar_base.specs.Row.{Row}
 use Rattle.columnar_base.specs.Format.{Format, Content, IsSound}
@@ -22,6 +22,6 @@ stopped_making {T} {f} {start} {mid} {new} {error} meaning xs x s e t r = record
   stopped = extend_stopped meaning xs x t r;
 }
 
--- all at once
+-- all items in one call
 pub not_made : {f : Format} {start new : Content} {items : List Row} {error : GrowError} → IsSound f start → f.rows start ≡ [] → Refused f start new items error → NotMade f items error
 not_made {f} {start} {new} {items} {error} s e r = record { start = start; sound = s; bare = e; cause = r.cause }

@@ -1,6 +1,6 @@
 -- Rows that have a value of a type.
 use Rattle.std.proofs.Common.{◌≡◌, ℕ, zero, suc, ◌+◌, Bool, true, false, not, ◌||◌, List, [], ◌∷◌, ◌++◌, length, take, map, refl, sym, ap, ◌∙◌, arith}
-use Rattle.std.specs.Prelude.{slice_get, Some, nat_eq}
+use Rattle.std.specs.Prelude.{slice_get, Some, nat_eq, Result}
 use Rattle.std.proofs.lemmas.Bool.{eq-eqb, eqb-true}
 use Rattle.std.proofs.lemmas.List.{length-map}
 use Rattle.std.specs.Str.{IsUtf8, is_utf8}
@@ -16,7 +16,7 @@ use Rattle.columnar_core.specs.Bytes.{AreBytes}
 use Rattle.columnar_strings.specs.StringLaws.{bytes_back}
 use Rattle.columnar_base.specs.declared.fault.OwnError.{OwnError}
 use Rattle.columnar_base.specs.declared.fault.OwnError.TheVariants.{Memory, Utf8, WrongLength}
-use Rattle.columnar_types.specs.Owned.{any, Unfit, no_text, other_length, IsFit, IsWhy, AreOwned, text_unfit, list_unfit, array_unfit}
+use Rattle.columnar_types.specs.Owned.{any, Unfit, no_text, other_length, IsFit, IsWhy, AreOwned, IsAnswered, text_at_once, array_at_once, text_unfit, list_unfit, array_unfit}
 
 not_true : (b : Bool) → (b ≡ true → ⊥) → not b ≡ true
 not_true true h = absurd (h refl)
@@ -31,6 +31,10 @@ text_fit bs a h = record { fit = text_fit_by bs a h }
 
 pub no_text_why : (bs : List ℕ) → AreBytes bs → (IsUtf8 bs → ⊥) → text_unfit no_text (text_row bs) ≡ true
 no_text_why bs a h = rw (bytes_back bs a) (not_true (is_utf8 bs) (λ e. h (IsUtf8-from_is_utf8 bs e)))
+
+-- a text that is UTF-8 has no error before allocations
+pub text_answered : {A : Type 0} (bs : List ℕ) → AreBytes bs → IsUtf8 bs → (answer : Result A OwnError) → IsAnswered (text_at_once (text_row bs)) answer
+text_answered bs a h answer = rw (bytes_back bs a, is_utf8-from_IsUtf8 bs h) tt
 
 or_right : (b c : Bool) → c ≡ true → b || c ≡ true
 or_right true c h = refl
@@ -52,7 +56,7 @@ any-append p (s ∷ rs) r h k =
     let q = or_parts (p s) (any p rs) h in
     or_from (p s) (any p (rs ++ r ∷ [])) q.0 (any-append p rs r q.1 k)
 
--- an item that is so makes the list so
+-- an unfit item makes the list unfit
 any_at : (p : Row → Bool) (rs : List Row) (i : ℕ) (r : Row) → slice_get rs i ≡ Some r → p r ≡ true → any p rs ≡ true
 any_at p [] i r h k = cc
 any_at p (s ∷ rs) zero r h k = let e : s ≡ r = cc in rw (e, k) refl
@@ -96,6 +100,10 @@ array_why n unfit WrongLength rs w = or_right (not (nat_eq (length (items_of (li
 
 pub array_length_why : (n : ℕ) (unfit : Unfit → Row → Bool) (rs : List Row) → (length rs ≡ n → ⊥) → array_unfit n unfit other_length (list rs) ≡ true
 array_length_why n unfit rs h = rw (items_of-list rs) (or_left (not (nat_eq (length rs) n)) (any (unfit other_length) rs) (not_true (nat_eq (length rs) n) (λ e. h (eqb-true (length rs) n e))))
+
+-- nor has a list of the array's length
+pub array_answered : {A : Type 0} (n : ℕ) (rs : List Row) → length rs ≡ n → (answer : Result A OwnError) → IsAnswered (array_at_once n (list rs)) answer
+array_answered n rs e answer = rw (items_of-list rs, eq-eqb (length rs) n e) tt
 
 pub lists_level : {T : Type 0} (meaning : T → Row) (xs : List T) (rs : List Row) → list (map meaning xs) ≡ list rs → length xs ≡ length rs
 lists_level meaning xs rs h =

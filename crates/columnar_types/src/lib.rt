@@ -1,4 +1,4 @@
-//! Types as columns: for a type the column that holds its values, and the value that a row means.
+//! For a type, the column that stores its values, and the value that a row represents.
 #![tactic(auto)]
 
 pub mod array;

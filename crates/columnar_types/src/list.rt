@@ -11,7 +11,7 @@ use smallvec::SmallVec;
 use std::alloc::Global;
 use std::default::MadeWith;
 
-/// A list takes a bit, and each item of it another, beside the items.
+/// Each list costs one bit, and each item one bit in addition to its own storage.
 impl<T: Columnar> Columnar for Vec<T> {
     ghost unfit = { list_unfit T.unfit };
 

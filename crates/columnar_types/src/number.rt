@@ -1,4 +1,4 @@
-//! Numbers and other values that take no memory: a value is its row.
+//! Numbers and other values that need no allocation: a value is its row.
 ghost use Rattle.columnar_types.specs.Owned.{always_fit};
 
 use crate::types::{Columnar, FromRow};
@@ -8,13 +8,14 @@ use columnar_bits::bools::Bools;
 use columnar_primitive::chars::Chars;
 use columnar_primitive::durations::Durations;
 use columnar_primitive::empties::Empties;
+use columnar_primitive::floats::{Doubles, Singles};
 use columnar_primitive::larges::{I128s, U128s};
 use columnar_primitive::numbers::{Isizes, Usizes};
 use std::alloc::Global;
 use std::num::Wrapping;
 use std::time::Duration;
 
-/// A row of bytes is read as a reference.
+/// A row of bytes is read by reference.
 impl Columnar for u8 {
     ghost unfit = { always_fit };
 
@@ -155,6 +156,30 @@ impl Columnar for i128 {
 
 impl FromRow<i128> for i128 {
     fn from_row(_alloc: Global, row: i128) -> Result<i128, OwnError> {
+        Ok(row)
+    }
+}
+
+impl Columnar for f32 {
+    ghost unfit = { always_fit };
+
+    type Container = Singles;
+}
+
+impl FromRow<f32> for f32 {
+    fn from_row(_alloc: Global, row: f32) -> Result<f32, OwnError> {
+        Ok(row)
+    }
+}
+
+impl Columnar for f64 {
+    ghost unfit = { always_fit };
+
+    type Container = Doubles;
+}
+
+impl FromRow<f64> for f64 {
+    fn from_row(_alloc: Global, row: f64) -> Result<f64, OwnError> {
         Ok(row)
     }
 }

@@ -1,5 +1,5 @@
-//! Options and results, and what stands in a box.
-ghost use Rattle.columnar_types.specs.Owned.{option_unfit, result_unfit};
+//! Options, results and boxes.
+ghost use Rattle.columnar_types.specs.Owned.{option_at_once, option_unfit, result_at_once, result_unfit};
 
 use crate::types::{Columnar, FromRow};
 use columnar_base::fault::OwnError;
@@ -11,6 +11,8 @@ use std::alloc::Global;
 
 impl<T: Columnar> Columnar for Option<T> {
     ghost unfit = { option_unfit T.unfit };
+
+    ghost at_once = { option_at_once T.at_once };
 
     type Container = Options<T::Container, Vec<u64>, Vec<u64>, [u64; 2]>;
 }
@@ -27,6 +29,8 @@ impl<R: Item, T: FromRow<R>> FromRow<Option<R>> for Option<T> {
 impl<S: Columnar, T: Columnar> Columnar for Result<S, T> {
     ghost unfit = { result_unfit S.unfit T.unfit };
 
+    ghost at_once = { result_at_once S.at_once T.at_once };
+
     type Container = Results<S::Container, T::Container, Vec<u64>, Vec<u64>, [u64; 2]>;
 }
 
@@ -39,9 +43,11 @@ impl<Q: Item, R: Item, S: FromRow<Q>, T: FromRow<R>> FromRow<Result<Q, R>> for R
     }
 }
 
-/// As a row, it is what it holds.
+/// As a row, a box is its content.
 impl<T: Columnar> Columnar for Box<T> {
     ghost unfit = { T.unfit };
+
+    ghost at_once = { T.at_once };
 
     type Container = Boxed<T::Container>;
 }

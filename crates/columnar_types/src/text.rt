@@ -1,5 +1,5 @@
-//! Texts: a row is the bytes of one, which may be no UTF-8.
-ghost use Rattle.columnar_types.specs.Owned.{text_unfit};
+//! Texts: a row has the bytes of a text, which may be invalid UTF-8.
+ghost use Rattle.columnar_types.specs.Owned.{text_at_once, text_unfit};
 
 use crate::types::{Columnar, FromRow};
 use columnar_base::fault::OwnError;
@@ -9,6 +9,8 @@ use std::boxed::BoxedStr;
 
 impl Columnar for String {
     ghost unfit = { text_unfit };
+
+    ghost at_once = { text_at_once };
 
     type Container = Strings<Vec<u64>, Vec<u8>>;
 }
@@ -27,6 +29,8 @@ impl<'a> FromRow<&'a [u8]> for String {
 
 impl Columnar for BoxedStr {
     ghost unfit = { text_unfit };
+
+    ghost at_once = { text_at_once };
 
     type Container = Strings<Vec<u64>, Vec<u8>>;
 }

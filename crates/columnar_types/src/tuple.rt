@@ -1,4 +1,4 @@
-//! Tuples of one and of two; wider ones are read as nested pairs.
+//! Tuples of one and of two fields; wider ones are read as nested pairs.
 ghost use Rattle.columnar_types.specs.Owned.{pair_unfit, solo_unfit};
 
 mod eight;

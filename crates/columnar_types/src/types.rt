@@ -1,9 +1,10 @@
-//! What a type needs to be kept in columns.
-ghost use Rattle.std.specs.Prelude.{◌≡◌, Bool, List, [], map, All, OnOk, OnErr, IfOk, IfErr};
+//! The traits of a type that can be stored in columns.
+ghost use Rattle.std.specs.Prelude.{◌≡◌, Bool, List, [], map, All, Option, None, OnOk, OnErr, IfOk, IfErr};
 ghost use Rattle.std.specs.Borrow.{Bor};
 ghost use Rattle.std.specs.Iterator.{IsFinite, HoldsAlong, Drains, Yields};
 ghost use Rattle.columnar_base.specs.Row.{Row};
-ghost use Rattle.columnar_types.specs.Owned.{Unfit, IsFit, IsWhy};
+ghost use Rattle.columnar_base.specs.declared.fault.OwnError.{OwnError};
+ghost use Rattle.columnar_types.specs.Owned.{Unfit, IsFit, IsWhy, IsAnswered};
 ghost use Rattle.columnar_types.specs.Made.{Made, NotMade, StoppedMaking};
 
 use columnar_base::fault::{GrowError, OwnError};
@@ -12,17 +13,26 @@ use columnar_base::traits::{Column, Item, PushRef};
 use columnar_core::container::{Borrow, ReborrowRef};
 use std::alloc::Global;
 
-/// A type whose values are the rows of a column. The column is named by `Container`, and what reads a row of it by an impl of
-/// `FromRow`.
+/// A type whose values are the rows of a column. `Container` names the column; an impl of `FromRow` reads a row.
 pub trait Columnar: Item {
     // which rows have no value of this type, and why
     ghost unfit: { Unfit → Row → Bool };
 
-    /// The column that holds its values.
+    // the error for a row that is reported before any allocation, if there is one
+    ghost at_once: { Row → Option OwnError } = { λ _. None };
+
+    /// The column that stores the values.
     type Container: Column;
 
-    /// The value that a row means. It is refused by Utf8 where a text in the row is no UTF-8, by WrongLength where a list
-    /// in it has another length than its array, and by Memory where memory is.
+    /// Returns the value that a row represents.
+    ///
+    /// # Errors
+    /// `Utf8` if a text in the row is not UTF-8; `WrongLength` if a list in it has another length than its array;
+    /// `Memory` if an allocation fails. If the type is a text, its UTF-8 is tested before any allocation, and if it is
+    /// an array, its length: these errors do not depend on available memory.
+    ///
+    /// # Requires
+    /// `row` is valid.
     final fn into_owned<R: Item>(alloc: Global, row: R) -> Result<Self, OwnError>
     where
         Self: FromRow<R>,
@@ -31,11 +41,18 @@ pub trait Columnar: Item {
         ensures valid { IfOk result Self.Item.valid }
         ensures fit { OnOk result (IsFit unfit (R.meaning row)) }
         ensures why { IfErr result (λ e. IsWhy e unfit (R.meaning row)) }
+        ensures at_once { IsAnswered (at_once (R.meaning row)) result }
     {
         Self::from_row(alloc, row)
     }
 
-    /// Leaves the value that a row means, or is refused as `into_owned` is, and then leaves what was there.
+    /// Replaces the value by the value that a row represents.
+    ///
+    /// # Errors
+    /// As `into_owned`. The old value stays.
+    ///
+    /// # Requires
+    /// `row` is valid.
     final fn copy_from<R: Item>(&mut self, alloc: Global, row: R) -> Result<(), OwnError>
     where
         Self: FromRow<R>,
@@ -44,6 +61,7 @@ pub trait Columnar: Item {
         ensures valid { OnOk result (Self.Item.valid self.new) }
         ensures fit { OnOk result (IsFit unfit (R.meaning row)) }
         ensures why { IfErr result (λ e. IsWhy e unfit (R.meaning row)) }
+        ensures at_once { IsAnswered (at_once (R.meaning row)) result }
         ensures stays { OnErr result (self.new ≡ self.old) }
     {
         let value = Self::from_row(alloc, row)?;
@@ -51,7 +69,13 @@ pub trait Columnar: Item {
         Ok(())
     }
 
-    /// A column of rows alike to the items of a slice, one for one and in their order. It is refused as a push of them is.
+    /// Creates a column with a row for each item of a slice, in order.
+    ///
+    /// # Errors
+    /// As a push of the items.
+    ///
+    /// # Requires
+    /// All items are valid.
     final fn column_of(alloc: Global, items: &[Self]) -> Result<Self::Container, GrowError>
     where
         Self: Sized,
@@ -65,8 +89,13 @@ pub trait Columnar: Item {
         Ok(column)
     }
 
-    /// A column of rows alike to the items that come, one for one and in their order. It is refused as a push of them is,
-    /// at the first item that can't be pushed; the items after it do not come. Asks that the items come to an end.
+    /// Creates a column with a row for each item of an iterator, in order.
+    ///
+    /// # Errors
+    /// As a push of the first item that cannot be pushed. The items after it are not taken from the iterator.
+    ///
+    /// # Requires
+    /// The iterator is finite, and all its items are valid.
     final fn as_columns<'x, I: Iterator<Item = &'x Self> + Drop>(
         alloc: Global,
         items: I,
@@ -87,7 +116,13 @@ pub trait Columnar: Item {
         Ok(column)
     }
 
-    /// As `as_columns`, of items that are given up.
+    /// Does the same as `as_columns`, and consumes the items.
+    ///
+    /// # Errors
+    /// As `as_columns`.
+    ///
+    /// # Requires
+    /// The iterator is finite, and all its items are valid.
     final fn into_columns<I: Iterator<Item = Self> + Drop>(
         alloc: Global,
         items: I,
@@ -108,7 +143,10 @@ pub trait Columnar: Item {
         Ok(column)
     }
 
-    /// The same row, for a shorter lifetime.
+    /// Returns the same row for a shorter lifetime.
+    ///
+    /// # Requires
+    /// `row` is valid.
     final fn reborrow<'b, R: ReborrowRef<'b>>(row: R) -> R::ShortRef
         requires { R.valid row }
         ensures row { R.ShortRef.meaning result ≡ R.meaning row }
@@ -118,18 +156,25 @@ pub trait Columnar: Item {
     }
 }
 
-/// A type whose values can be made of rows that are read as `R`: the one method that a type of one's own writes.
+/// A type whose values can be made from rows of type `R`. Your own type implements only its one method.
 pub trait FromRow<R: Item>: Columnar + Drop {
-    /// The value that a row means, or why it has none.
+    /// Returns the value that a row represents.
+    ///
+    /// # Errors
+    /// Says why the row has no value of this type.
+    ///
+    /// # Requires
+    /// `row` is valid.
     fn from_row(alloc: Global, row: R) -> Result<Self, OwnError>
         requires { R.valid row }
         ensures value { IfOk result (λ v. Self.meaning v ≡ R.meaning row) }
         ensures valid { IfOk result Self.valid }
         ensures fit { OnOk result (IsFit Self.unfit (R.meaning row)) }
-        ensures why { IfErr result (λ e. IsWhy e Self.unfit (R.meaning row)) };
+        ensures why { IfErr result (λ e. IsWhy e Self.unfit (R.meaning row)) }
+        ensures at_once { IsAnswered (Self.at_once (R.meaning row)) result };
 }
 
-/// The column that holds the values of a type.
+/// The column that stores the values of a type.
 pub type ContainerOf<T> = <T as Columnar>::Container;
 
 /// The view of a column of values of a type.

@@ -10,7 +10,7 @@ use Rattle.columnar_variants.specs.VariantByteLaws.{beside_built}
 use Rattle.columnar_variants.specs.BankChangeLaws.{told_as}
 use Rattle.columnar_sums.specs.Results.{beside_format}
 
--- two parts of any numbers of rows
+-- two parts with any numbers of rows
 pub beside_parts_two : (a b : Format) → TwoParts (beside_format a b) a b (λ x y. true) 0
 beside_parts_two a b = record { count = refl; sizes = refl; aligns = refl; build = λ ss. refl; broken = no_rule a b }
   where
@@ -20,7 +20,7 @@ beside_parts_two a b = record { count = refl; sizes = refl; aligns = refl; build
     no_rule a b (part l u x) = refl
     no_rule a b (plain rs) = refl
 
--- has each column as many values as it says
+-- each column has as many values as n says
 pub told_more : (a : Format) (b : Bank) (x y : Content) (m k : ℕ → ℕ) (r n : ℕ) (l : Bool) → r ≡ length (a.rows x) → n ≡ m 0 → ((v : ℕ) → k v ≡ m (v + 1)) → l ≡ b.told y k → (nat_eq r n && l) ≡ (join a b).told (both x y) m
 told_more a b x y m k r n l e f g h =
     let p : b.told y k ≡ b.told y (λ v. m (suc v)) = told_as b y (λ v. g v ∙ ap m (omega arith)) in
@@ -30,7 +30,7 @@ pub told_more_at : (a : Format) (b : Bank) (ss : List (List ℕ)) (o i : ℕ) (m
 told_more_at a b ss o i m k r n l c e f g h =
     told_more a b (a.build (drop o ss)) (b.sides.build (drop (o + a.count) ss)) m k r n l e f g (h ∙ ap (λ j. b.told (b.sides.build (drop (o + j) ss)) k) c) ∙ ap (λ d. (join a b).told d m) (sym (beside_built a b.sides ss o))
 
--- the first column has as many as it says, or not
+-- the first column has as many as n says, or not
 pub told_then : (a : Format) (b : Bank) (x y : Content) (m k : ℕ → ℕ) (r n : ℕ) (l : Bool) → r ≡ length (a.rows x) → n ≡ m 0 → ((v : ℕ) → k v ≡ m (v + 1)) → l ≡ b.told y k → r ≡ n → l ≡ (join a b).told (both x y) m
 told_then a b x y m k r n l e f g h q = rw (eq-eqb r n q) at (told_more a b x y m k r n l e f g h)
 
@@ -43,10 +43,10 @@ told_then_at a b ss o i m k r n l c e f g h q = rw (eq-eqb r n q) at (told_more_
 pub told_else_at : (a : Format) (b : Bank) (ss : List (List ℕ)) (o : ℕ) (m : ℕ → ℕ) (r n : ℕ) → r ≡ length (a.rows (a.build (drop o ss))) → n ≡ m 0 → (r ≡ n → ⊥) → nat_eq r n ≡ (join a b).told ((join a b).sides.build (drop o ss)) m
 told_else_at a b ss o m r n e f q = told_else a b (a.build (drop o ss)) (b.sides.build (drop (o + a.count) ss)) m r n e f q ∙ ap (λ d. (join a b).told d m) (sym (beside_built a b.sides ss o))
 
--- a variant is not below the number of columns
+-- a variant is not less than the number of columns
 pub own_variant : (o : ℕ) (below told : Bool) → below ≡ false → Some (fault 17 o) ≡ first (moved o (own_broken below told))
 own_variant o below told p = let k : o + 0 ≡ o = omega arith in rw (p, k) refl
 
--- 4 turns for a byte of the variants, one more for each variant, and those of the columns
+-- 4 steps for each byte of the variants, one for each variant, and those of the columns
 pub whole_turns : (old mid later new k m n r : ℕ) → mid ≤ old + 16 * n → later ≤ mid + 4 * m → new ≤ later + k → k ≤ m → r ≡ n + m → new ≤ old + 16 * r
 whole_turns old mid later new k m n r p q h l e = omega arith

@@ -1,4 +1,5 @@
--- What a push of a value with its variant leaves of a bank and of the variants; the variants of the bank begin at `base`.
+-- The result of pushing a value with its variant to a bank and to the variants; the variants of the bank start at
+-- `base`.
 use Rattle.std.specs.Prelude.{ℕ, [], ◌∷◌, ◌++◌, ◌+◌, ◌≡◌, ◌⊎◌}
 use Rattle.columnar_core.specs.Row.{Row}
 use Rattle.columnar_core.specs.Format.{Content, IsSound}

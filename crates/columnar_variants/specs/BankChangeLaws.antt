@@ -1,4 +1,4 @@
--- What cuts, refusals and room leave of a bank.
+-- A bank after truncations, refusals and reserved space.
 use Rattle.std.proofs.Common.{◌≡◌, ℕ, suc, ◌+◌, ◌<◌, ◌≤◌, List, [], ◌++◌, length, take, refl, sym, ◌∙◌, ap, subst, arith, ⊎_elim}
 use Rattle.std.proofs.Math.Path.{fun_ext}
 use Rattle.std.proofs.Math.Seq.{take-append_seam}
@@ -8,7 +8,7 @@ use Rattle.columnar_core.specs.Format.{Content, IsSound}
 use Rattle.columnar_variants.specs.Variants.{Bank, IsLawfulBank, BankCut, BankStayed}
 use Rattle.columnar_variants.specs.VariantCopies.{BankCopied}
 
--- numbers that are the same cut the same
+-- equal numbers truncate equally
 pub cut_as : (b : Bank) {x x' : Content} {n m : ℕ → ℕ} → ((v : ℕ) → n v ≡ m v) → BankCut b x x' n → BankCut b x x' m
 cut_as b {x} {x'} h t = subst (λ k. BankCut b x x' k) (fun_ext h) t
 
@@ -21,7 +21,7 @@ one_more n m h v = h v ∙ ap m (omega arith)
 pub bank_unchanged : (b : Bank) (x : Content) → BankStayed b x x
 bank_unchanged b x = record { same = λ v. refl; lengths_same = refl; rooms = λ n h. refl; limits = λ n h e f. refl; sound = λ s. s }
 
--- What was copied and then cut to as many values as before has stayed.
+-- A copy followed by a truncation to the old numbers of values changes nothing.
 pub bank_undone : (b : Bank) → IsLawfulBank b → ((c : Content) (v : ℕ) → b.size ≤ v → b.table c v ≡ []) → {x x' x'' : Content} {s : ℕ → ℕ} {f : ℕ → List Row} (n : ℕ → ℕ) → IsSound b.sides x → ((v : ℕ) → v < b.size → n v ≡ length (b.table x v)) → BankCopied b x x' s f → BankCut b x' x'' n → BankStayed b x x''
 bank_undone b law beyond {x} {x'} {x''} {s} {f} n w h t u = record {
   same = λ v. ⊎_elim

@@ -1,4 +1,4 @@
--- What a copy of a range of the rows of a column of variants keeps to.
+-- Laws of copies of ranges of the rows of a column of variants.
 use Rattle.std.proofs.Common.{◌≡◌, ℕ, suc, ◌+◌, ◌-◌, ◌<◌, ◌≤◌, List, [], ◌++◌, length, take, drop, refl, sym, ◌∙◌, ap, subst, arith, length-append}
 use Rattle.std.proofs.Math.Path.{fun_ext}
 use Rattle.columnar_core.specs.Row.{Row}
@@ -15,7 +15,7 @@ use Rattle.columnar_variants.specs.BankChangeLaws.{one_more, bank_unchanged}
 use Rattle.columnar_variants.specs.DualCopyLaws.{same_range, refused_as, copied_as}
 use Rattle.columnar_variants.specs.BankCopies.{ranges}
 
--- the ranges of the variants among rows s up to k
+-- the ranges of the variants among rows s to k
 pub ranges_of : (u : ℕ → List Row) (n m : ℕ → ℕ) (s k : ℕ) (ws : List ℕ) → s ≤ k → ((v : ℕ) → n v ≡ times v (take s ws)) → ((v : ℕ) → m v ≡ times v (take k ws)) → ranges u n m ≡ range_of u (take s ws) (take (k - s) (drop s ws))
 ranges_of u n m s k ws l f g = fun_ext (λ v. same_range (u v) (n v) (m v) (times v (take s ws)) (times v (take (k - s) (drop s ws))) (f v) (g v ∙ times_range v s k ws l))
 
@@ -31,7 +31,7 @@ front_from b law {x} {x'} {y} y' u before mid z s r t e h =
     let t' = subst (λ p. BankCopied b x x' (λ v. times v p) (range_of u p mid)) z t in
     variants_front b law y' u mid s r' t' e h ∙ ap (λ p. chosen u p mid) (sym z)
 
--- b took rows s up to k of d
+-- b copied rows s to k of d
 pub whole_copied : (b d : Bank) → IsBank b → IsBank d → d.size ≡ b.size → {x x' y y' z w : Content} (n m : ℕ → ℕ) (s k : ℕ) → s ≤ k → ((v : ℕ) → n v ≡ times v (take s (variants_of w))) → ((v : ℕ) → m v ≡ times v (take k (variants_of w))) → IsSound (variants_format b) (both x y) → IsSound (variants_format d) (both z w) → BankCopied b x x' n (ranges (d.table z) n m) → IsSound discriminant_format y' → variants_of y' ≡ variants_of y ++ take (k - s) (drop s (variants_of w)) → Copied (variants_format b) (both x y) (both x' y') s (take (k - s) (drop s ((variants_format d).rows (both z w))))
 whole_copied b d law led e {x} {x'} {y} {y'} {z} {w} n m s k l f g t v c h a =
     let ws = variants_of w in
@@ -53,7 +53,7 @@ whole_denied b d law led e {x} {x'} {y} {z} {w} n m s k {error} l f g t v c =
     let u = d.table z in
     refused_as (chosen_range u s k ws) (variants_denied b law u (take s ws) (take (k - s) (drop s ws)) t (level_range e (has_range d led s k v)) (subst (λ i. BankDenied b x x' i error) (ranges_of u n m s k ws l f g) c))
 
--- the variants refused
+-- the column of variants refused
 pub whole_overfull : (b d : Bank) → IsBank b → {x x' y y' : Content} (z w : Content) (s k : ℕ) {error : GrowError} → IsSound (variants_format b) (both x y) → BankStayed b x x' → Stayed discriminant_format y y' → variants_of y' ≡ variants_of y → ((rs : List Row) → length rs ≡ length (take (k - s) (drop s (variants_of w))) → IsTrueOf error discriminant_format y rs) → Refused (variants_format b) (both x y) (both x' y') (take (k - s) (drop s ((variants_format d).rows (both z w)))) error
 whole_overfull b d law z w s k t c p q h =
     refused_as (chosen_range (d.table z) s k (variants_of w)) (variants_overfull b law (d.table z) (take s (variants_of w)) (take (k - s) (drop s (variants_of w))) t c p q h)
@@ -83,6 +83,6 @@ pub later_denied_ends : (a : Format) (b : Bank) (t : ℕ → List Row) (n m n' m
 later_denied_ends a b t n m n' m' {x} {x'} {y} {y'} {error} f g s u =
     later_denied a b (ranges t n m) s (subst (λ h. BankDenied b y y' h error) (later_ranges t n m n' m' f g) u)
 
--- what a column had is still there after a copy
+-- the values of a column are still there after a copy
 pub still_within : (b : Bank) {x x' : Content} {s : ℕ → ℕ} {f : ℕ → List Row} (v n : ℕ) → v < b.size → BankCopied b x x' s f → n ≡ length (b.table x v) → n ≤ length (b.table x' v)
 still_within b {x} {x'} {s} {f} v n l t e = let a : length (b.table x' v) ≡ length (b.table x v) + length (t.fresh v) = ap length (t.here v l) ∙ length-append (b.table x v) (t.fresh v) in omega (arith, e, a)

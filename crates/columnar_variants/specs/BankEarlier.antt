@@ -1,4 +1,4 @@
--- Banks that are made of an earlier form of themselves.
+-- Banks that are made from an earlier form of themselves.
 use Rattle.std.proofs.Common.{◌≡◌, ℕ, ◌<◌, true, List, length, take}
 use Rattle.std.specs.Prelude.{◌⊎◌}
 use Rattle.columnar_core.specs.Row.{Row}
@@ -12,12 +12,12 @@ use Rattle.columnar_variants.specs.VariantRows.{IsBare}
 abbrev pub IsEarlierBank : Bank → Bank → Type 0
 IsEarlierBank old new = (old.sides.count < new.sides.count) ⊎ (old ≡ new)
 
--- columns that were made of earlier ones: well formed, of the same values
+-- columns that were made from earlier ones: well-formed, with the same values
 pub record IsBankMadeOf (old new : Bank) (x y : Content) : Type 0 where
   pub sound : IsSound new.sides y
   pub values : (v : ℕ) → new.table y v ≡ old.table x v
 
--- The error names a true cause why the columns could not take these values, of each variant those that f says.
+-- The error names a true cause why the columns cannot hold these values; f gives those of each variant.
 pub record IsBankCause (b : Bank) (x : Content) (f : ℕ → List Row) (error : GrowError) : Type 0 where
   pub format : Format
   pub content : Content

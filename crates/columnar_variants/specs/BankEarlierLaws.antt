@@ -1,4 +1,4 @@
--- Variants made of the parts of an older form mean the same rows.
+-- Variants made from the parts of an older form represent the same rows.
 use Rattle.std.proofs.Common.{◌≡◌, ℕ, zero, suc, ◌+◌, ◌<◌, ◌≤◌, List, [], length, take, refl, sym, ◌∙◌, ap, arith, ⊎_elim, inl, inr}
 use Rattle.std.specs.Prelude.{slice_index_or, ◌⊎◌}
 use Rattle.std.proofs.Math.Seq.{take-length}

@@ -1,9 +1,9 @@
--- Where the values of a variant stand in a bank.
-use Rattle.std.proofs.Common.{◌≡◌, ℕ, zero, suc, ◌-◌, ◌<◌, ◌≤◌, [], refl, ap, arith}
+-- The positions of the values of a variant in a bank.
+use Rattle.std.proofs.Common.{◌≡◌, ℕ, zero, suc, ◌+◌, ◌-◌, ◌*◌, ◌<◌, ◌≤◌, [], refl, ap, arith}
 use Rattle.columnar_core.specs.Format.{Format, Content, both, slice, part, plain}
 use Rattle.columnar_variants.specs.Variants.{Bank, leaf, join, leaf_table, join_table, variants_format}
 
--- of one variant
+-- for a single variant
 pub leaf_at : (a : Format) (c : Content) (v : ℕ) → v < 1 → leaf_table a c v ≡ a.rows c
 leaf_at a c zero l = refl
 leaf_at a c (suc v) l = absurd (omega arith)
@@ -12,7 +12,7 @@ pub leaf_beyond : (a : Format) (c : Content) (v : ℕ) → 1 ≤ v → leaf_tabl
 leaf_beyond a c zero l = absurd (omega arith)
 leaf_beyond a c (suc v) l = refl
 
--- of the first variant, and of the others
+-- for the first variant, and for the others
 pub first_at : (a : Format) (b : Bank) (x y : Content) (v : ℕ) → v ≡ 0 → join_table a b (both x y) v ≡ a.rows x
 first_at a b x y zero e = refl
 first_at a b x y (suc v) e = absurd (omega (arith, e))
@@ -41,3 +41,14 @@ same_variants p = ap variants_format p
 -- one more on both sides
 pub same_size : {m n : ℕ} → m ≡ n → suc m ≡ suc n
 same_size p = ap suc p
+
+-- numbers of columns, in sixteens and ones
+
+pub leaf_within : (h l : ℕ) → 1 ≤ 16 * h + l + 1
+leaf_within h l = omega arith
+
+pub join_within : {n : ℕ} (h l : ℕ) → n ≤ 16 * h + l + 1 → suc n ≤ 16 * h + (l + 1) + 1
+join_within h l k = omega (arith, k)
+
+pub join_carried : {n : ℕ} (h : ℕ) → n ≤ 16 * h + 15 + 1 → suc n ≤ 16 * (h + 1) + 0 + 1
+join_carried h k = omega (arith, k)

@@ -1,4 +1,4 @@
--- A value of one variant is taken or refused as a row of the whole is.
+-- A value of one variant is accepted or refused like a row of the whole.
 use Rattle.std.proofs.Common.{ℕ, ◌<◌, [], ◌∷◌, ⊎_elim}
 use Rattle.columnar_core.specs.Row.{Row}
 use Rattle.columnar_core.specs.Format.{Format, Content, both, IsSound}

@@ -1,4 +1,4 @@
--- What a push of a value of one variant leaves of its column and of the variants.
+-- The result of pushing a value of one variant to its column and to the variants.
 use Rattle.std.specs.Prelude.{ℕ, [], ◌∷◌, ◌++◌, ◌≡◌, ◌⊎◌}
 use Rattle.columnar_core.specs.Row.{Row}
 use Rattle.columnar_core.specs.Format.{Format, Content, IsSound}
@@ -11,7 +11,7 @@ pub record CaseTook (f : Format) (p p' y y' : Content) (k : ℕ) (r : Row) : Typ
   pub forms : IsSound discriminant_format y'
   pub variants : variants_of y' ≡ variants_of y ++ k ∷ []
 
--- The variants are true of the error, for some row.
+-- The error is justified for the variants, for some row.
 pub record FormsRefuse (y : Content) (error : GrowError) : Type 0 where
   pub row : Row
   pub cause : IsTrueOf error discriminant_format y (row ∷ [])

@@ -1,4 +1,4 @@
--- Of two variants: a copied range is made of a range of each part, or is refused as that of a part is.
+-- Two variants: a copied range consists of a range of each part, or is refused like that of a part.
 use Rattle.std.proofs.Common.{◌≡◌, ℕ, zero, suc, ◌+◌, ◌-◌, ◌<◌, List, [], ◌∷◌, ◌++◌, length, take, drop, refl, sym, ◌∙◌, ap, subst, arith}
 use Rattle.columnar_core.specs.Row.{Row}
 use Rattle.std.specs.Prelude.{slice_index}

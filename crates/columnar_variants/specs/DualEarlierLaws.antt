@@ -1,4 +1,4 @@
--- What a column of one of two variants that is made of an earlier form keeps to.
+-- A column of two variants that is made from an earlier form.
 use Rattle.std.proofs.Common.{◌≡◌, ℕ, zero, suc, ◌+◌, ◌<◌, ◌≤◌, Bool, true, ◌||◌, List, [], ◌∷◌, length, take, refl, sym, ◌∙◌, ap, arith, ⊎_elim, inl, inr}
 use Rattle.std.specs.Prelude.{slice_index_or}
 use Rattle.std.proofs.Math.Seq.{take-length}
@@ -60,7 +60,7 @@ times_held a b {x} {y} {z} s v l =
     let all : take (length (chosen ((dual_bank a b).table (both x y)) [] vs)) vs ≡ vs = ap (λ k. take k vs) n ∙ take-length vs in
     ap (times v) all ∙ sym (variants_number (dual_bank a b) (dual_law a b) s v l)
 
--- what a column can't hold besides, the whole can't
+-- rows that a column refuses, the whole refuses
 refuses_first : (a b : Format) {x y z : Content} → IsSound (dual_format a b) (dual_content x y z) → (k : Excess) (rs : List Row) → refuses_more a k x (of_case 0 rs) ≡ true → refuses_more (dual_format a b) k (dual_content x y z) rs ≡ true
 refuses_first a b {x} {y} {z} s k rs q =
     let g = ap (λ n. a.refuses k x n (of_case 0 rs)) (times_held a b s 0 (omega arith)) ∙ q in
@@ -71,7 +71,7 @@ refuses_second a b {x} {y} {z} s k rs q =
     let g = ap (λ n. b.refuses k y n (of_case 1 rs)) (times_held a b s 1 (omega arith)) ∙ q in
     or_right _ _ (or_right _ _ g)
 
--- without rows no column has one
+-- without rows no column has any
 no_table : (a b : Format) {x y z : Content} → IsSound (dual_format a b) (dual_content x y z) → (dual_format a b).rows (dual_content x y z) ≡ [] → (v : ℕ) → v < 2 → (dual_bank a b).table (both x y) v ≡ []
 no_table a b {x} {y} {z} s e v l =
     let vs = variants_of z in

@@ -41,7 +41,7 @@ firsts_fit a b o ss h = beside_first a b o ss (sides_fit (dual_bank a b) o ss h)
 pub seconds_fit : (a b : Format) (o : ℕ) (ss : List (List ℕ)) → Fits (dual_format a b) o ss → Fits b (o + a.count) ss
 seconds_fit a b o ss h = beside_second a b o ss (sides_fit (dual_bank a b) o ss h)
 
--- the columns of the values changed nothing
+-- the columns of the values are unchanged
 pub dual_stayed : (a b : Format) {x x' y y' z : Content} → IsSound (dual_format a b) (dual_content x y z) → Stayed a x x' → Stayed b y y' → Stayed (dual_format a b) (dual_content x y z) (dual_content x' y' z)
 dual_stayed a b s p q =
     let f = variants_stayed (dual_bank a b) (dual_law a b) s (first_stayed a (leaf b) p) in

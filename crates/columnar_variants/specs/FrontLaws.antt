@@ -14,14 +14,14 @@ zeros_at zero (suc v) = refl
 zeros_at (suc m) zero = refl
 zeros_at (suc m) (suc v) = zeros_at m v
 
--- beyond the end there is none
+-- there is none after the end
 pub none_at : (ns : List ℕ) (v : ℕ) → length ns ≤ v → slice_index ns v ≡ 0
 none_at [] zero l = refl
 none_at [] (suc v) l = refl
 none_at (n ∷ ns) zero l = absurd (omega arith)
 none_at (n ∷ ns) (suc v) l = none_at ns v (omega arith)
 
--- one number more
+-- one more number
 pub fronts_more : (fs : List ℕ) (at n : ℕ) (f : ℕ → ℕ) → at < length fs → n ≡ f at → ((v : ℕ) → v < at → slice_index fs v ≡ f v) → (v : ℕ) → v < at + 1 → slice_index (slice_set fs at n) v ≡ f v
 fronts_more fs at n f m e d v l = ⊎_elim
     (λ (i : v ≡ at). rw i (get_or-set_same fs at n 0 m ∙ e))
@@ -31,7 +31,7 @@ fronts_more fs at n f m e d v l = ⊎_elim
 pub fronts_left : (fs : List ℕ) (at n : ℕ) → ((v : ℕ) → at ≤ v → slice_index fs v ≡ 0) → (v : ℕ) → at + 1 ≤ v → slice_index (slice_set fs at n) v ≡ 0
 fronts_left fs at n r v l = get_or-set_other fs at v n 0 (λ e. absurd (omega (arith, e, l))) ∙ r v (omega (arith, l))
 
--- variants below some number are below each greater one
+-- variants below a number are below every greater one
 pub below_more_than : (m n : ℕ) (vs : List ℕ) → m ≤ n → are_below m vs ≡ true → are_below n vs ≡ true
 below_more_than m n [] l h = refl
 below_more_than m n (v ∷ vs) l h =
@@ -43,14 +43,14 @@ pub below_bytes : (vs : List ℕ) → ((i : ℕ) → slice_index vs i < 256) →
 below_bytes [] h = refl
 below_bytes (v ∷ vs) h = and_from _ _ (lt-ltb v 256 (h 0)) (below_bytes vs (λ i. h (suc i)))
 
--- `at` is the number of columns, or 256 where there are more
+-- `at` is the number of columns, or 256 if there are more
 pub below_same : (size at : ℕ) (vs : List ℕ) → (size ≤ 256 → at ≡ size) → (256 ≤ size → at ≡ 256) → are_below 256 vs ≡ true → are_below at vs ≡ are_below size vs
 below_same size at vs few many g = ⊎_elim
     (λ (l : 256 < size). ap (λ k. are_below k vs) (many (omega arith)) ∙ (g ∙ sym (below_more_than 256 size vs (omega arith) g)))
     (λ (l : size ≤ 256). ap (λ k. are_below k vs) (few l))
     (cases_lt 256 size)
 
--- a number for each variant, where those from `at` on have none
+-- a number for each variant, if those from `at` on have none
 pub fronts_all : (size at n : ℕ) (vs fs : List ℕ) → (size ≤ 256 → at ≡ size) → (256 ≤ size → at ≡ 256) → are_below size vs ≡ true → are_below 256 vs ≡ true → ((v : ℕ) → v < at → slice_index fs v ≡ times v (take n vs)) → ((v : ℕ) → at ≤ v → slice_index fs v ≡ 0) → (v : ℕ) → slice_index fs v ≡ times v (take n vs)
 fronts_all size at n vs fs few many below bytes d r v = ⊎_elim
     (λ (l : v < at). d v l)

@@ -1,4 +1,4 @@
--- Columns of variants are lawful and storable where their parts are.
+-- Columns of variants are lawful and storable if their parts are.
 use Rattle.std.proofs.Common.{◌≡◌, ℕ, zero, suc, ◌+◌, ◌<◌, Bool, true, List, [], ◌++◌, length, take, refl, sym, ◌∙◌, ap, arith}
 use Rattle.std.proofs.lemmas.Bool.{and_parts, and_from}
 use Rattle.std.proofs.Math.Seq.{take-length}
@@ -61,7 +61,7 @@ join_lawful a b la lb = record {
   more = join_more a b la lb;
 }
 
--- rows of one variant by their own relation
+-- rows of one variant, by its own relation
 
 first_bare : (r : Row) → first_of (bare_case r) ≡ first_of r
 first_bare r = elim_row r

@@ -19,6 +19,7 @@ pub mod DualLaws
 pub mod DualCopyLaws
 pub mod DualEarlierLaws
 pub mod Nths
+pub mod NthOrders
 pub mod BankLaws
 pub mod BankCases
 pub mod BankCopies
@@ -29,5 +30,6 @@ pub mod BankCopyLaws
 pub mod BankEarlier
 pub mod BankEarlierLaws
 pub mod FrontLaws
+pub mod FrontTotalLaws
 pub mod MayVariants
 pub mod MayVariantLaws

@@ -1,4 +1,4 @@
--- What columns of sum types refuse, their limit denies.
+-- Limits of columns of sum types: they deny what the columns refuse.
 use Rattle.std.proofs.Common.{refl, ◌≡◌, ℕ, suc, ◌+◌, ◌<◌, true, List, [], ◌++◌, length, take, sym, ◌∙◌, ap, subst, arith, inl, inr, ⊎_elim, length-append}
 use Rattle.std.proofs.Math.Seq.{take-length}
 use Rattle.std.proofs.lemmas.Bool.{or_cases, false≢true}

@@ -1,10 +1,10 @@
--- Rows of one of several variants: of the first, or of one of the others.
+-- Rows with one of several variants: the first, or one of the others.
 use Rattle.std.specs.Prelude.{ℕ, suc}
 use Rattle.columnar_core.specs.Row.{Row}
 use Rattle.columnar_variants.specs.declared.cases.Nth.{Nth}
 use Rattle.columnar_variants.specs.declared.cases.Nth.TheVariants.{This, Next}
 
--- its variant, where `later` tells that among the others
+-- its variant; `later` gives that among the others
 abbrev pub nth_variant : {A B : Type 0} → (B → ℕ) → Nth A B → ℕ
 nth_variant later (This x) = 0
 nth_variant later (Next x) = suc (later x)

@@ -1,4 +1,4 @@
--- What the tests of the parts say of a column of variants.
+-- Tests of a column of variants, from the tests of its parts.
 use Rattle.std.proofs.Common.{◌≡◌, ℕ, suc, ◌+◌, ◌*◌, ◌≤◌, Bool, true, false, ◌&&◌, List, [], ◌∷◌, ◌++◌, length, drop, refl, sym, ◌∙◌, ap, arith, append_assoc, subst}
 use Rattle.std.specs.Prelude.{Option, Some, None, nat_eq}
 use Rattle.std.proofs.lemmas.List.{drop-drop, map-append}
@@ -20,7 +20,7 @@ own_parts o below told p q = let k : o + 0 ≡ o = omega arith in rw (p, q, k) r
 pub own_fine : (o : ℕ) (below told : Bool) → below ≡ true → told ≡ true → None ≡ first (moved o (own_broken below told))
 own_fine o below told p q = rw (p, q) refl
 
--- the rules of the parts come before them
+-- the rules of the parts come first
 pub variants_after : (b : Bank) (x y : Content) (o : ℕ) → moved o ((variants_format b).broken (both x y)) ≡ both_broken b.sides discriminant_format x y o ++ moved o (own_broken (are_below b.size (variants_of y)) (b.told x (λ v. times v (variants_of y))))
 variants_after b x y o =
     let p = unless (are_below b.size (variants_of y)) (fault 17 0) in
@@ -41,7 +41,7 @@ variants_forms b x y o z n h =
     let k = both_right b.sides discriminant_format x y o (Some z) n h in
     sym (ap first (variants_after b x y o) ∙ first_found (both_broken b.sides discriminant_format x y o) (moved o (own_broken (are_below b.size (variants_of y)) (b.told x (λ v. times v (variants_of y))))) z (sym k))
 
--- none does
+-- no part breaks a rule
 pub variants_own : (b : Bank) (x y : Content) (o : ℕ) (below told : Bool) (v : Option Fault) → None ≡ first (moved o (b.sides.broken x)) → None ≡ first (moved (o + b.sides.count) (discriminant_format.broken y)) → below ≡ are_below b.size (variants_of y) → told ≡ b.told x (λ v. times v (variants_of y)) → v ≡ first (moved o (own_broken below told)) → v ≡ first (moved o ((variants_format b).broken (both x y)))
 variants_own b x y o below told v n m p q h =
     let k = first_none (both_broken b.sides discriminant_format x y o) (sym (both_none b.sides discriminant_format x y o n m)) in
@@ -66,7 +66,7 @@ beside_built a b ss o = rw (drop-drop a.count o ss) refl
 pub sides_representable : (b : Bank) → representable (variants_format b) ≡ true → representable b.sides ≡ true
 sides_representable b h = representable_left (inner_two b) h
 
--- 5 turns for a byte of the variants, and those of the parts
+-- 5 steps for each byte of the variants, and those of the parts
 pub variants_turns : (ra rb old mid later new m n o : ℕ) → mid ≤ old + (ra * n + rb * o) → later ≤ mid + 4 * m → new ≤ later + m → ra ≤ 16 → rb ≤ 16 → new ≤ old + 16 * ((n + o) + m)
 variants_turns ra rb old mid later new m n o p q r k l =
     let t = two_turns 16 ra rb n o k l in
@@ -104,14 +104,14 @@ and_nothing : (p : Bool) → (p && true) ≡ p
 and_nothing true = refl
 and_nothing false = refl
 
--- numbers of rows, column by column
+-- numbers of rows, for each column
 pub leaf_told : (a : Format) (x : Content) (n : ℕ → ℕ) (r : ℕ) → r ≡ length (a.rows x) → are_told (r ∷ []) n ≡ (leaf a).told x n
 leaf_told a x n r h = rw h (and_nothing (nat_eq (length (a.rows x)) (n 0)))
 
 pub join_told_at : (a : Format) (b : Bank) (ss : List (List ℕ)) (o r : ℕ) (ls : List ℕ) (n : ℕ → ℕ) → r ≡ length (a.rows (a.build (drop o ss))) → are_told ls (λ v. n (suc v)) ≡ b.told (b.sides.build (drop (o + a.count) ss)) (λ v. n (suc v)) → are_told (r ∷ ls) n ≡ (join a b).told ((join a b).sides.build (drop o ss)) n
 join_told_at a b ss o r ls n h k = ap2_and (nat_eq r (n 0)) (nat_eq (length (a.rows (a.build (drop o ss)))) (n 0)) _ _ (ap (λ m. nat_eq m (n 0)) h) k ∙ ap (λ c. (join a b).told c n) (sym (beside_built a b.sides ss o))
 
--- the slices of the parts fit where those of the whole do
+-- the slices of the parts fit if those of the whole do
 pub sides_fit : (b : Bank) (o : ℕ) (ss : List (List ℕ)) → Fits (variants_format b) o ss → Fits b.sides o ss
 sides_fit b o ss h = record {
   room = let r = h.room in omega (arith, r);
@@ -134,7 +134,7 @@ beside_second a b o ss h = two_fits_right (beside_two a b) o ss h
 pub variants_rows_at : (b : Bank) (ss : List (List ℕ)) (o m : ℕ) → m ≡ o + b.sides.count → length (discriminant_format.rows (discriminant_format.build (drop m ss))) ≡ length ((variants_format b).rows ((variants_format b).build (drop o ss)))
 variants_rows_at b ss o m e = ap (λ k. length (discriminant_format.rows (discriminant_format.build (drop k ss)))) e ∙ (variants_len b (b.sides.build (drop o ss)) (discriminant_format.build (drop (o + b.sides.count) ss)) ∙ ap (λ c. length ((variants_format b).rows c)) (sym (variants_built b ss o)))
 
--- the content that the parts make
+-- the content of the parts
 pub variants_content : (b : Bank) (ss : List (List ℕ)) (o m : ℕ) {x y : Content} → x ≡ b.sides.build (drop o ss) → y ≡ discriminant_format.build (drop m ss) → m ≡ o + b.sides.count → both x y ≡ (variants_format b).build (drop o ss)
 variants_content b ss o m {x} {y} p q e =
     let k : y ≡ discriminant_format.build (drop (o + b.sides.count) ss) = subst (λ i. y ≡ discriminant_format.build (drop i ss)) e q in
@@ -145,7 +145,7 @@ beside_content a b ss o m {x} {y} p q e =
     let k : y ≡ b.build (drop (o + a.count) ss) = subst (λ i. y ≡ b.build (drop i ss)) e q in
     two_contents p k ∙ sym (beside_built a b ss o)
 
--- how many bytes the parts hold
+-- the number of bytes of the parts
 pub variants_held : (b : Bank) (ss : List (List ℕ)) (o m : ℕ) → m ≡ o + b.sides.count → bytes_held ((variants_format b).build (drop o ss)) ≡ bytes_held (b.sides.build (drop o ss)) + bytes_held (discriminant_format.build (drop m ss))
 variants_held b ss o m e = ap bytes_held (variants_built b ss o) ∙ ap (λ k. bytes_held (b.sides.build (drop o ss)) + bytes_held (discriminant_format.build (drop k ss))) (sym e)
 

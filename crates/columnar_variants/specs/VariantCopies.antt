@@ -1,4 +1,4 @@
--- Columns of variants that take a range of rows, column by column.
+-- Copies of ranges of rows into columns of variants, for each column.
 use Rattle.std.proofs.Common.{◌≡◌, ℕ, zero, suc, ◌+◌, ◌-◌, ◌<◌, ◌≤◌, true, List, [], ◌++◌, length, take, drop}
 use Rattle.columnar_core.specs.Row.{Row}
 use Rattle.columnar_core.specs.Format.{Format, Content, IsSound, Excess, all_alike, refuses_more}
@@ -7,7 +7,7 @@ use Rattle.columnar_base.specs.declared.fault.GrowError.{GrowError}
 use Rattle.columnar_sums.specs.Discriminants.{times}
 use Rattle.columnar_variants.specs.Variants.{Bank, BankStayed, are_below}
 
--- Each column took the rows of its variant that f says, from row s on, in the column that they come from.
+-- Each column accepted the rows of its variant in f, from row s on in the column that they come from.
 pub record BankCopied (b : Bank) (x x' : Content) (s : ℕ → ℕ) (f : ℕ → List Row) : Type 0 where
   pub fresh : ℕ → List Row
   pub near : (v : ℕ) → v < b.size → all_alike (b.alike v) (fresh v) (f v) ≡ true
@@ -26,12 +26,12 @@ headed r g (suc v) = g v
 abbrev pub range_of : (ℕ → List Row) → List ℕ → List ℕ → ℕ → List Row
 range_of u before mid v = take (times v mid) (drop (times v before) (u v))
 
--- There are rows for all variants of the range, which has no other.
+-- There are rows for all variants of the range, and it has no others.
 pub record HasRange (size : ℕ) (u : ℕ → List Row) (before mid : List ℕ) : Type 0 where
   pub room : (v : ℕ) → v < size → times v before + times v mid ≤ length (u v)
   pub below : are_below size mid ≡ true
 
--- One of the columns refused the rows of its variant, with an error that is true of them; all are as they were.
+-- One of the columns refused the rows of its variant, with a justified error; all columns are unchanged.
 pub record BankDenied (b : Bank) (x x' : Content) (f : ℕ → List Row) (error : GrowError) : Type 0 where
   pub stayed : BankStayed b x x'
   pub format : Format

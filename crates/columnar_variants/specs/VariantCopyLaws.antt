@@ -1,4 +1,4 @@
--- A copy of a range of variants takes a range of each part.
+-- A copy of a range of variants is a copy of a range of each part.
 use Rattle.std.proofs.Common.{◌≡◌, ℕ, zero, suc, ◌+◌, ◌-◌, ◌<◌, ◌≤◌, Bool, true, ◌||◌, cond, List, [], ◌∷◌, ◌++◌, length, take, drop, refl, sym, ◌∙◌, ap, arith, append-nil, append_assoc, length-append, ⊎_elim}
 use Rattle.std.specs.Prelude.{nat_eq, slice_index_or}
 use Rattle.std.proofs.lemmas.Bool.{and_from, or_left, or_right, eq-eqb, ne_eqb, cases_lt, cases_eq}
@@ -78,9 +78,9 @@ join_copied a b {x} {x'} {y} {y'} s f c u =
       sound = λ q. let p = two_parts (beside_two a b.sides) x y q in two_sound (beside_two a b.sides) x' y' (record { left = t.grew.sound; right = u.sound p.right; own = refl });
     }
 
--- lists alone
+-- lists
 
--- rows that are alike, variant by variant, are alike
+-- rows whose values represent each other, by variant, represent each other
 pub chosen_alike : (q : ℕ → Row → Row → Bool) (t u : ℕ → List Row) (p1 p2 mid : List ℕ) → ((v i : ℕ) → i < times v mid → q v (slice_index_or (t v) (times v p1 + i) unit) (slice_index_or (u v) (times v p2 + i) unit) ≡ true) → all_alike (variants_alike q) (chosen t p1 mid) (chosen u p2 mid) ≡ true
 chosen_alike q t u p1 p2 [] h = refl
 chosen_alike q t u p1 p2 (w ∷ rest) h =
@@ -143,7 +143,7 @@ near_range b law {x} {x'} u before mid vs r h t v i l = ⊎_elim
     (λ (k : b.size ≤ v). let z = none_beyond b.size v mid r.below k in absurd (omega (arith, z, l)))
     (cases_lt v b.size)
 
--- The whole takes the rows of a range, where each column took those of its variant and the variants took theirs.
+-- The whole accepted the rows of a range if each column accepted those of its variant, and the variants theirs.
 pub variants_copied : (b : Bank) → IsBank b → {x x' y y' : Content} (u : ℕ → List Row) (before mid : List ℕ) → IsSound (variants_format b) (both x y) → HasRange b.size u before mid → BankCopied b x x' (λ v. times v before) (range_of u before mid) → IsSound discriminant_format y' → variants_of y' ≡ variants_of y ++ mid → Took (variants_format b) (both x y) (both x' y') (chosen u before mid)
 variants_copied b law {x} {x'} {y} {y'} u before mid s r t f e =
     let p = variants_parts b s in
@@ -180,7 +180,7 @@ variants_copied b law {x} {x'} {y} {y'} u before mid s r t f e =
           (λ v l. of_case-append v (chosen u before mid) rs ∙ ap (λ z. z ++ of_case v rs) (of_chosen u v before mid (r.room v l))) ∙ k) h;
     }
 
--- A front, copied into an empty column, is there as it was.
+-- A range from row 0 that is copied into an empty column is unchanged.
 pub variants_front : (b : Bank) → IsBank b → {x x' y : Content} (y' : Content) (u : ℕ → List Row) (mid : List ℕ) → IsSound (variants_format b) (both x y) → HasRange b.size u [] mid → BankCopied b x x' (λ v. times v []) (range_of u [] mid) → variants_of y' ≡ variants_of y ++ mid → (variants_format b).rows (both x y) ≡ [] → (variants_format b).rows (both x' y') ≡ chosen u [] mid
 variants_front b law {x} {x'} {y} y' u mid s r t e h =
     let p = variants_parts b s in
@@ -272,7 +272,7 @@ variants_denied b law {x} {x'} {y} u before mid {error} s r t =
           ∙ t.passes e (λ v. times v (take (length (chosen (b.table x) [] vs)) vs)) (λ v l. ap (times v) all ∙ sym (law.tells x (λ z. times z vs) p.told v l)) k)) t.cause;
     }
 
--- The variants refused, and have stayed, as the columns have.
+-- The variants refused and are unchanged, and so are the columns.
 pub variants_overfull : (b : Bank) → IsBank b → {x x' y y' : Content} (u : ℕ → List Row) (before mid : List ℕ) {error : GrowError} → IsSound (variants_format b) (both x y) → BankStayed b x x' → Stayed discriminant_format y y' → variants_of y' ≡ variants_of y → ((rs : List Row) → length rs ≡ length mid → IsTrueOf error discriminant_format y rs) → Refused (variants_format b) (both x y) (both x' y') (chosen u before mid) error
 variants_overfull b law {x} {x'} {y} {y'} u before mid {error} s t f e h =
     let q = variants_stayed b law s t in
@@ -295,9 +295,15 @@ variants_overfull b law {x} {x'} {y} {y'} u before mid {error} s t f e h =
 
 -- the variants of a range, one by one
 
--- a refusal at one of the rows is one of all
+-- a refusal of one of the rows is a refusal of all
 pub variants_cause : (x y : Content) (r : Row) (rs : List Row) (n : ℕ) (error : GrowError) → length (variants_of y) ≡ length (variants_of x) + n → n < length rs → IsTrueOf error discriminant_format y (r ∷ []) → IsTrueOf error discriminant_format x rs
 variants_cause x y r rs n error e l h = true_from discriminant_format discriminant_format y x (r ∷ []) rs error (λ w k.
     let i = length-variant_rows (variants_of x) in
     let j = length-variant_rows (variants_of y) in
     past_grows w (length (discriminant_format.rows y) + 1) (length (discriminant_format.rows x) + length rs) (omega (arith, e, l, i, j)) k) h
+
+-- the column of a variant has the values of its rows, in order
+pub variants_values : (b : Bank) → IsBank b → {x y : Content} → IsSound (variants_format b) (both x y) → (v : ℕ) → v < b.size → b.table x v ≡ of_case v ((variants_format b).rows (both x y))
+variants_values b law {x} {y} s v l =
+    let n : length (b.table x v) ≡ times v (variants_of y) = law.tells x (λ w. times w (variants_of y)) (variants_parts b s).told v l in
+    sym (of_chosen (b.table x) v [] (variants_of y) (omega (arith, n)) ∙ (rw (← n) (take-length (b.table x v))))

@@ -1,4 +1,4 @@
--- How many rows of each variant there are where all rows are of one.
+-- Numbers of rows of each variant if all rows have the same one.
 use Rattle.std.proofs.Common.{◌≡◌, ℕ, zero, suc, ◌+◌, ◌<◌, ◌≤◌, true, false, cond, List, [], ◌∷◌, ◌++◌, length, take, replicate, refl, sym, ◌∙◌, ap, arith, ⊎_elim, drop, length-append}
 use Rattle.std.proofs.lemmas.List.Sums.{sum_by-append}
 use Rattle.std.specs.Prelude.{slice_index, slice_set, Some, None, nat_eq, nat_lt}
@@ -9,7 +9,7 @@ use Rattle.columnar_sums.specs.DiscriminantLaws.{times_all, times_most, times_ab
 use Rattle.columnar_variants.specs.Variants.{are_below}
 use Rattle.columnar_variants.specs.VariantCounts.{EachCounted, are_told}
 
--- all of one variant
+-- all rows have one variant
 
 below_all : (n v m : ℕ) → v < n → are_below n (replicate m v) ≡ true
 below_all n v zero l = refl
@@ -29,7 +29,7 @@ above_sole n v (w ∷ vs) l h = ⊎_elim
     rw r refl)
     (cases_Bool (is_mixed (w ∷ vs)))
 
--- neither one variant nor two
+-- neither one variant nor several
 pub none_sole : (vs : List ℕ) → None ≡ sole vs → is_mixed vs ≡ false → vs ≡ []
 none_sole [] h m = refl
 none_sole (w ∷ vs) h m = let e = cond-false (is_mixed (w ∷ vs)) None (Some w) m in cc
@@ -46,7 +46,7 @@ counted_nothing vs e = λ k l. get_or-replicate 256 k 0 0 l ∙ sym (ap (times k
 pub counted_all : (vs counts : List ℕ) (n : ℕ) → n ≡ length vs → ((k : ℕ) → k < 256 → slice_index counts k ≡ times k (take n vs)) → EachCounted vs counts
 counted_all vs counts n e h = rw (take_all n vs (omega (arith, e))) at h
 
--- one row more
+-- one more row
 
 pub below_more : (n : ℕ) (vs : List ℕ) (i : ℕ) → i < length vs → slice_index vs i < n → are_below n (take i vs) ≡ true → are_below n (take (i + 1) vs) ≡ true
 below_more n [] i l m h = absurd (omega arith)
@@ -75,7 +75,7 @@ told_not [] n i l h = absurd (omega arith)
 told_not (x ∷ ls) n zero l h = let e : nat_eq x (n 0) ≡ false = ne_eqb x (n 0) h in rw e refl
 told_not (x ∷ ls) n (suc i) l h = and_right (nat_eq x (n 0)) (are_told ls (λ v. n (suc v))) (told_not ls (λ v. n (suc v)) i (omega arith) h)
 
--- of the first n of variants that are all k
+-- the first n of variants that are all k
 
 pub front_sole : (k n : ℕ) (vs : List ℕ) → n ≤ length vs → times k vs ≡ length vs → times k (take n vs) ≡ n
 front_sole k n vs l h =

@@ -1,4 +1,4 @@
--- Cut variants have the first rows, each part as many as these have of its variant.
+-- Truncated variants have the first rows; each part has the values of its variant among them.
 use Rattle.std.proofs.Common.{◌≡◌, ℕ, zero, suc, ◌+◌, ◌<◌, ◌≤◌, ◌||◌, cond, [], ◌++◌, length, take, drop, refl, ◌∙◌, ap, arith, length-take, ⊎_elim}
 use Rattle.std.specs.Prelude.{nat_eq}
 use Rattle.std.proofs.lemmas.Bool.{cases_lt}
@@ -40,7 +40,8 @@ join_cut a b {x} {x'} {y} {y'} k n e t u = record {
   sound = λ s. let p = two_parts (beside_two a b.sides) x y s in two_sound (beside_two a b.sides) x' y' (record { left = t.sound; right = u.sound p.right; own = refl });
 }
 
--- The whole was cut to m rows, where each column was to those of its variant among these, and the variants to m.
+-- The whole is truncated to m rows if each column is truncated to those of its variant among them, and the variants to
+-- m.
 pub variants_cut : (b : Bank) → IsBank b → {x x' y y' : Content} (m : ℕ) → IsSound (variants_format b) (both x y) → BankCut b x x' (λ v. times v (take m (variants_of y))) → IsSound discriminant_format y' → variants_of y' ≡ take m (variants_of y) → lengths y' ≡ form_lengths (take m (variants_of y)) → WasCut (variants_format b) (both x y) (both x' y') m
 variants_cut b law {x} {x'} {y} {y'} m s t f e g =
     let p = variants_parts b s in

@@ -1,4 +1,4 @@
--- What the rows of variants are, what soundness is made of, and what a push adds.
+-- The rows of variants, their soundness, and the effect of a push.
 use Rattle.std.proofs.Common.{◌≡◌, ℕ, zero, suc, ◌+◌, ◌<◌, ◌≤◌, Bool, true, false, List, [], ◌∷◌, ◌++◌, length, take, drop, refl, sym, ◌∙◌, ap, arith, append-nil, append_assoc, length-append, ⊎_elim}
 use Rattle.std.specs.Prelude.{slice_get, Some, slice_index_or, nat_eq, ◌||◌}
 use Rattle.std.proofs.lemmas.Bool.{and_parts, and_from, or_left, or_right, eqb-true, eq-eqb, cases_eq}
@@ -23,7 +23,7 @@ use Rattle.columnar_sums.specs.DiscriminantLaws.{times-append, length-variant_ro
 use Rattle.columnar_sums.specs.Results.{beside_format}
 use Rattle.columnar_sums.specs.ResultLaws.{beside_two}
 
--- numbers and lists alone
+-- numbers and lists
 
 pub length-chosen : (t : ℕ → List Row) (before vs : List ℕ) → length (chosen t before vs) ≡ length vs
 length-chosen t before [] = refl
@@ -43,7 +43,7 @@ chosen-take zero t before vs = refl
 chosen-take (suc n) t before [] = refl
 chosen-take (suc n) t before (v ∷ vs) = ap (λ rs. cell t v (times v before) ∷ rs) (chosen-take n t (before ++ v ∷ []) vs)
 
--- Tables that begin alike, as far as the variants reach, give the same rows.
+-- Tables with equal first rows, as far as the variants reach, give the same rows.
 pub chosen-same : (t u : ℕ → List Row) (before vs : List ℕ) → ((v o : ℕ) → o < times v (before ++ vs) → slice_index_or (t v) o unit ≡ slice_index_or (u v) o unit) → chosen t before vs ≡ chosen u before vs
 chosen-same t u before [] h = refl
 chosen-same t u before (v ∷ vs) h =
@@ -53,7 +53,7 @@ chosen-same t u before (v ∷ vs) h =
     let r : chosen t (before ++ v ∷ []) vs ≡ chosen u (before ++ v ∷ []) vs = chosen-same t u (before ++ v ∷ []) vs (λ w o k. h w o (rw a at k)) in
     rw (e, r) refl
 
--- what the soundness is made of
+-- what the soundness consists of
 
 pub record SoundVariants (b : Bank) (x y : Content) : Type 0 where
   pub parts : IsSound b.sides x
@@ -134,7 +134,7 @@ join_back a b law (plain rs) n s h = let k = s.accepted in cc
 pub join_bank : (a : Format) (b : Bank) → IsBank b → IsBank (join a b)
 join_bank a b law = record { tells = join_tells a b law; agrees = join_agrees a b law; tells_back = join_back a b law }
 
--- one variant's column took a row
+-- the column of one variant accepted a row
 
 pub record Single (same : Row → Row → Bool) (rs : List Row) (r : Row) : Type 0 where
   pub row : Row
@@ -202,7 +202,7 @@ later_took a b {x} {y} {y'} {k} {r} t = record {
   sound = λ s. let p = two_parts (beside_two a b.sides) x y s in two_sound (beside_two a b.sides) x y' (record { left = p.left; right = t.sound p.right; own = refl });
 }
 
--- the whole took a row
+-- the whole accepted a row
 
 told_after : (b : Bank) → IsBank b → {x x' : Content} {k : ℕ} {r : Row} (vs : List ℕ) → IsSound b.sides x → b.told x (λ v. times v vs) ≡ true → BankTook b x x' k r → (v : ℕ) → v < b.size → length (b.table x' v) ≡ times v (vs ++ k ∷ [])
 told_after b law {x} {x'} {k} {r} vs s h t v l =
@@ -223,7 +223,7 @@ front_same b law {x} {x'} {k} {r} vs h lk t v o l =
     rw j (index_front (b.table x v) (t.fresh ∷ []) o (omega (arith, e, l))))
     (λ (q : v ≡ k → ⊥). ap (λ rs. slice_index_or rs o unit) (t.others v q)) (cases_eq v k)
 
--- all rows of the variants before the n-th are among those of the columns
+-- all rows of the variants before the n-th exist in the columns
 pub counts_within : (b : Bank) → IsBank b → (x : Content) (vs : List ℕ) (n : ℕ) → b.told x (λ v. times v vs) ≡ true → (v : ℕ) → v < b.size → times v (take n vs) ≤ length (b.table x v)
 counts_within b law x vs n h v l =
     let e : length (b.table x v) ≡ times v vs = law.tells x (λ w. times w vs) h v l in
@@ -232,7 +232,7 @@ counts_within b law x vs n h v l =
     let c : times v (take n vs ++ drop n vs) ≡ times v vs = ap (times v) s in
     omega (arith, e, a, c)
 
--- The whole takes a row of variant k, where its column took the value and the variants took k.
+-- The whole accepted a row of variant k if its column accepted the value and the variants accepted k.
 pub variants_took : (b : Bank) → IsBank b → {x x' y y' : Content} (k : ℕ) {r : Row} → k < b.size → IsSound (variants_format b) (both x y) → BankTook b x x' k r → IsSound discriminant_format y' → variants_of y' ≡ variants_of y ++ k ∷ [] → Took (variants_format b) (both x y) (both x' y') (case k r ∷ [])
 variants_took b law {x} {x'} {y} {y'} k {r} lk s t f e =
     let p = variants_parts b s in
@@ -347,7 +347,7 @@ variants_refused b law {x} {x'} {y} k {r} {error} s t =
       cause = true_from t.format (variants_format b) t.content (both x y) (r ∷ []) (case k r ∷ []) error (λ e w. or_right _ _ (t.passes e (λ v. times v (take (length (chosen (b.table x) [] vs)) vs)) (λ v. of_case v (case k r ∷ [])) (λ v l. ap (times v) all ∙ sym (law.tells x (λ u. times u vs) p.told v l)) (of_case_here k r []) w)) t.cause;
     }
 
--- The variants refused their row, and the value was taken back.
+-- The variants refused their row, and the value was removed again.
 pub variants_full : (b : Bank) → IsBank b → {x x' y : Content} (k : ℕ) {r : Row} (q : Row) {error : GrowError} → IsSound (variants_format b) (both x y) → BankStayed b x x' → IsTrueOf error discriminant_format y (q ∷ []) → Refused (variants_format b) (both x y) (both x' y) (case k r ∷ []) error
 variants_full b law {x} {x'} {y} k {r} q {error} s t w =
     let n : length (chosen (b.table x) [] (variants_of y)) ≡ length (variants_of y) = length-chosen (b.table x) [] (variants_of y) in
@@ -360,7 +360,7 @@ variants_full b law {x} {x'} {y} k {r} q {error} s t w =
           or_left _ _ g) w;
     }
 
--- what a container of variants asks
+-- preconditions of a container of variants
 
 pub beside_parts : (a b : Format) {x y : Content} → IsSound (beside_format a b) (both x y) → IsSound a x × IsSound b y
 beside_parts a b {x} {y} s = let p = two_parts (beside_two a b) x y s in (p.left, p.right)

@@ -1,4 +1,4 @@
--- Lists of variants, and values by their places among those of their variant.
+-- Lists of variants, and values by their positions among those of their variant.
 use Rattle.std.proofs.Common.{◌≡◌, ℕ, zero, suc, ◌+◌, ◌-◌, ◌<◌, ◌≤◌, ◌^◌, Bool, true, false, cond, List, [], ◌∷◌, ◌++◌, length, take, drop, refl, sym, ◌∙◌, ap, arith, append-nil, append_assoc, length-append}
 use Rattle.std.specs.Prelude.{slice_get, Some, slice_index_or, nat_eq, nat_lt}
 use Rattle.std.proofs.lemmas.Bool.{and_parts, and_from, eq-eqb, ne_eqb, ltb-true, lt-ltb}
@@ -33,7 +33,7 @@ times_other_last v k vs h = let a = times-append v vs (k ∷ []) in let b = time
 pub times_next : (v w : ℕ) (p : List ℕ) (i : ℕ) → times v (p ++ w ∷ []) + i ≡ times v p + (times v (w ∷ []) + i)
 times_next v w p i = let a = times-append v p (w ∷ []) in omega (arith, a)
 
--- one row more
+-- one more row
 pub times_more : (v w i : ℕ) (vs : List ℕ) → slice_get vs i ≡ Some w → (w ≡ v → ⊥) → times v (take (i + 1) vs) ≡ times v (take i vs)
 times_more v w i vs h o =
     let e : take (suc i) vs ≡ take i vs ++ w ∷ [] = take-suc_get i vs w h in
@@ -59,7 +59,7 @@ take_range (suc m) (suc k) [] l = let e : suc k - suc m ≡ k - m = omega arith 
     take_nil (suc n) = refl
 take_range (suc m) (suc k) (w ∷ ws) l = let e : suc k - suc m ≡ k - m = omega arith in rw e (ap (λ t. w ∷ t) (take_range m k ws (omega arith)))
 
--- how many rows of variant v a range has
+-- the number of rows of variant v in a range
 pub times_range : (v m k : ℕ) (ws : List ℕ) → m ≤ k → times v (take k ws) ≡ times v (take m ws) + times v (take (k - m) (drop m ws))
 times_range v m k ws l = ap (times v) (take_range m k ws l) ∙ times-append v (take m ws) (take (k - m) (drop m ws))
 
@@ -122,7 +122,7 @@ pub below_both : (n : ℕ) (vs ws : List ℕ) → are_below n vs ≡ true → ar
 below_both n [] ws h k = k
 below_both n (v ∷ vs) ws h k = let p = and_parts (nat_lt v n) (are_below n vs) h in and_from _ _ p.0 (below_both n vs ws p.1 k)
 
--- a variant that is not below n is not among those that are
+-- a variant that is at least n does not occur among those below n
 pub none_beyond : (n v : ℕ) (vs : List ℕ) → are_below n vs ≡ true → n ≤ v → times v vs ≡ 0
 none_beyond n v [] h l = refl
 none_beyond n v (w ∷ vs) h l =

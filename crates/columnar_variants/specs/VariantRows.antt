@@ -1,4 +1,4 @@
--- Columns of variants without rows, and how many rows are of a variant.
+-- Columns of variants without rows, and numbers of rows of a variant.
 use Rattle.std.proofs.Common.{◌≡◌, ℕ, ◌<◌, length}
 use Rattle.columnar_core.specs.Format.{Content}
 use Rattle.columnar_variants.specs.Variants.{Bank}

@@ -15,7 +15,7 @@ use Rattle.columnar_variants.specs.VariantListLaws.{below_get}
 pub alone_from : (v : ℕ) (vs : List ℕ) → times v vs ≡ length vs → is_mixed vs ≡ false
 alone_from v vs h = rw (times_all v vs h) (same_replicate v (length vs))
 
--- one more of the variant of all
+-- one more of the variant of all rows
 pub times_pushed : (v : ℕ) (vs us : List ℕ) → times v vs ≡ length vs → us ≡ vs ++ v ∷ [] → times v us ≡ length us
 times_pushed v vs us h e =
     let a = times-append v vs (v ∷ []) in
@@ -23,7 +23,7 @@ times_pushed v vs us h e =
     let c = length-append vs (v ∷ []) in
     rw e (omega (arith, a, b, c, h))
 
--- a run after a run of the same
+-- a run after a run of the same variant
 pub run_joined : (v m n : ℕ) (vs : List ℕ) → times v vs ≡ length vs → m ≡ length vs → replicate (m + n) v ≡ vs ++ replicate n v
 run_joined v m n vs h e = rw e (sym (replicate-append-replicate (length vs) n v) ∙ ap (λ ws. ws ++ replicate n v) (sym (times_all v vs h)))
 
@@ -33,7 +33,7 @@ of_run v w n vs e l h = ⊎_elim (λ (q : v ≡ w). sym q)
     (λ (o : v ≡ w → ⊥). let a : times v vs ≡ 0 = ap (times v) e ∙ times_absent v w n o in absurd (omega (arith, a, h, l)))
     (cases_eq v w)
 
--- the number of rows set, where all are of one variant
+-- the number of rows was set, if all have one variant
 pub rows_set : (vs os : List ℕ) (n : ℕ) → IsSound discriminant_format (owned_forms vs os) → 0 < length (variants_of (owned_forms vs os)) → is_mixed (variants_of (owned_forms vs os)) ≡ false → 1 ≤ n → n < 2 ^ 64 → (length os ≡ 2) × (IsSound discriminant_format (owned_forms vs (slice_set os 1 n)) × ((v : ℕ) → times v (variants_of (owned_forms vs os)) ≡ length (variants_of (owned_forms vs os)) → variants_of (owned_forms vs (slice_set os 1 n)) ≡ replicate n v))
 rows_set vs os n s l m p q =
     let z : length vs ≡ 0 = none_kept (length vs) (mixed_where (forms_parts s) ∙ m) in
@@ -50,7 +50,7 @@ rows_set vs os n s l m p q =
 pub length_cause : (c : Content) (n : ℕ) (rs : List Row) → length rs ≡ n → 2 ^ 64 - 1 < length (discriminant_format.rows c) + n → refuses_more discriminant_format too_many c rs ≡ true
 length_cause c n rs e l = lt-ltb (2 ^ 64 - 1) (length (discriminant_format.rows c) + length rs) (omega (arith, e, l))
 
--- the one variant is that of a column
+-- the variant of all rows is that of a column
 pub sole_below : (n k : ℕ) (vs : List ℕ) → are_below n vs ≡ true → Some k ≡ sole vs → k < n
 sole_below n k [] b h = cc
 sole_below n k (v ∷ vs) b h = ⊎_elim
@@ -61,7 +61,7 @@ sole_below n k (v ∷ vs) b h = ⊎_elim
     below_get n (v ∷ vs) 0 k b (ap Some q))
     (cases_Bool (is_mixed (v ∷ vs)))
 
--- the one variant is that of each row
+-- the variant of all rows is that of each row
 pub sole_times : (v : ℕ) (vs : List ℕ) → sole vs ≡ Some v → times v vs ≡ length vs
 sole_times v [] h = cc
 sole_times v (w ∷ ws) h = ⊎_elim

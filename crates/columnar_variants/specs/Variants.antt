@@ -1,5 +1,4 @@
--- Columns whose rows are of one of several variants: the values of each variant in a column of its own, and which
--- variant each row is of.
+-- Columns of sum types: a column for the values of each variant, and the variant of each row.
 use Rattle.std.specs.Prelude.{ℕ, zero, suc, Bool, true, false, List, [], ◌∷◌, ◌++◌, ◌≡◌, ◌≤◌, ◌<◌, length, ◌+◌, drop, take, ◌&&◌, ◌||◌, nat_eq, nat_lt, cond, slice_index_or}
 use Rattle.columnar_core.specs.Row.{Row, unit, tuple, number, number_of, first_of, second_of, row_eq}
 use Rattle.columnar_core.specs.Format.{Format, Content, slice, both, part, plain, Fault, fault, unless, IsSound, IsSame, lengths, Excess, two_broken, refuses_more}
@@ -14,10 +13,10 @@ abbrev pub case : ℕ → Row → Row
 case v r = tuple (number v) r
 
 -- The columns of the values, one for each variant.
---   sides: all of them, one after the other; size: how many
---   table: the rows of the column of a variant
---   told: has each as many rows as this says; room: the lengths of all parts where each has so many rows
---   refuses: may one of them not hold these rows of its own, after so many; alike, kin: those of the column of a variant
+-- sides: the format of all of them in order; size: their number
+-- table: the rows of the column of a variant
+-- told: each has as many rows as this says; room: the lengths of all parts if each has this many rows
+-- refuses: one of them refuses its rows, after this many; alike, kin: those of the column of a variant
 pub record Bank : Type 0 where
   pub sides : Format
   pub size : ℕ
@@ -28,7 +27,7 @@ pub record Bank : Type 0 where
   pub alike : ℕ → Row → Row → Bool
   pub kin : ℕ → Row → Row → Bool
 
--- one variant
+-- a single variant
 abbrev pub leaf_table : Format → Content → ℕ → List Row
 leaf_table a c zero = a.rows c
 leaf_table a c (suc v) = []
@@ -45,7 +44,7 @@ leaf a = record {
   kin = λ v. a.kin;
 }
 
--- one variant more, before the others
+-- one more variant, before the others
 abbrev pub join_table : Format → Bank → Content → ℕ → List Row
 join_table a b (both x y) zero = a.rows x
 join_table a b (both x y) (suc v) = b.table y v
@@ -87,7 +86,7 @@ join a b = record {
   kin = by_variant a.kin b.kin;
 }
 
--- for each variant, where `before` stands before them all, its next value
+-- for each variant its next value; `before` precedes them all
 abbrev pub cell : (ℕ → List Row) → ℕ → ℕ → Row
 cell t v o = case v (slice_index_or (t v) o unit)
 
@@ -100,11 +99,11 @@ abbrev pub of_case : ℕ → List Row → List Row
 of_case k [] = []
 of_case k (r ∷ rs) = cond (nat_eq k (number_of (first_of r))) (second_of r ∷ of_case k rs) (of_case k rs)
 
--- is the value of a row of variant k so
+-- the value of a row of variant k satisfies p
 abbrev pub of_variant : ℕ → (Row → Bool) → Row → Bool
 of_variant k p r = nat_eq k (number_of (first_of r)) && p (second_of r)
 
--- is each variant below n
+-- each variant is less than n
 abbrev pub are_below : ℕ → List ℕ → Bool
 are_below n [] = true
 are_below n (v ∷ vs) = nat_lt v n && are_below n vs
@@ -112,7 +111,7 @@ are_below n (v ∷ vs) = nat_lt v n && are_below n vs
 abbrev pub is_below : Bank → Content → Content → Bool
 is_below b x y = are_below b.size (variants_of y)
 
--- has each part as many rows as there are of its variant
+-- each part has as many rows as its variant occurs
 abbrev pub level_broken : Bank → Content → List Fault
 level_broken b (both x y) = unless (b.told x (λ v. times v (variants_of y))) (fault 10 0)
 level_broken b (slice bs) = []
@@ -141,12 +140,12 @@ abbrev pub bare_case : Row → Row
 bare_case (tuple r s) = tuple r unit
 bare_case r = r
 
--- of one variant, and the values as those of that variant
+-- both have the same variant, and the relation of that variant decides
 abbrev pub variants_alike : (ℕ → Row → Row → Bool) → Row → Row → Bool
 variants_alike nth r s = row_eq (bare_case r) (bare_case s) && nth (number_of (first_of r)) (second_of r) (second_of s)
 
--- the rules of the values' columns, those of the variants, that each is below the number of the columns, and that the
--- columns have as many rows as there are of their variants
+-- the rules of the values' columns, those of the variants, then that each variant is less than the number of columns,
+-- and that the columns have as many rows as their variants occur
 abbrev pub variants_format : Bank → Format
 variants_format b = record {
   count = b.sides.count + 2;
@@ -162,13 +161,13 @@ variants_format b = record {
   refuses = variants_refuses b;
 }
 
--- What a bank keeps to.
+-- The laws of a bank.
 pub record IsBank (b : Bank) : Type 0 where
   pub tells : (c : Content) (n : ℕ → ℕ) → b.told c n ≡ true → (v : ℕ) → v < b.size → length (b.table c v) ≡ n v
   pub agrees : (e : Excess) (c : Content) (n m : ℕ → ℕ) (f g : ℕ → List Row) → ((v : ℕ) → v < b.size → n v ≡ m v) → ((v : ℕ) → v < b.size → f v ≡ g v) → b.refuses e c n f ≡ b.refuses e c m g
   pub tells_back : (c : Content) (n : ℕ → ℕ) → IsSound b.sides c → ((v : ℕ) → v < b.size → length (b.table c v) ≡ n v) → b.told c n ≡ true
 
--- The column of variant k took a row that is alike to r; the others are as they were.
+-- The column of variant k accepted a row that represents r; the others are unchanged.
 pub record BankTook (b : Bank) (x x' : Content) (k : ℕ) (r : Row) : Type 0 where
   pub fresh : Row
   pub near : b.alike k fresh r ≡ true
@@ -187,7 +186,7 @@ pub record BankStayed (b : Bank) (x x' : Content) : Type 0 where
   pub limits : (n : ℕ → ℕ) → ((v : ℕ) → v < b.size → n v ≤ length (b.table x v)) → (e : Excess) (f : ℕ → List Row) → b.refuses e x' n f ≡ b.refuses e x n f
   pub sound : IsSound b.sides x → IsSound b.sides x'
 
--- The column of variant k refused r, with an error that is true of it.
+-- The column of variant k refused r, with a justified error.
 pub record BankRefused (b : Bank) (x x' : Content) (k : ℕ) (r : Row) (error : GrowError) : Type 0 where
   pub stayed : BankStayed b x x'
   pub format : Format
@@ -195,7 +194,7 @@ pub record BankRefused (b : Bank) (x x' : Content) (k : ℕ) (r : Row) (error : 
   pub cause : IsTrueOf error format content (r ∷ [])
   pub passes : (e : Excess) (n : ℕ → ℕ) (f : ℕ → List Row) → ((v : ℕ) → v < b.size → n v ≡ length (b.table x v)) → f k ≡ r ∷ [] → refuses_more format e content (r ∷ []) ≡ true → b.refuses e x n f ≡ true
 
--- What a bank of lawful formats keeps to.
+-- The laws of a bank of lawful formats.
 pub record IsLawfulBank (b : Bank) : Type 0 where
   pub full : (c : Content) (n : ℕ → ℕ) → IsSound b.sides c → ((v : ℕ) → v < b.size → n v ≡ length (b.table c v)) → b.room c n ≡ lengths c
   pub same : (v : ℕ) → IsSame (b.alike v)
@@ -203,7 +202,7 @@ pub record IsLawfulBank (b : Bank) : Type 0 where
   pub related : (v : ℕ) (r s : Row) → b.alike v r s ≡ true → b.kin v r s ≡ true
   pub more : (e : Excess) (c : Content) (n : ℕ → ℕ) (f g h : ℕ → List Row) → ((v : ℕ) → h v ≡ f v ++ g v) → b.refuses e c n f ≡ true → b.refuses e c n h ≡ true
 
--- Each column was cut to the first n of its rows, by its variant.
+-- Each column was truncated to its first n rows, by variant.
 pub record BankCut (b : Bank) (x x' : Content) (n : ℕ → ℕ) : Type 0 where
   pub front : (v : ℕ) → v < b.size → b.table x' v ≡ take (n v) (b.table x v)
   pub lengths_cut : lengths x' ≡ b.room x n

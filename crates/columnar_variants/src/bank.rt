@@ -1,4 +1,5 @@
-//! The columns of the values of a sum type, one for each variant, as nested tuples: `(A, (B, (C,)))` are those of three variants.
+//! The columns of the values of a sum type, one for each variant, as nested tuples: `(A, (B, (C,)))` has three
+//! variants.
 ghost use Rattle.std.specs.Prelude.{◌≡◌, ℕ, ◌<◌, ◌≤◌, List, [], length, slice_get, Some};
 ghost use Rattle.columnar_core.specs.Row.{Row};
 ghost use Rattle.columnar_core.specs.Format.{Content, IsSound, both};
@@ -6,9 +7,11 @@ ghost use Rattle.columnar_variants.specs.Variants.{Bank, IsBank, leaf, join};
 ghost use Rattle.columnar_variants.specs.VariantLaws.{leaf_bank, join_bank};
 ghost use Rattle.columnar_variants.specs.BankLaws.{leaf_beyond, join_beyond};
 
+pub mod apart;
 pub mod bytes;
 pub mod copy;
 pub mod earlier;
+pub mod few;
 pub mod grow;
 pub mod owned;
 pub mod push;
@@ -16,23 +19,23 @@ pub mod push;
 use crate::cases::{Cases, Last, Nth};
 use columnar_core::traits::{Column, Index, Len};
 
-/// The columns of the values, one for each variant: `(A,)` is that of one variant, and `(A, B)`, where `B` are columns too,
-/// has one variant before those of `B`.
+/// The columns of the values, one for each variant: `(A,)` is the column of the only variant, and `(A, B)` puts the
+/// column of one variant before the columns `B` of the others.
 pub trait ColumnBank {
     // how the columns are read
     ghost bank: { Bank };
 
-    // what they hold
+    // the contents of the columns
     ghost contents: { Self → Content };
 
-    /// How many columns there are, or `most` where there are more.
+    /// Returns the number of columns, or `most` if there are more.
     fn columns(most: usize) -> usize
         ensures few { bank.size ≤ most → result ≡ bank.size }
         ensures many { most ≤ bank.size → result ≡ most };
 
     ghost is_bank: { IsBank bank };
 
-    // beyond the columns there are no values
+    // variants beyond the columns have no values
     ghost beyond: { (c : Content) (v : ℕ) → bank.size ≤ v → bank.table c v ≡ [] };
 }
 
@@ -68,9 +71,12 @@ impl<A: Column, B: ColumnBank> ColumnBank for (A, B) {
     }
 }
 
-/// Columns that tell how many values there are of a variant.
+/// Columns that count the values of a variant.
 pub trait LenBank: ColumnBank {
-    /// The number of values of a variant.
+    /// Returns the number of values of a variant.
+    ///
+    /// # Requires
+    /// The columns are well-formed, and `variant` is less than their number.
     fn values_of(&self, variant: usize) -> usize
         requires sound { IsSound Self.bank.sides (Self.contents self.now) }
         requires known { variant < Self.bank.size }
@@ -93,12 +99,15 @@ impl<A: Len, B: LenBank> LenBank for (A, B) {
     }
 }
 
-/// Columns whose values are read by their variant.
+/// Columns whose values are read by variant.
 pub trait IndexBank: ColumnBank {
     /// A value with its variant.
     type Ref: Copy + Cases;
 
-    /// Value `index` of a variant.
+    /// Returns value `index` of a variant.
+    ///
+    /// # Requires
+    /// The columns are well-formed, `variant` is less than their number, and `index` less than its number of values.
     fn value(&self, variant: usize, index: usize) -> Self::Ref
         requires sound { IsSound Self.bank.sides (Self.contents self.now) }
         requires known { variant < Self.bank.size }

@@ -1,4 +1,4 @@
-//! What a column of variants does with one of them: for a container of one's own.
+//! Operations on a single variant of a column of variants, for your own containers.
 ghost use Rattle.std.specs.Prelude.{◌≡◌, ◌≤◌, length, take, OnOk, IfErr};
 ghost use Rattle.columnar_core.specs.Format.{IsSound};
 ghost use Rattle.columnar_sums.specs.Discriminants.{discriminant_format, forms_content, owned_forms, variants_of, times};
@@ -10,7 +10,11 @@ use columnar_core::traits::{Item, Len, Push, PushRef};
 use columnar_core::words::Words;
 use columnar_sums::discriminant::{Discriminant, Variants};
 
-/// A value is pushed into the column of its variant, and then its variant; where that is refused, the value is taken back.
+/// Pushes a value to the column of its variant, and then its variant. If the second push fails, the value is removed
+/// again.
+///
+/// # Requires
+/// Both columns are well-formed, `column` has a value for each row of `variant`, and `item` is valid.
 pub fn push_ref_case<T: Item, C: Truncate + PushRef<T>>(
     column: &mut C,
     indexes: &mut Discriminant<Vec<u8>, Vec<u64>>,
@@ -35,7 +39,10 @@ pub fn push_ref_case<T: Item, C: Truncate + PushRef<T>>(
     }
 }
 
-/// As `push_ref_case`, of a value that is given up.
+/// Does the same as `push_ref_case` with a value.
+///
+/// # Requires
+/// As `push_ref_case`.
 pub fn push_case<T: Item, C: Truncate + Push<T>>(
     column: &mut C,
     indexes: &mut Discriminant<Vec<u8>, Vec<u64>>,
@@ -60,8 +67,11 @@ pub fn push_case<T: Item, C: Truncate + Push<T>>(
     }
 }
 
-/// How many of the first `n` rows are of a variant, of which there are `all`. Where all rows are of one variant none is
-/// looked at; else it takes a turn for each row after these, up to the next one of the variant.
+/// Counts the rows of `variant` among the first `n`, if `all` rows have it in total. Reads no row if all rows have one
+/// variant; otherwise takes a step for each row from row `n` up to the next one of `variant`.
+///
+/// # Requires
+/// The variants are well-formed, `n` is at most their number, and `all` rows have `variant`.
 pub fn rows_before<CVar: Variants, COff: Words>(
     indexes: &Discriminant<CVar, COff>,
     variant: u8,

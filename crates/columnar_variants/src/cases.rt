@@ -1,34 +1,36 @@
-//! Rows of one of several variants.
+//! Items with one of several variants.
 ghost use Rattle.std.specs.Prelude.{◌≡◌, ℕ, refl};
 ghost use Rattle.columnar_core.specs.Row.{Row};
 ghost use Rattle.columnar_variants.specs.Variants.{case};
 ghost use Rattle.columnar_variants.specs.Nths.{nth_variant, nth_value, nth_valid};
 
+mod ordered;
+
 use columnar_core::traits::Item;
 
-/// An item of one of several variants, as a row of `Variants`: which it is of, and its value.
+/// An item of a sum type, as a row of `Variants`: a variant, and a value.
 pub trait Cases: Item {
     // its variant, and the row of its value
     ghost variant: { Self → ℕ };
 
     ghost value: { Self → Row };
 
-    // it means the value of that variant
+    // it represents the value of that variant
     ghost meant: { (x : Self) → Self.meaning x ≡ case (variant x) (value x) };
 }
 
-/// Of the first variant, or of one of those after it: `Nth<A, Nth<B, Last<C>>>` is of one of three.
+/// The first variant, or one of the variants after it: `Nth<A, Nth<B, Last<C>>>` has three variants.
 #[derive(Clone, Copy, Debug, PartialEq, Eq, Drop)]
 pub enum Nth<A, B> {
     This(A),
     Next(B),
 }
 
-/// Of the last variant.
+/// The last variant.
 #[derive(Clone, Copy, Debug, PartialEq, Eq, Drop)]
 pub struct Last<C>(pub C);
 
-/// As a row, it is its value as the first variant.
+/// As a row, it is its value with variant 0.
 impl<C: Item> Item for Last<C> {
     ghost meaning = { λ x. case 0 (C.meaning x.0) };
 
@@ -43,7 +45,7 @@ impl<C: Item> Cases for Last<C> {
     ghost meant = { λ x. refl };
 }
 
-/// As a row, it is its value as its variant, which is one more where it is of one of the others.
+/// As a row, it is its value with its variant; the variant of `B` is one more than in `B` alone.
 impl<A: Item, B: Cases> Item for Nth<A, B> {
     ghost meaning = { λ x. case (nth_variant B.variant x) (nth_value A.meaning B.value x) };
 

@@ -1,4 +1,4 @@
-//! Ranges of variants that are copied: for a container of one's own.
+//! Copies of ranges of variants, for your own containers.
 ghost use Rattle.std.specs.Prelude.{◌≡◌, ℕ, ◌+◌, ◌-◌, ◌^◌, ◌<◌, ◌≤◌, ◌++◌, List, length, take, drop, OnOk, OnErr, IfErr, IsOk, IsTrue, Some, slice_index};
 ghost use Rattle.columnar_core.specs.Row.{Row};
 ghost use Rattle.columnar_core.specs.Format.{IsSound};
@@ -13,9 +13,13 @@ use columnar_core::traits::Len;
 use columnar_core::words::Words;
 use columnar_sums::discriminant::{Discriminant, Variants};
 
-/// Adds the variants of a range of rows, in turn, or none. Of each variant the column had so many rows as `lengths` says,
-/// and so many stand before the range as `firsts` says. Where the view's rows, and those of the column, are of one
-/// variant, that takes no memory, however many rows the view claims.
+/// Appends the variants of a range of rows, or none. `lengths` has the number of rows of each variant in the column,
+/// `firsts` the number before the range in the view. Allocates nothing if all rows of the view and of the column have
+/// the same variant, however many rows the view claims.
+///
+/// # Requires
+/// Both are well-formed, the range is within the view, each variant of the view has an entry in `lengths` and `firsts`,
+/// and these have the numbers above.
 pub fn extend_variants<CVar: Variants, COff: Words>(
     indexes: &mut Discriminant<Vec<u8>, Vec<u64>>,
     view: &Discriminant<CVar, COff>,

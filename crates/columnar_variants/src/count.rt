@@ -1,4 +1,4 @@
-//! How many rows are of each variant: for the test of a container of one's own.
+//! Counts of rows by variant, for the validation of your own containers.
 ghost use Rattle.std.specs.Prelude.{◌≡◌, ◌+◌, ◌^◌, ◌<◌, ◌≤◌, IfSome, is_some, length, slice_index, slice_set};
 ghost use Rattle.columnar_base.specs.Format.{IsSound, first, moved};
 ghost use Rattle.columnar_base.specs.Faults.{verdict};
@@ -13,7 +13,7 @@ use columnar_core::traits::Len;
 use columnar_core::words::Words;
 use columnar_sums::discriminant::{Discriminant, Variants};
 
-// Variant number `index`.
+// Reads variant `index`.
 fn variant_at(variants: &[u8], index: usize) -> u8
     requires { index < length variants.now }
     ensures { result ≡ slice_index variants.now index }
@@ -21,7 +21,7 @@ fn variant_at(variants: &[u8], index: usize) -> u8
     variants[index]
 }
 
-// How many rows of a variant were counted.
+// Reads how many rows of a variant were counted so far.
 fn count_of(counts: &[u64; 256], variant: usize) -> u64
     requires { variant < 256 }
     ensures { result ≡ slice_index counts.now variant }
@@ -29,14 +29,14 @@ fn count_of(counts: &[u64; 256], variant: usize) -> u64
     counts[variant]
 }
 
-// Of a variant there are so many rows.
+// Sets how many rows of a variant were counted.
 fn set_count(counts: &mut [u64; 256], variant: u8, count: u64)
     ensures { counts.new ≡ slice_set counts.old variant count }
 {
     counts[variant as usize] = count;
 }
 
-// How many are of each variant; None where one is not below `size`. At most a turn for each.
+// Counts the rows of each variant; `None` if a variant is not less than `size`. Takes at most one step for each row.
 fn count_each<L>(variants: &[u8], size: usize, tally: &mut Tally<L>) -> Option<[u64; 256]>
     ensures below { is_some result ≡ are_below size variants.now }
     ensures counted { IfSome result (EachCounted variants.now) }
@@ -56,8 +56,11 @@ fn count_each<L>(variants: &[u8], size: usize, tally: &mut Tally<L>) -> Option<[
     Some(counts)
 }
 
-/// How many rows are of each variant; None where one is not below `size`. Where all rows are of one variant none is
-/// looked at; else a turn for each variant.
+/// Counts the rows of each variant; `None` if a variant is not less than `size`. Reads no row if all rows have one
+/// variant; otherwise takes one step for each row.
+///
+/// # Requires
+/// The variants are well-formed.
 pub fn count_variants<CVar: Variants, COff: Words, L>(
     indexes: &Discriminant<CVar, COff>,
     size: usize,
@@ -81,7 +84,7 @@ pub fn count_variants<CVar: Variants, COff: Words, L>(
     Some(counts)
 }
 
-// Has each column as many rows as were counted of its variant?
+// Tests whether each column has as many rows as were counted for its variant.
 fn are_level(lengths: &[usize], counts: &[u64; 256]) -> bool
     requires { length lengths.now ≤ 256 }
     ensures { result ≡ are_told lengths.now (slice_index counts.now) }
@@ -94,10 +97,16 @@ fn are_level(lengths: &[usize], counts: &[u64; 256]) -> bool
     true
 }
 
-/// Is each variant below the number of columns, and has each column as many rows as there are of its variant? `Variant`
-/// and `Parts`, at slice `from`; `lengths` has the number of rows of each column, in the order of their variants. Where all
-/// rows are of one variant none is looked at; else a turn for each variant. The columns are as many as the type has: a look at
-/// each is not counted.
+/// Tests whether each variant is less than the number of columns, and whether each column has as many rows as its
+/// variant occurs. `lengths` has the number of rows of each column, in the order of variants. Reads no row if all rows
+/// have one variant; otherwise takes one step for each row. The step count does not include one read for each column of
+/// the type.
+///
+/// # Errors
+/// `Variant` or `Parts`, at slice `from`.
+///
+/// # Requires
+/// The variants are well-formed, and there are at most 256 columns.
 pub fn judge_counts<CVar: Variants, COff: Words, L>(
     indexes: &Discriminant<CVar, COff>,
     lengths: &[usize],

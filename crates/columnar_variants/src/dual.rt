@@ -1,5 +1,5 @@
-//! What a column of a sum type of two variants does: a container of one's own, which has a column for the values of each and the
-//! variants, hands these three on. The columns stand in the order of their variants, 0 and 1.
+//! Operations on a column of a sum type of two variants. Your own container has a column for the values of each variant
+//! and the variants; it passes these three. The columns are in the order of their variants, 0 and 1.
 ghost use Rattle.std.specs.Prelude.{◌≡◌, ◌<◌, ◌≤◌, [], ◌∷◌, length, slice_get, Some, OnOk, IfOk, IfErr};
 ghost use Rattle.columnar_core.specs.Format.{IsSound};
 ghost use Rattle.columnar_core.specs.Change.{Refused, Stayed, Took, WasCut};
@@ -18,7 +18,10 @@ use columnar_core::traits::{Column, Index, Item, Len, Push, PushRef};
 use columnar_core::words::Words;
 use columnar_sums::discriminant::{Discriminant, Variants};
 
-/// The number of rows.
+/// Returns the number of rows.
+///
+/// # Requires
+/// The column is well-formed.
 pub fn len_of_dual<SC: Column, TC: Column, CVar: Variants, COff: Words>(
     _firsts: &SC,
     _seconds: &TC,
@@ -30,7 +33,10 @@ pub fn len_of_dual<SC: Column, TC: Column, CVar: Variants, COff: Words>(
     indexes.len()
 }
 
-/// The value of row `index`: Ok of one of the first column, Err of one of the second.
+/// Returns the value of row `index`: `Ok` with a value of the first column, or `Err` with one of the second.
+///
+/// # Requires
+/// The column is well-formed, and `index` is less than its length.
 pub fn get_dual<SC: Index, TC: Index, CVar: Variants, COff: Words>(
     firsts: &SC,
     seconds: &TC,
@@ -52,7 +58,10 @@ pub fn get_dual<SC: Index, TC: Index, CVar: Variants, COff: Words>(
     }
 }
 
-/// Adds a row of the first variant, by reference, or leaves all three.
+/// Pushes a referenced row of the first variant. On an error, all three stay the same.
+///
+/// # Requires
+/// The column is well-formed, and `item` is valid.
 pub fn push_first_ref<T: Item, SC: Truncate + PushRef<T>, TC: Column>(
     firsts: &mut SC,
     _seconds: &TC,
@@ -67,7 +76,10 @@ pub fn push_first_ref<T: Item, SC: Truncate + PushRef<T>, TC: Column>(
     push_ref_case(firsts, indexes, 0, item)
 }
 
-/// Adds a row of the second variant, by reference, or leaves all three.
+/// Pushes a referenced row of the second variant. On an error, all three stay the same.
+///
+/// # Requires
+/// The column is well-formed, and `item` is valid.
 pub fn push_second_ref<T: Item, SC: Column, TC: Truncate + PushRef<T>>(
     _firsts: &SC,
     seconds: &mut TC,
@@ -82,7 +94,10 @@ pub fn push_second_ref<T: Item, SC: Column, TC: Truncate + PushRef<T>>(
     push_ref_case(seconds, indexes, 1, item)
 }
 
-/// Adds a row of the first variant, or leaves all three.
+/// Pushes a row of the first variant. On an error, all three stay the same.
+///
+/// # Requires
+/// The column is well-formed, and `item` is valid.
 pub fn push_first<T: Item, SC: Truncate + Push<T>, TC: Column>(
     firsts: &mut SC,
     _seconds: &TC,
@@ -97,7 +112,10 @@ pub fn push_first<T: Item, SC: Truncate + Push<T>, TC: Column>(
     push_case(firsts, indexes, 0, item)
 }
 
-/// Adds a row of the second variant, or leaves all three.
+/// Pushes a row of the second variant. On an error, all three stay the same.
+///
+/// # Requires
+/// The column is well-formed, and `item` is valid.
 pub fn push_second<T: Item, SC: Column, TC: Truncate + Push<T>>(
     _firsts: &SC,
     seconds: &mut TC,
@@ -112,7 +130,10 @@ pub fn push_second<T: Item, SC: Column, TC: Truncate + Push<T>>(
     push_case(seconds, indexes, 1, item)
 }
 
-/// Keeps the first `n` rows. Needs no memory.
+/// Keeps the first `n` rows. Allocates nothing.
+///
+/// # Requires
+/// The column is well-formed, and `n` is at most its length.
 pub fn truncate_dual<SC: Truncate, TC: Truncate>(
     firsts: &mut SC,
     seconds: &mut TC,
@@ -130,7 +151,10 @@ pub fn truncate_dual<SC: Truncate, TC: Truncate>(
     indexes.truncate(n);
 }
 
-/// Makes room; the rows stay.
+/// Reserves space. The rows stay the same.
+///
+/// # Requires
+/// The column is well-formed.
 pub fn reserve_dual<SC: Reserve, TC: Reserve>(
     firsts: &mut SC,
     seconds: &mut TC,

@@ -1,4 +1,4 @@
-//! Columns of sum types of one's own: the values of each variant in a column of their own, and which variant each row is of.
+//! Columns of your own sum types: a column for the values of each variant, and the variant of each row.
 #![tactic(auto)]
 
 pub mod bank;

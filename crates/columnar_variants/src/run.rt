@@ -1,4 +1,4 @@
-//! Rows of one variant that are pushed at once: for a container of one's own.
+//! Pushes of several rows of one variant at once, for your own containers.
 ghost use Rattle.std.specs.Prelude.{◌≡◌, ℕ, ◌+◌, ◌^◌, ◌<◌, ◌≤◌, ◌++◌, List, length, replicate, false, Some, IsOk, OnOk, OnErr, IfErr};
 ghost use Rattle.columnar_core.specs.Row.{Row};
 ghost use Rattle.columnar_core.specs.Format.{IsSound};
@@ -10,7 +10,7 @@ use columnar_core::fault::GrowError;
 use columnar_core::traits::Len;
 use columnar_sums::discriminant::Discriminant;
 
-// Of one variant, as all rows are, there are so many.
+// Sets the number of rows, all of which have one variant.
 fn set_rows(indexes: &mut Discriminant<Vec<u8>, Vec<u64>>, rows: u64)
     requires sound { IsSound discriminant_format (owned_forms indexes.old.variant.items indexes.old.offset.items) }
     requires some { 0 < length (variants_of (owned_forms indexes.old.variant.items indexes.old.offset.items)) }
@@ -22,7 +22,7 @@ fn set_rows(indexes: &mut Discriminant<Vec<u8>, Vec<u64>>, rows: u64)
     indexes.offset[1] = rows;
 }
 
-// Adds `count` rows of a variant, one by one, or none of them. The memory for all of them is asked for first.
+// Appends `count` rows of a variant one by one, or none of them. Allocates the memory for all of them first.
 fn push_each(
     indexes: &mut Discriminant<Vec<u8>, Vec<u64>>,
     variant: u8,
@@ -52,8 +52,11 @@ fn push_each(
     Ok(())
 }
 
-/// Adds `count` rows of a variant, of which there are `earlier`, or none. Where all rows are of that variant, that takes
-/// no memory.
+/// Appends `count` rows of a variant that has `earlier` rows, or none of them. Allocates nothing if all rows have that
+/// variant.
+///
+/// # Requires
+/// The variants are well-formed, and `earlier` rows have `variant`.
 pub fn push_variants(
     indexes: &mut Discriminant<Vec<u8>, Vec<u64>>,
     variant: u8,

@@ -1,5 +1,5 @@
-//! Columns of a sum type of any number of variants: the values of each variant in a column of their own, and which variant each row
-//! is of.
+//! Columns of a sum type of any number of variants: a column for the values of each variant, and the variant of each
+//! row.
 ghost use Rattle.columnar_core.specs.Format.{both};
 ghost use Rattle.columnar_sums.specs.Discriminants.{forms_content};
 ghost use Rattle.columnar_variants.specs.Variants.{variants_format};
@@ -15,7 +15,7 @@ use columnar_core::traits::{Column, Index, Len};
 use columnar_core::words::Words;
 use columnar_sums::discriminant::{Discriminant, Variants as VariantBytes};
 
-/// A column of a sum type. The columns of the values stand in the order of their variants, as nested tuples: a row of
+/// A column of a sum type. The columns of the values are nested tuples in the order of their variants: a row of
 /// `Variants<(A, (B, (C,)))>` reads as `Nth<A::Ref, Nth<B::Ref, Last<C::Ref>>>`.
 #[derive(Clone, Copy, Drop)]
 pub struct Variants<B, CVar = Vec<u8>, COff = Vec<u64>> {
@@ -25,7 +25,7 @@ pub struct Variants<B, CVar = Vec<u8>, COff = Vec<u64>> {
     pub indexes: Discriminant<CVar, COff>,
 }
 
-/// The slices of the columns, and then those of the variants; a row is the next value of its variant.
+/// The slices are those of the columns, then those of the variants. A row is the next value of its variant.
 impl<B: ColumnBank, CVar: VariantBytes, COff: Words> Column for Variants<B, CVar, COff> {
     ghost format = { variants_format B.bank };
 

@@ -1,4 +1,4 @@
--- How grave an event is, as a row: a number below 3.
+-- The severity of an event, as a row: a number below 3.
 use Rattle.std.specs.Prelude.{Bool, false, nat_lt}
 use Rattle.columnar.specs.Row.{Row, number}
 use Rattle.examples.specs.declared.level.Level.{Level}

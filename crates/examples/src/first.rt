@@ -5,13 +5,13 @@ use columnar::{Columnar, ContainerOf, Field, Index, Len, SetItem};
 use std::alloc::Global;
 use std::io::Write;
 
-/// When, who, and how long, where that is known.
+/// A time, a name, and a duration if known.
 pub type Record = (u64, String, Option<u32>);
 
 /// The columns of records.
 pub type Columns = ContainerOf<Record>;
 
-/// Two records.
+/// Returns two records.
 fn two(alloc: Global) -> anyhow::Result<Vec<Record>> {
     let mut records = Vec::new(alloc);
     records.push((12, String::from_str(alloc, "ann")?, Some(7)))?;
@@ -19,7 +19,7 @@ fn two(alloc: Global) -> anyhow::Result<Vec<Record>> {
     Ok(records)
 }
 
-/// Two records are written as a column, opened and read in place; then the time of the first is changed.
+/// Writes two records as a column, opens it and reads it in place; then changes the time of the first record.
 pub fn show<O: Write>(alloc: Global, out: &mut O) -> anyhow::Result<()> {
     let records = two(alloc)?;
     let columns = Record::column_of(alloc, records.as_slice())?;

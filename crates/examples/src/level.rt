@@ -1,22 +1,22 @@
-//! How grave an event is: a value type of one's own, each value kept as a number of 16 bits.
+//! Severity levels: your own value type, each value stored as a 16-bit number.
 ghost use Rattle.std.specs.Prelude.{◌≡◌, true};
 ghost use Rattle.columnar.specs.Row.{Row};
 
 use columnar::Item;
 use columnar::primitive::{Coded, Codes, Rule};
 
-/// How grave an event is.
+/// The severity of an event.
 #[derive(Clone, Copy, Debug, PartialEq, Eq)]
 pub enum Level {
-    /// It is told.
+    /// For information only.
     Note,
-    /// It should be looked at.
+    /// It needs attention.
     Warning,
-    /// Something was not done.
+    /// An operation failed.
     Failure,
 }
 
-/// A column of them.
+/// A column of levels.
 pub type Levels = Codes<Vec<u16>, Level>;
 
 impl Item for Level {

@@ -1,4 +1,4 @@
-//! A log of events: when each came, from whom where that is known, and its tags.
+//! A log of events: the time, the user if known, and the tags of each.
 ghost use Rattle.std.specs.Prelude.{IfErr, IfOk, ◌≡◌, length};
 ghost use Rattle.columnar.specs.Format.{IsSound};
 ghost use Rattle.columnar.specs.Accepted.{IsFirstFault};
@@ -11,13 +11,13 @@ use columnar::{Borrow, Column, Index, Len, Options, Push, PushRef, Vecs};
 use std::alloc::Global;
 use std::io::{self, Write};
 
-/// When, who, and which tags, each in a column of its own.
+/// The times, the users if known, and the tags, each in its own column.
 pub type Columns = (Vec<u64>, (Options<Vec<u64>>, Vecs<Vec<u32>>));
 
-/// One event, as it is kept elsewhere.
+/// One event, as it is stored elsewhere.
 pub type Event = (u64, (Option<u64>, Vec<u32>));
 
-/// Events in the order in which they came, in a column or in bytes that were accepted.
+/// Events in order of arrival, in a column or in accepted bytes.
 #[derive(Drop)]
 pub struct Log {
     stash: Stash<Columns, Vec<u8>>,
@@ -25,15 +25,17 @@ pub struct Log {
 }
 
 impl Log {
-    /// A log without events.
+    /// Creates a log without events.
     pub fn new(alloc: Global) -> Log {
         Log {
             stash: Stash::empty(alloc),
         }
     }
 
-    /// A log that was written. The bytes are tested, and not copied; the fault is the first rule that they break, at its
-    /// slice.
+    /// Opens a written log. Validates the bytes without copying them.
+    ///
+    /// # Errors
+    /// The first rule that the bytes break, and its slice.
     pub fn open(alloc: Global, bytes: Vec<u8>) -> Result<Log, StoreFault>
         ensures { IfErr result (IsFirstFault ⟦<Columns as Column>⟧.format bytes.items) }
     {
@@ -41,24 +43,24 @@ impl Log {
         Ok(Log { stash })
     }
 
-    /// The bytes of the log; an error where memory is refused.
+    /// Returns the bytes of the log; fails if an allocation fails.
     pub fn written(&self, alloc: Global) -> anyhow::Result<Vec<u8>> {
         let mut bytes = Vec::new(alloc);
         self.stash.write_bytes(&mut bytes)?;
         Ok(bytes)
     }
 
-    /// Adds an event; a refusal leaves the log.
+    /// Appends an event. On an error, the log stays the same.
     pub fn record(&mut self, time: u64, user: Option<u64>, tags: &[u32]) -> Result<(), GrowError> {
         self.stash.push((time, (user, tags)))
     }
 
-    /// Adds an event that is kept elsewhere; a refusal leaves the log.
+    /// Appends an event that is stored elsewhere. On an error, the log stays the same.
     pub fn record_event(&mut self, event: &Event) -> Result<(), GrowError> {
         self.stash.push_ref(event)
     }
 
-    /// Adds the events `from..to` of another log, or answers None where it has not as many.
+    /// Appends the events `from..to` of another log; returns `None` if it has no such events.
     pub fn copy(&mut self, other: &Log, from: usize, to: usize) -> Option<Result<(), GrowError>> {
         if from > to || to > other.stash.len() {
             return None;
@@ -66,7 +68,7 @@ impl Log {
         Some(self.stash.extend_from_self(other.stash.borrow(), from..to))
     }
 
-    /// Keeps the first `n` events, or answers None where there are not as many.
+    /// Keeps the first `n` events; returns `None` if there are fewer.
     pub fn cut(&mut self, n: usize) -> Option<Result<(), GrowError>> {
         if n > self.stash.len() {
             return None;
@@ -74,7 +76,7 @@ impl Log {
         Some(self.stash.truncate(n))
     }
 
-    /// Runs commands, which copy from another log, with a reply for each.
+    /// Runs commands, which copy from another log, and returns a reply for each.
     pub fn run(
         self,
         alloc: Global,
@@ -85,14 +87,14 @@ impl Log {
         (Log { stash }, replies)
     }
 
-    /// The number of events whose user is known, by rank.
+    /// Counts the events whose user is known, by rank.
     pub fn known_users(&self) -> usize {
         let (_, rest) = parts(self.stash.borrow());
         let (users, _) = parts(rest);
         users.rank(users.len())
     }
 
-    /// Prints each event on a line: the time, the user or a dash, and the tags.
+    /// Prints a line for each event: the time, the user or a dash, and the tags.
     pub fn print<O: Write>(&self, out: &mut O) -> io::Result<()> {
         for (time, (user, tags)) in self.stash.borrow().into_index_iter() {
             match user {

@@ -1,22 +1,28 @@
-//! Examples of programs that use columns: a first column, a report, a log of events, spans, and levels.
+//! Examples of programs that use columns: a first column, updates, readings, a report, a log of events, spans, levels, and
+//! teams.
 #![tactic(auto)]
 
 mod first;
 mod level;
 mod log;
+mod readings;
 mod report;
 mod spans;
+mod teams;
+mod updates;
 
 use columnar::bytes::stash::{Command, Stash};
-use columnar::fault::StoreFault;
+use columnar::names::FaultNames;
 use columnar::{Borrow, Index, Push, SliceNames, Storage};
 use level::{Level, Levels};
 use log::{Columns, Log};
+use readings::Readings;
 use report::Report;
 use spans::{Span, Spans};
 use std::alloc::Global;
-use std::io::{self, Write};
+use std::io::Write;
 use std::process::ExitCode;
+use updates::Updates;
 
 fn main(rt: HostRuntime) -> ExitCode {
     let mut out = rt.stdout();
@@ -28,13 +34,37 @@ fn main(rt: HostRuntime) -> ExitCode {
 
 fn shown<O: Write>(alloc: Global, out: &mut O) -> anyhow::Result<()> {
     first::show(alloc, out)?;
+    changes(alloc, out)?;
+    sorted_stores(alloc, out)?;
     events(alloc, out)?;
     levels(alloc, out)?;
     times(alloc, out)?;
-    pages(alloc, out)
+    pages(alloc, out)?;
+    teams::show(alloc, out)
 }
 
-// A column of values of one's own type.
+// Sorts and consolidates updates.
+fn changes<O: Write>(alloc: Global, out: &mut O) -> anyhow::Result<()> {
+    let mut updates = Updates::new(alloc);
+    updates.add(7, "b".as_bytes(), 1)?;
+    updates.add(3, "a".as_bytes(), 2)?;
+    updates.add(7, "b".as_bytes(), 4)?;
+    updates.add(3, "a".as_bytes(), -2)?;
+    updates.add(5, "c".as_bytes(), 1)?;
+    updates.consolidated(alloc)?.print(out)
+}
+
+// Sorts two stores of readings, merges them, and searches the result.
+fn sorted_stores<O: Write>(alloc: Global, out: &mut O) -> anyhow::Result<()> {
+    let one = Readings::stored(alloc, &[(5, 1), (3, -2), (9, 4)])?.sorted(alloc)?;
+    let other = Readings::stored(alloc, &[(4, 7), (3, 8)])?.sorted(alloc)?;
+    let all = one.merged(alloc, &other)?;
+    all.print(out)?;
+    writeln!(out, "before 5: {}", all.before(5))?;
+    Ok(())
+}
+
+// Shows a column of values of your own type.
 fn levels<O: Write>(alloc: Global, out: &mut O) -> anyhow::Result<()> {
     let mut column = Levels::empty(alloc);
     column.push(Level::Warning)?;
@@ -45,7 +75,7 @@ fn levels<O: Write>(alloc: Global, out: &mut O) -> anyhow::Result<()> {
     Ok(())
 }
 
-// A container of one's own over two parts.
+// Shows your own container of two parts.
 fn times<O: Write>(alloc: Global, out: &mut O) -> anyhow::Result<()> {
     let mut kept: Stash<Spans<Vec<u64>, Vec<u32>>, Vec<u8>> = Stash::empty(alloc);
     kept.push(Span {
@@ -63,7 +93,7 @@ fn times<O: Write>(alloc: Global, out: &mut O) -> anyhow::Result<()> {
     Ok(())
 }
 
-// A report of two pages: its counters are raised, it is written and opened, and raised once more.
+// Increments the counters of a report of two pages, writes and opens it, and increments one again.
 fn pages<O: Write>(alloc: Global, out: &mut O) -> anyhow::Result<()> {
     let mut report = Report::new(alloc);
     report.add(80)?;
@@ -78,7 +108,7 @@ fn pages<O: Write>(alloc: Global, out: &mut O) -> anyhow::Result<()> {
     Ok(())
 }
 
-// Three events are recorded, written and opened; what was opened is then changed.
+// Records three events, writes and opens them, and then changes the opened log.
 fn events<O: Write>(alloc: Global, out: &mut O) -> anyhow::Result<()> {
     let mut log = Log::new(alloc);
     log.record(12, Some(7), &[1, 2])?;
@@ -91,7 +121,7 @@ fn events<O: Write>(alloc: Global, out: &mut O) -> anyhow::Result<()> {
     changed(alloc, &log, out)
 }
 
-// The bytes of the log with another byte at this place.
+// Returns the bytes of the log with another byte at this position.
 fn spoilt(alloc: Global, log: &Log, at: usize, byte: u8) -> anyhow::Result<Vec<u8>> {
     let mut bytes = log.written(alloc)?;
     if let Some(there) = bytes.get_mut(at) {
@@ -100,31 +130,20 @@ fn spoilt(alloc: Global, log: &Log, at: usize, byte: u8) -> anyhow::Result<Vec<u
     Ok(bytes)
 }
 
-// Prints why bytes are refused, with the name of the slice that breaks a rule; a rule of the whole store is of no slice.
-fn told<O: Write>(fault: StoreFault, names: &[String], out: &mut O) -> io::Result<()> {
-    if fault.number() <= 5 {
-        return writeln!(out, "{fault}");
-    }
-    match names.get(fault.slice()) {
-        Some(name) => writeln!(out, "{fault} ({name})"),
-        None => writeln!(out, "{fault}"),
-    }
-}
-
-// The bytes of the log, spoilt in three ways, and why each is refused.
+// Corrupts the bytes of the log in three ways, and prints why each is rejected.
 fn refused<O: Write>(alloc: Global, log: &Log, out: &mut O) -> anyhow::Result<()> {
     let names = Columns::slice_names(alloc)?;
     for (at, byte) in [(0usize, 1u8), (8, 0), (88, 9)] {
         write!(out, "byte {at} is {byte}: ")?;
         match Log::open(alloc, spoilt(alloc, log, at, byte)?) {
             Ok(_) => writeln!(out, "accepted")?,
-            Err(fault) => told(fault, names.as_slice(), out)?,
+            Err(fault) => writeln!(out, "{}", fault.named(names.as_slice()))?,
         }
     }
     Ok(())
 }
 
-// The log, opened from its bytes: a range of it is copied, it is cut, and commands are run.
+// Opens the log from its bytes, copies a range of it, truncates it, and runs commands.
 fn changed<O: Write>(alloc: Global, log: &Log, out: &mut O) -> anyhow::Result<()> {
     let mut opened = Log::open(alloc, log.written(alloc)?)?;
     if let Some(copied) = opened.copy(log, 1, 3) {

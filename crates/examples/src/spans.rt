@@ -1,6 +1,6 @@
-//! A container of one's own over two parts: spans, each a start and a length, in a column of starts and a column of
-//! lengths. It is a struct around the pair of its parts, which is proved; so each impl is the pair's, and no proof file
-//! stands here. It takes spans, gives spans, and has the bytes of a pair.
+//! Your own container of two parts: spans, each a start and a length, in a column of starts and a column of lengths. It
+//! is a struct around the pair of its parts, which is already proved, so each impl is the pair's and needs no proof
+//! file. Its items are spans, and its bytes are those of the pair.
 ghost use Rattle.columnar.specs.Row.{tuple};
 ghost use Rattle.columnar.specs.Format.{both, slices_of};
 ghost use Rattle.columnar.specs.Tuples.{pair_format};
@@ -18,23 +18,23 @@ use columnar::{
 use std::alloc::Global;
 use std::ops::Range;
 
-/// From a start on, for a length.
+/// A start and a length.
 #[derive(Clone, Copy, Debug, PartialEq, Eq)]
 pub struct Span<S, L> {
-    /// Where it begins.
+    /// The start.
     pub start: S,
-    /// How long it is.
+    /// The length.
     pub length: L,
 }
 
-/// As a row, the tuple of its start and its length.
+/// As a row, it is the tuple of its start and its length.
 impl<S: Item, L: Item> Item for Span<S, L> {
     ghost meaning = { λ s. tuple (S.meaning s.start) (L.meaning s.length) };
 
     ghost valid = { λ s. (S.valid s.start) × (L.valid s.length) };
 }
 
-/// A column of spans: an owned one, or a view.
+/// A column of spans: owned, or a view.
 #[derive(Clone, Copy, PartialEq, Drop)]
 pub struct Spans<SC, LC> {
     // The starts and the lengths
@@ -68,7 +68,7 @@ impl<SC: Clear, LC: Clear> Clear for Spans<SC, LC> {
     }
 }
 
-/// Takes a span, or leaves both parts as they were.
+/// Appends a span. On an error, both parts stay the same.
 impl<S: Item, L: Item + Drop, SC: Truncate + Push<S>, LC: Push<L>> Push<Span<S, L>>
     for Spans<SC, LC> {
     fn push(&mut self, item: Span<S, L>) -> Result<(), GrowError> {

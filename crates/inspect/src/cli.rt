@@ -1,4 +1,4 @@
-//! What the program's words ask for.
+//! The command line of the program.
 use crate::table::{framed, write_table};
 use columnar::fault::StoreFault;
 use std::fs;
@@ -7,8 +7,8 @@ use std::rt::Files;
 
 const USAGE: &str = "usage: inspect PATH";
 
-/// Shows the table of the file that the one word names, and answers the exit status: 0 where it frames slices, 1 where it
-/// does not or can't be read or shown, 2 where the words name no file.
+/// Shows the table of the file that the argument names. Returns the exit status: 0 if it frames slices; 1 if it does
+/// not, or cannot be read or shown; 2 if the arguments name no file.
 pub fn run_words<R: Files + AllocGlobal, O: Write, E: Write>(
     rt: &R,
     words: &[String],
@@ -25,18 +25,18 @@ pub fn run_words<R: Files + AllocGlobal, O: Write, E: Write>(
     }
 }
 
-/// Says that memory was refused; the status is 1.
+/// Writes that an allocation failed, and returns the status 1.
 pub fn no_memory<E: Write>(err: &mut E) -> u8 {
     say(err, "failed: no memory", 1)
 }
 
-// A standard error that fails changes no status.
+// Writes to standard error and returns the status; a write error does not change it.
 fn say<E: Write>(err: &mut E, text: &str, status: u8) -> u8 {
     let _written = writeln!(err, "{text}");
     status
 }
 
-// The table, or the first broken rule of the structure
+// Shows the table, or the first broken rule of the structure.
 fn shown<O: Write, E: Write>(bytes: &[u8], out: &mut O, err: &mut E) -> u8 {
     let (done, status) = match framed(bytes) {
         Ok(count) => (write_table(out, bytes, count), 0),

@@ -1,4 +1,4 @@
-//! Shows the table of a store of bytes, whatever columns it is of: `inspect PATH`.
+//! Shows the table of a store of any columns: `inspect PATH`.
 #![tactic(auto)]
 
 mod cli;

@@ -1,4 +1,4 @@
-//! The table of a store, as people read it.
+//! The table of a store, in readable form.
 ghost use Rattle.std.specs.Prelude.{◌≡◌, ◌+◌, ◌*◌, ◌≤◌, ◌↔◌, length, IsOk, IfOk, IfErr};
 ghost use Rattle.columnar.specs.Frame.{IsStore, framed_slices, slice_count};
 ghost use Rattle.columnar_bytes.specs.StructureFaults.{IsFirstBroken};
@@ -8,7 +8,10 @@ use columnar::fault::StoreFault;
 use columnar_core::store::word_in_bytes;
 use std::io::{self, Write};
 
-/// How many slices the bytes frame; else the first rule of the structure that they break.
+/// Returns the number of slices that the bytes frame.
+///
+/// # Errors
+/// The first rule of the structure that they break.
 pub fn framed(bytes: &[u8]) -> Result<usize, StoreFault>
     ensures exact { IsOk result ↔ IsStore bytes.now }
     ensures count { IfOk result (λ n. length (framed_slices bytes.now) ≡ n) }
@@ -26,8 +29,10 @@ pub fn framed(bytes: &[u8]) -> Result<usize, StoreFault>
     Ok(count)
 }
 
-/// Writes a line for each of the `count` slices: where it begins and ends, its bytes, and the padding after it. Asks that
-/// the table has as many entries.
+/// Writes a line for each of the `count` slices: its start and end, its number of bytes, and the padding after it.
+///
+/// # Requires
+/// The table has `count` entries.
 pub fn write_table<W: Write>(out: &mut W, bytes: &[u8], count: usize) -> io::Result<()>
     requires { 8 * count + 8 ≤ length bytes.now }
 {
@@ -52,12 +57,12 @@ pub fn write_table<W: Write>(out: &mut W, bytes: &[u8], count: usize) -> io::Res
     )
 }
 
-// The next multiple of eight, as far as there is one
+// Returns the next multiple of eight, if it fits in a number.
 fn padded(end: usize) -> usize {
     end.saturating_add(7) / 8 * 8
 }
 
-// How many bytes of padding there are, where there are any, and whether these are zero
+// Writes the number of bytes of padding, if there are any, and whether they are zero.
 fn write_padding<W: Write>(out: &mut W, bytes: &[u8], end: usize, next: usize) -> io::Result<()> {
     let count = next.saturating_sub(end);
     if count == 0 {

@@ -1,4 +1,4 @@
-// Boxed rows, shared columns, and the bounds of columns that are read and pushed as values of one type.
+// Boxed rows, shared columns, and bounds of columns that are read and pushed as values of one type.
 ghost use Rattle.columnar_base.specs.Format.{IsSound};
 
 use columnar_base::fault::GrowError;
@@ -19,12 +19,12 @@ type Boxes = Boxed<Vec<u64>>;
 
 pub(crate) type Numbers<'a> = View<'a, u64>;
 
-// The store of the number 7 alone
+// The store of the single number 7.
 pub(crate) static SEVEN: [u8; 24] = [
     16, 0, 0, 0, 0, 0, 0, 0, 24, 0, 0, 0, 0, 0, 0, 0, 7, 0, 0, 0, 0, 0, 0, 0,
 ];
 
-// The first row as a T, where there is one
+// Returns the first row as a T, if there is one.
 fn first_as<'a, T: Item, C: BorrowIndexAs<'a, T>>(column: &'a C) -> Option<T>
     requires { IsSound C.format (C.content column.now) }
 {
@@ -36,7 +36,7 @@ fn first_as<'a, T: Item, C: BorrowIndexAs<'a, T>>(column: &'a C) -> Option<T>
     }
 }
 
-// Adds an item
+// Appends an item.
 fn add<'a, T: Item, C: PushIndexAs<'a, T>>(column: &mut C, item: &T) -> Result<(), GrowError>
     requires sound { IsSound C.format (C.content column.old) }
     requires valid { T.valid item.now }

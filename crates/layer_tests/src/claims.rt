@@ -1,11 +1,11 @@
-//! The calls that the macros of `test_support` claim by. They stand in each crate of tests, since no function of a library
-//! may end the process, and no macro may write a contract.
+//! The functions behind the macros of `test_support`. Each test crate has its own copy, because a library function may
+//! not end the process, and a macro may not write a contract.
 ghost use Rattle.std.specs.Prelude.{IsTrue};
 
 use std::fmt::Debug;
 use std::process::Abort;
 
-/// Ends the test where it is not so, with the text of the claim.
+/// Ends the test with the text of the claim if the claim is false.
 pub fn claimed<R: Abort>(rt: &R, is_so: bool, claim: &str)
     ensures { IsTrue is_so }
 {
@@ -14,7 +14,7 @@ pub fn claimed<R: Abort>(rt: &R, is_so: bool, claim: &str)
     }
 }
 
-/// Ends the test where the two are not equal, and prints both.
+/// Ends the test and prints both values if they differ.
 pub fn claimed_equal<R: Abort, T: PartialEq + Debug + Drop>(rt: &R, left: T, right: T) {
     assert_eq!(*rt; left, right);
 }

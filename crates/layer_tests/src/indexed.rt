@@ -21,14 +21,14 @@ use test_support::stores::{bytes_of, front};
 use test_support::writers::Slow;
 use test_support::{equal, holds};
 
-// A column of bytes beside one of words: two slices
+// A column of bytes and one of words: two slices.
 #[derive(Clone, Copy)]
 struct BytesAndWords<'a> {
     bytes: &'a [u8],
     words: &'a [u64],
 }
 
-// As a column it is what a pair of a column of bytes and one of words is.
+// As a column, it is the pair of a column of bytes and one of words.
 type Both = (Vec<u8>, Vec<u64>);
 
 impl<'v> Column for BytesAndWords<'v> {
@@ -101,7 +101,7 @@ impl<'v> AsBytes<'v> for BytesAndWords<'v> {
     }
 }
 
-// What `write` sends, in a vector
+// Returns what `write` writes.
 fn written<'a, S: AsBytes<'a>>(alloc: Global, item: &S) -> Result<Vec<u8>, WriteFault<Error>>
     requires { IsTrue (representable S.format) }
 {
@@ -110,7 +110,7 @@ fn written<'a, S: AsBytes<'a>>(alloc: Global, item: &S) -> Result<Vec<u8>, Write
     Ok(bytes)
 }
 
-// The bytes of the words that `encode` appends
+// Returns the bytes of the words that `encode` appends.
 fn encoded<'a, S: AsBytes<'a>>(alloc: Global, item: &S) -> Result<Vec<u8>, Error>
     requires { IsTrue (representable S.format) }
 {
@@ -122,7 +122,7 @@ fn encoded<'a, S: AsBytes<'a>>(alloc: Global, item: &S) -> Result<Vec<u8>, Error
     bytes_of(alloc, &words)
 }
 
-// The test of words as a store of so many slices
+// Tests words as a store of `expected` slices.
 fn tested(alloc: Global, words: &[u64], expected: usize) -> Result<Result<(), StoreFault>, Error> {
     let bytes = bytes_of(alloc, words)?;
     Ok(validate_structure(&bytes, expected))
@@ -264,7 +264,7 @@ fn gives_the_slices_with_their_alignment(rt: HostRuntime) -> Result<(), Fail> {
     Ok(())
 }
 
-// How many bytes a column's slices have in all, as far as that fits
+// Returns the total number of bytes of a column's slices, saturating.
 fn byte_total<'a, S: AsBytes<'a>>(item: &S) -> usize
     requires { IsTrue (representable S.format) }
 {
@@ -275,7 +275,7 @@ fn byte_total<'a, S: AsBytes<'a>>(item: &S) -> usize
     total
 }
 
-// How many slices a column has, by going over them
+// Counts the slices of a column by iterating over them.
 fn counted<'a, S: AsBytes<'a>>(item: &S) -> usize
     requires { IsTrue (representable S.format) }
     ensures { result ≡ S.format.count }

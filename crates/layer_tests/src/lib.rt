@@ -1,5 +1,5 @@
-//! Tests of lists, strings, rows that may be absent, bounds in unary, trees and framing, by their public calls alone. They stand here and
-//! not in the layers' own crates, since a crate with tests is proved twice: once without them, and once with them.
+//! Tests of lists, strings, options, bounds in unary, trees and framing, by their public calls. They are not in the
+//! layers' own crates, since a crate with tests is proved twice: without them and with them.
 #![tactic(auto)]
 
 #[cfg(test)]
@@ -7,11 +7,17 @@ mod boxed;
 #[cfg(test)]
 mod claims;
 #[cfg(test)]
+mod each;
+#[cfg(test)]
 mod indexed;
 #[cfg(test)]
 mod lists;
 #[cfg(test)]
+mod many;
+#[cfg(test)]
 mod options;
+#[cfg(test)]
+mod parts;
 #[cfg(test)]
 mod plain;
 #[cfg(test)]

@@ -26,10 +26,10 @@ type ListsView<'a> = Vecs<View<'a, u64>, View<'a, u64>>;
 
 type Nested = Vecs<Lists, Vec<u64>>;
 
-// The numbers that the lists of `Held` are ranges of
+// The numbers of which the lists of `Held` are ranges.
 static SIX: [u64; 6] = [1, 2, 3, 4, 5, 6];
 
-// Lists of numbers, for the calls that more than one test makes
+// Lists of numbers, for the calls of several tests.
 #[derive(Drop)]
 struct Held {
     lists: Lists,
@@ -37,7 +37,7 @@ struct Held {
 }
 
 impl Held {
-    // The lists of these ranges of the six numbers
+    // Creates the lists of these ranges of the six numbers.
     fn of(alloc: Global, ranges: &[(usize, usize)]) -> Result<Held, Fail> {
         let lists = ranged(alloc, View::from_slice(SIX.as_slice()), ranges)?;
         Ok(Held { lists })
@@ -47,7 +47,7 @@ impl Held {
         count(&self.lists)
     }
 
-    // The length of list `row`, and its item at `index`
+    // Returns the length of list `row`, and its item `index`.
     fn length_and_item(&self, row: usize, index: usize) -> Option<(usize, Option<u64>)> {
         length_and_item(&self.lists.borrow(), row, index)
     }
@@ -56,7 +56,7 @@ impl Held {
         self.lists.clear();
     }
 
-    // A column with room for two views of another, a range of the six numbers, and two lists of the other
+    // Creates a column with space for two views of another, a range of the six numbers, and two lists of the other.
     fn roomy(alloc: Global, source: &Held) -> Result<Held, Fail> {
         let numbers = View::from_slice(SIX.as_slice());
         let views = [source.lists.borrow(), source.lists.borrow()];
@@ -64,7 +64,7 @@ impl Held {
         Ok(Held { lists })
     }
 
-    // Copies these rows of another column, out of a view that is shortened
+    // Copies these rows of another column from a view with a shorter lifetime.
     fn copies_shorter(&mut self, source: &Held, start: usize, end: usize) -> bool {
         copied(
             &mut self.lists,
@@ -78,13 +78,13 @@ impl Held {
         cut(&mut self.lists, n);
     }
 
-    // Are these its bounds and its values?
+    // Tests whether these are its bounds and its values.
     fn keeps(&self, bounds: &[u64], values: &[u64]) -> bool {
         keeps(&self.lists, bounds, values)
     }
 }
 
-// A column of these ranges of a view's rows, each as one row
+// Creates a column of these ranges of a view's rows, each as one row.
 fn ranged<V: Len + Copy, C: Storage + Push<Slice<V>>>(
     alloc: Global,
     view: V,
@@ -100,12 +100,12 @@ fn ranged<V: Len + Copy, C: Storage + Push<Slice<V>>>(
     Ok(column)
 }
 
-// Are these the bounds and the values of lists?
+// Tests whether these are the bounds and the values of lists.
 fn keeps(lists: &Lists, bounds: &[u64], values: &[u64]) -> bool {
     lists.bounds.as_slice() == bounds && lists.values.as_slice() == values
 }
 
-// The length of list `row` of a view, and its item at `index`
+// Returns the length of list `row` of a view, and its item `index`.
 fn length_and_item<W: Index + Copy, V: Index<Ref = Slice<W>> + Len>(
     view: &V,
     row: usize,
@@ -130,7 +130,7 @@ fn lists_of_words(rt: HostRuntime) -> Result<(), Fail> {
     Ok(())
 }
 
-// Pushes a list behind a reference, another by reference, and one more; false where one of them is refused
+// Pushes a reference to a list, a list by reference, and one by value; returns false if a push fails.
 fn takes_three<'x, T: Item + Drop, C: Push<&'x T> + PushRef<T> + Push<T>>(
     column: &mut C,
     lent: &'x T,
@@ -146,7 +146,7 @@ fn takes_three<'x, T: Item + Drop, C: Push<&'x T> + PushRef<T> + Push<T>>(
     takes(column, lent) && takes_ref(column, read) && takes(column, given)
 }
 
-// Pushes lists from slices, vectors and a range of a view; which of them are taken?
+// Pushes lists from slices, vectors and a range of a view; returns which succeed.
 fn takes_each<'v, TC: ExtendFrom<View<'v, u64>> + PushRef<u64>, BC: Offsets + PushAfter>(
     lists: &mut Vecs<TC, BC>,
     items: &[u64],
@@ -217,7 +217,7 @@ fn lists_are_pushed_from_small_vectors(rt: HostRuntime) -> Result<(), Fail> {
     Ok(())
 }
 
-// Are these the bounds, and the bounds and the values of the lists in them?
+// Tests whether these are the bounds, and the bounds and values of the inner lists.
 fn keeps_lists(nested: &Nested, bounds: &[u64], inner: &[u64], values: &[u64]) -> bool {
     nested.bounds.as_slice() == bounds && keeps(&nested.values, inner, values)
 }
@@ -241,9 +241,9 @@ fn lists_of_lists_are_pushed_from_slices(rt: HostRuntime) -> Result<(), Fail> {
     Ok(())
 }
 
-// A column with room for views, made twice, to which the range 4..6 of `numbers` is pushed; then come rows 1 and 2 of
-// `source`
-fn roomy<V: Len + Copy, W: Len + Copy, C: ExtendFrom<W> + Push<Slice<V>>>(
+// Creates a column with space for views, twice; pushes the range 4..6 of `numbers`, then copies rows 1 and 2 of
+// `source`.
+fn roomy<V: Len + Copy, W: Len + Copy, C: Storage + ExtendFrom<W> + Push<Slice<V>>>(
     alloc: Global,
     numbers: V,
     source: W,
@@ -274,7 +274,7 @@ fn ranges_of_lists(rt: HostRuntime) -> Result<(), Fail> {
     Ok(())
 }
 
-// Are these the sizes of a type's elements, one for each of its slices?
+// Tests whether these are the element sizes of a type, one for each slice.
 fn sizes_are<C: Stored>(alloc: Global, wanted: &[usize]) -> Result<bool, Fail>
     requires { IsTrue (representable C.format) }
 {
@@ -303,8 +303,8 @@ fn slices_of_lists(rt: HostRuntime) -> Result<(), Fail> {
     Ok(())
 }
 
-// A column of rows 0 and 1 of a view, twice
-fn twice<V: Len + Copy, C: ExtendFrom<V>>(alloc: Global, view: V) -> Result<C, Fail>
+// Creates a column of rows 0 and 1 of a view, twice.
+fn twice<V: Len + Copy, C: Storage + ExtendFrom<V>>(alloc: Global, view: V) -> Result<C, Fail>
     requires { IsSound V.format (V.content view) }
     ensures { IfOk result (λ c. IsSound C.format (C.content c)) }
 {
@@ -333,7 +333,7 @@ fn lists_of_lists(rt: HostRuntime) -> Result<(), Fail> {
     Ok(())
 }
 
-// The rows of a view, as they are printed.
+// Prints the rows of a view.
 fn printed<V: Len + Index<Ref: Debug> + Copy>(alloc: Global, view: V) -> Result<String, AllocError>
     requires { IsSound V.format (V.content view) }
 {

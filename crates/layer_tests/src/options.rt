@@ -1,4 +1,4 @@
-//! Rows that may be absent, by worked rows.
+//! Options, by worked rows.
 ghost use Rattle.std.specs.Prelude.{IfOk};
 ghost use Rattle.columnar_core.specs.Format.{IsSound};
 
@@ -19,7 +19,7 @@ type Held = Options<Vec<u64>, Vec<u64>, Vec<u64>, [u64; 2]>;
 
 type Viewed<'a> = Options<View<'a, u64>, View<'a, u64>, View<'a, u64>, View<'a, u64>>;
 
-// Numbers that may be absent, for the calls that more than one test makes
+// Optional numbers, for the calls of several tests.
 #[derive(Drop)]
 struct Numbers {
     column: Held,
@@ -27,35 +27,35 @@ struct Numbers {
 }
 
 impl Numbers {
-    // A column of these rows
+    // Creates a column of these rows.
     fn of(alloc: Global, rows: &[Option<u64>]) -> Result<Numbers, Fail> {
         Ok(Numbers {
             column: column_of(alloc, rows)?,
         })
     }
 
-    // The rows 1, none, 3, 4, none
+    // Creates the rows 1, none, 3, 4, none.
     fn five(alloc: Global) -> Result<Numbers, Fail> {
         Numbers::of(alloc, [Some(1), None, Some(3), Some(4), None].as_slice())
     }
 
-    // Copies these rows of another column after its own
+    // Copies these rows of another column.
     fn copies(&mut self, source: &Numbers, start: usize, end: usize) -> bool {
         copied(&mut self.column, source.column.borrow(), start, end)
     }
 
-    // Has it these rows, and no other?
+    // Tests whether it has exactly these rows.
     fn reads(&self, rows: &[Option<u64>]) -> bool {
         reads(&self.column, rows)
     }
 
-    // Are these the values that are not absent?
+    // Tests whether these are the values.
     fn keeps(&self, values: &[u64]) -> bool {
         self.column.somes.as_slice() == values
     }
 }
 
-// A column of these rows
+// Creates a column of these rows.
 fn column_of<C: Storage + Push<Option<u64>>>(alloc: Global, rows: &[Option<u64>]) -> Result<C, Fail>
     ensures { IfOk result (λ c. IsSound C.format (C.content c)) }
 {
@@ -66,7 +66,7 @@ fn column_of<C: Storage + Push<Option<u64>>>(alloc: Global, rows: &[Option<u64>]
     Ok(column)
 }
 
-// Pushes an item, another, one by reference and one behind a reference; false where one of them is refused
+// Pushes two items by value, one by reference and a reference to one; returns false if a push fails.
 fn takes_four<'x, T: Item + Copy, C: Push<T> + PushRef<T> + Push<&'x T>>(
     column: &mut C,
     one: T,

@@ -1,4 +1,4 @@
-//! Counting, finding and cursors, compared with plain scans over random bits.
+//! Rank, select and cursors, compared with plain scans of random bits.
 ghost use Rattle.std.specs.Prelude.{◌≡◌, IfOk};
 ghost use Rattle.columnar_core.specs.Format.{IsSound};
 ghost use Rattle.columnar_sums.specs.RankColumns.{ranks_format, owned_ranks};
@@ -13,7 +13,7 @@ use test_support::holds;
 
 type Held = RankSelect<Vec<u64>, Vec<u64>, [u64; 2]>;
 
-// the next number of a sequence
+// Returns the next number of a sequence.
 fn next(seed: &mut u64) -> u64 {
     let mut x = *seed;
     x ^= x << 13;
@@ -23,7 +23,7 @@ fn next(seed: &mut u64) -> u64 {
     x
 }
 
-// how many of the first `index` are set, by a scan
+// Counts the set bits among the first `index` by a scan.
 fn plain_rank(bits: &[bool], index: usize) -> usize {
     let mut ones = 0usize;
     for bit in bits.iter().take(index) {
@@ -34,7 +34,7 @@ fn plain_rank(bits: &[bool], index: usize) -> usize {
     ones
 }
 
-// where the set bit stands before which `rank` others are set, by a scan
+// Finds the set bit with `rank` set bits before it, by a scan.
 fn plain_select(bits: &[bool], rank: u64) -> Option<usize> {
     let mut ones = 0u64;
     for at in 0..bits.len() {
@@ -48,7 +48,7 @@ fn plain_select(bits: &[bool], rank: u64) -> Option<usize> {
     None
 }
 
-// the rank, where it may be asked, which in turn is the same
+// Returns the rank if `index` is in range; `rank_in_turn` gives the same.
 fn rank_of(column: &Held, index: usize) -> Result<usize, Fail>
     requires { IsSound ranks_format (owned_ranks column.now) }
 {
@@ -62,7 +62,7 @@ fn rank_of(column: &Held, index: usize) -> Result<usize, Fail>
     Ok(rank)
 }
 
-// Are ranks, places and a cursor as a scan has them?
+// Tests whether ranks, selects and a cursor agree with a scan.
 fn agrees(column: &Held, bits: &[bool], seed: &mut u64) -> Result<bool, Fail>
     requires { IsSound ranks_format (owned_ranks column.now) }
 {
@@ -84,7 +84,7 @@ fn agrees(column: &Held, bits: &[bool], seed: &mut u64) -> Result<bool, Fail>
     Ok(same && cursor.next_one().is_none() && cursor.rank() == total as u64)
 }
 
-// so many random bits, about one in `sparse` of them set
+// Returns `n` random bits, about one in `sparse` of them set.
 fn random_bits(alloc: Global, n: usize, sparse: u64, seed: &mut u64) -> Result<Vec<bool>, Fail> {
     let mut bits = Vec::new(alloc);
     for _ in 0..n {
@@ -93,7 +93,7 @@ fn random_bits(alloc: Global, n: usize, sparse: u64, seed: &mut u64) -> Result<V
     Ok(bits)
 }
 
-// a column of these bits
+// Creates a column of these bits.
 fn column_of<C: Storage + Push<bool>>(alloc: Global, bits: &[bool]) -> Result<C, Fail>
     ensures { IfOk result (λ c. IsSound C.format (C.content c)) }
 {
@@ -104,7 +104,7 @@ fn column_of<C: Storage + Push<bool>>(alloc: Global, bits: &[bool]) -> Result<C,
     Ok(column)
 }
 
-// a copy of its rows from `start` on
+// Copies its rows from `start` on.
 fn end_of(alloc: Global, column: &Held, start: usize) -> Result<Held, Fail>
     requires { IsSound ranks_format (owned_ranks column.now) }
     ensures { IfOk result (λ c. IsSound ranks_format (owned_ranks c)) }
@@ -116,7 +116,7 @@ fn end_of(alloc: Global, column: &Held, start: usize) -> Result<Held, Fail>
     Ok(copy)
 }
 
-// Do so many random bits agree, and a copy of their end?
+// Tests whether `n` random bits agree with a scan, and a copy of their end.
 fn agrees_at_random(alloc: Global, n: usize, sparse: u64, seed: &mut u64) -> Result<bool, Fail> {
     let bits = random_bits(alloc, n, sparse, seed)?;
     let column = column_of::<Held>(alloc, bits.as_slice())?;

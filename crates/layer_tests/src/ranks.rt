@@ -1,4 +1,4 @@
-//! Counting, finding and cursors, by worked rows.
+//! Rank, select and cursors, by worked rows.
 ghost use Rattle.std.specs.Prelude.{◌≡◌, ◌≤◌, length, IfOk, IfSome};
 ghost use Rattle.columnar_core.specs.Format.{IsSound};
 ghost use Rattle.columnar_sums.specs.RankColumns.{ranks_format, owned_ranks, ranked_bits};
@@ -14,7 +14,7 @@ use test_support::{equal, holds};
 
 type Held = RankSelect<Vec<u64>, Vec<u64>, [u64; 2]>;
 
-// n bits, of which these are set
+// Creates n bits, with these set.
 fn column(alloc: Global, n: usize, places: &[usize]) -> Result<Held, Fail>
     ensures sound { IfOk result (λ c. IsSound ranks_format (owned_ranks c)) }
     ensures len { IfOk result (λ c. length (ranked_bits c) ≡ n) }
@@ -28,7 +28,7 @@ fn column(alloc: Global, n: usize, places: &[usize]) -> Result<Held, Fail>
     Ok(column)
 }
 
-// A move of a cursor and what it gives, or where the cursor stands
+// A move of a cursor and its result, or the cursor's position.
 #[derive(Clone, Copy)]
 enum Move {
     Next(Option<usize>),
@@ -39,7 +39,7 @@ enum Move {
     Rank(u64),
 }
 
-// Does a move give what it should? A seek does not where it would go back.
+// Tests whether a move has its result. A seek backwards has none.
 fn gives<CC: Words, VC: Words, WC: Words>(
     cursor: &mut Cursor<'_, CC, VC, WC>,
     step: &Move,
@@ -54,7 +54,7 @@ fn gives<CC: Words, VC: Words, WC: Words>(
     }
 }
 
-// Do all moves of a cursor over n bits, of which these are set, give what they should?
+// Tests whether all moves of a cursor over n bits, with these set, have their results.
 fn moves(alloc: Global, n: usize, places: &[usize], steps: &[Move]) -> Result<bool, Fail> {
     let bits = column(alloc, n, places)?;
     let mut cursor = bits.cursor();
@@ -110,7 +110,7 @@ fn ranks_over_chunks(rt: HostRuntime) -> Result<(), Fail> {
     Ok(())
 }
 
-// What `select` gives of a column that counts 64 chunks, and what it read for it
+// Returns the result of `select` on a column of 64 counted chunks, and what it read.
 fn place_read(bits: &Held, rank: u64) -> Option<(Option<usize>, Tally)>
     requires { IsSound ranks_format (owned_ranks bits.now) }
     ensures counts { IfSome result (λ p. p.1.counts ≤ 8) }

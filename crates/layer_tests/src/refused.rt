@@ -1,4 +1,4 @@
-// Calls with a request for memory refused, or none: they are done, or nothing has changed.
+// Calls with one failed allocation, or none: each succeeds, or changes nothing.
 
 use super::boxed::{Numbers, SEVEN};
 use super::unaries::{Held, Lists, opened};
@@ -30,7 +30,7 @@ fn lists_with_bounds_in_unary(rt: HostRuntime) {
 #[test]
 fn stores_of_an_earlier_form_are_opened(rt: HostRuntime) {
     let new: [u64; 10] = [40, 40, 40, 56, 80, 44, 6, 1, 2, 7];
-    // where the bytes of the store have no memory, there is nothing to open
+    // without memory for the bytes of the store there is nothing to open
     if let Ok((kind, rows, _)) = opened::<Lists>(
         rt.alloc(),
         &[24, 48, 72, 2, 2, 3, 1, 2, 7],

@@ -8,7 +8,7 @@ use std::alloc::Global;
 use std::test::Fail;
 use test_support::columns::takes;
 
-// A column to which these rows are pushed, one by one
+// Creates a column and pushes these rows one by one.
 pub(crate) fn pushed<T: Item + Copy, C: Storage + Push<T>>(
     alloc: Global,
     rows: &[T],

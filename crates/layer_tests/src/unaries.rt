@@ -30,8 +30,8 @@ type Nested = Vecs<Lists, Bounds>;
 
 type Units = Vecs<Empties, Bounds>;
 
-// What became of a store: 0 where it was of the earlier form, 1 where of the type, else the number of the fault and 10, or of
-// the refusal and 40; then the number of rows, or the slice of the fault; then whether what is written is `written`
+// Reports on a store: 0 if it has the earlier form, 1 if it has the type, else the number of the fault plus 10, or of
+// the error plus 40; then the number of rows, or the slice of the fault; then whether `written` is written.
 pub fn opened<C: Earlier + ContainerBytes + Len + Drop>(
     alloc: Global,
     words: &[u64],
@@ -115,7 +115,7 @@ fn offsets_are_pushed_in_unary(rt: HostRuntime) {
     equal!(rt; bounds.bits.values.tail, [24, 5]);
 }
 
-// Does a column of lists have these lengths, read one by one?
+// Tests whether a column of lists has these lengths, read one by one.
 fn has_lengths<W: Index + Copy, V: Index<Ref = Slice<W>> + Len>(view: &V, lengths: &[usize]) -> bool
     requires { IsSound V.format (V.content view.now) }
 {
@@ -128,7 +128,7 @@ fn has_lengths<W: Index + Copy, V: Index<Ref = Slice<W>> + Len>(view: &V, length
     view.len() == lengths.len()
 }
 
-// Pushes the first items, as many as each length says, as one list each; is each taken?
+// Pushes the first items as lists of these lengths; returns whether all succeed.
 fn takes_lengths<'x, C: Push<&'x [u64]>>(
     column: &mut C,
     items: &'x [u64],
@@ -145,7 +145,7 @@ fn takes_lengths<'x, C: Push<&'x [u64]>>(
     true
 }
 
-// Lists with bounds in unary, for the calls that more than one test makes
+// Lists with bounds in unary, for the calls of several tests.
 #[derive(Drop)]
 pub struct Held {
     lists: Lists,
@@ -163,7 +163,7 @@ impl Held {
         takes_lengths(&mut self.lists, items, lengths)
     }
 
-    /// Pushes lists of these lengths up to the first that is refused; how many are taken.
+    /// Pushes lists of these lengths up to the first error; returns how many succeeded.
     pub fn takes_some(&mut self, items: &[u64], lengths: &[usize]) -> usize {
         for at in 0..lengths.len() {
             if !takes(&mut self.lists, front(items, lengths[at])) {
@@ -181,7 +181,7 @@ impl Held {
         cut(&mut self.lists, n);
     }
 
-    // Has it these lengths, and does its own test accept it?
+    // Tests whether it has these lengths, and passes its own test.
     pub fn is(&self, lengths: &[usize]) -> bool {
         has_lengths(&self.lists.borrow(), lengths) && self.lists.borrow().check().is_ok()
     }
@@ -191,7 +191,7 @@ impl Held {
     }
 }
 
-// The numbers 0..130, in their order, from the last on, or those that are 37 apart
+// Returns the numbers 0..130 in ascending order, in descending order, or in steps of 37.
 fn orders(alloc: Global, order: usize) -> Result<Vec<usize>, AllocError> {
     let mut lengths = Vec::new(alloc);
     for i in 0..130 {
@@ -246,7 +246,7 @@ fn a_long_list_between_empty_ones(rt: HostRuntime) -> Result<(), Fail> {
     Ok(())
 }
 
-// Are these all offsets, in their order?
+// Tests whether these are all offsets, in order.
 fn are_ends(bounds: &Bounds, offsets: &[u64]) -> bool
     requires { IsSound unaries_format (owned_unaries bounds.now) }
 {
@@ -259,7 +259,7 @@ fn are_ends(bounds: &Bounds, offsets: &[u64]) -> bool
     ends.next().is_none()
 }
 
-// Pushes these offsets; is each taken?
+// Pushes these offsets; returns whether all succeed.
 fn takes_offsets(bounds: &mut Bounds, offsets: &[u64]) -> bool
     requires { IsSound unaries_format (owned_unaries bounds.old) }
     ensures { IsSound unaries_format (owned_unaries bounds.new) }
@@ -284,7 +284,7 @@ fn offsets_in_unary_are_read_in_order(rt: HostRuntime) {
     holds!(rt; are_ends(&bounds, &[]));
 }
 
-// Does a walk give lists of these numbers, each as its first and its length, in their order?
+// Tests whether an iteration gives lists with this first number and this length, in order.
 fn walked<V: Index<Ref = u64> + Copy, W: Offsets + Drop>(
     lists: ListIter<V, W>,
     wanted: &[(Option<u64>, usize)],

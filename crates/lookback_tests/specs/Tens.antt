@@ -1,4 +1,4 @@
--- Numbers of which those with the same last decimal digit are the same.
+-- Numbers that are the same if their last decimal digits are.
 use Rattle.std.specs.Prelude.{Bool, ◌%◌}
 use Rattle.columnar_base.specs.Row.{Row, number, row_eq}
 use Rattle.columnar_base.specs.Format.{Format}
@@ -11,7 +11,7 @@ digit r = r
 abbrev pub same_digit : Row → Row → Bool
 same_digit r s = row_eq (digit r) (digit s)
 
--- the format t, with another test for equal rows
+-- the format t, with another relation of equal rows
 abbrev pub kinned : (Row → Row → Bool) → Format → Format
 kinned kin t = record {
   count = t.count;

@@ -1,4 +1,4 @@
--- Rows that are the same where a digit of theirs is: that this is a sameness, for a test of lists over such rows.
+-- Rows that are the same if a digit is: this is an equivalence, also for lists of such rows.
 use Rattle.std.proofs.Common.{◌≡◌, ℕ, Bool, true, List, ap}
 use Rattle.columnar_base.specs.Row.{Row, row_eq}
 use Rattle.columnar_base.specs.RowLaws.{row_eq-is}

@@ -1,4 +1,4 @@
-//! What a caller learns of what is stored, by the contracts alone: none of these has a proof file.
+//! Callers that use only the contracts: none of these functions has a proof file.
 ghost use Rattle.std.specs.Prelude.{◌≡◌, ◌≢◌, ◌<◌, ◌≤◌, ◌+◌, ◌-◌, ◌++◌, [], ◌∷◌, length, take, drop, slice_get, Some, None, cond, is_none, false, OnOk, IfSome};
 ghost use Rattle.std.specs.Int.{to_le_bytes, w8};
 ghost use Rattle.columnar_core.specs.Row.{Row, number};
@@ -18,7 +18,7 @@ use columnar_lookback::repeats::Repeats;
 use columnar_lookback::same::SameAs;
 use std::ops::Range;
 
-/// Pushes an item after runs: it is one value more, but where the last row is the same.
+/// Pushes an item after runs: it stores one more value, or none if the last row is the same.
 pub fn run_takes<T: Item + Drop, TC: Truncate + Push<T> + SameAs<T>>(
     column: &mut Repeats<TC>,
     item: T,
@@ -31,7 +31,7 @@ pub fn run_takes<T: Item + Drop, TC: Truncate + Push<T> + SameAs<T>>(
     column.push(item)
 }
 
-/// As `run_takes`, by reference.
+/// Does the same as `run_takes` with a reference.
 pub fn run_takes_ref<T: Item, TC: Truncate + PushRef<T> + SameAs<T>>(
     column: &mut Repeats<TC>,
     item: &T,
@@ -44,8 +44,8 @@ pub fn run_takes_ref<T: Item, TC: Truncate + PushRef<T> + SameAs<T>>(
     column.push_ref(item)
 }
 
-/// Copies rows after runs: the first is stored where the last row is another, and then the values that stand after it in
-/// the range; of a front that is copied into a column without rows, the values of the range.
+/// Copies rows after runs: the first is stored if it differs from the last row, then the range's values after it. A
+/// range from row 0 that is copied into a column without rows stores the values of the range.
 pub fn run_copies<'x, V: Index + Copy, TC: ExtendFrom<V> + Push<V::Ref> + SameAs<V::Ref>>(
     column: &mut Repeats<TC>,
     view: Repeats<V, View<'x, u64>, View<'x, u64>, View<'x, u64>>,
@@ -61,8 +61,8 @@ pub fn run_copies<'x, V: Index + Copy, TC: ExtendFrom<V> + Push<V::Ref> + SameAs
     column.extend_from_self(view, range)
 }
 
-/// Pushes an item that may refer back: what is kept of it is the least distance at which one of the last `N` values is the
-/// same, and where there is none it is one value more.
+/// Pushes an item that may refer back: it stores the least distance at which one of the last `N` values is the same, or
+/// one more value if there is none.
 pub fn back_takes<T: Item + Drop, TC: Truncate + Push<T> + SameAs<T>, const N: u8>(
     column: &mut Lookbacks<TC, N>,
     item: T,
@@ -77,7 +77,7 @@ pub fn back_takes<T: Item + Drop, TC: Truncate + Push<T> + SameAs<T>, const N: u
     column.push(item)
 }
 
-/// As `back_takes`, by reference.
+/// Does the same as `back_takes` with a reference.
 pub fn back_takes_ref<T: Item, TC: Truncate + PushRef<T> + SameAs<T>, const N: u8>(
     column: &mut Lookbacks<TC, N>,
     item: &T,
@@ -90,8 +90,8 @@ pub fn back_takes_ref<T: Item, TC: Truncate + PushRef<T> + SameAs<T>, const N: u
     column.push_ref(item)
 }
 
-/// Copies rows that may refer back: what is kept is what pushes of them in turn would keep; of a front that is copied into
-/// a column without rows, what was kept there.
+/// Copies rows that may refer back: it stores what pushes of them in order would store. A range from row 0 that is
+/// copied into a column without rows is stored as in the view.
 pub fn back_copies<
     'x,
     V: Index + Copy,

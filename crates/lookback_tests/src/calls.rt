@@ -1,5 +1,5 @@
-// Calls of columns and stashes that several tests make, proved once for all columns. Each asks just what the calls that it
-// makes ask, and keeps a column well formed.
+// Calls of columns and stashes that several tests make, proved once for all columns. Each has the preconditions of the
+// calls it makes, and keeps a column well-formed.
 ghost use Rattle.std.specs.Prelude.{IfOk, IsTrue};
 ghost use Rattle.columnar_core.specs.Format.{IsSound, representable};
 ghost use Rattle.columnar_bytes.specs.Stashes.{stash_content};
@@ -16,8 +16,8 @@ use std::test::Fail;
 use test_support::columns::{copy_all, cut, reads, takes};
 use test_support::stashes::writes;
 
-// An empty column with room for a view
-pub(crate) fn with_room<V: Len + Copy, C: ExtendFrom<V>>(
+// Creates an empty column with space for a view.
+pub(crate) fn with_room<V: Len + Copy, C: Storage + ExtendFrom<V>>(
     alloc: Global,
     view: V,
 ) -> Result<C, GrowError>
@@ -26,8 +26,8 @@ pub(crate) fn with_room<V: Len + Copy, C: ExtendFrom<V>>(
     C::with_capacity_for(alloc, once(view))
 }
 
-// Is a view of a column, copied whole to where there is room for it, that column again?
-pub(crate) fn is_copied_whole<V: Len + Copy, C: ExtendFrom<V> + PartialEq>(
+// Tests whether a view of a column, copied whole into reserved space, equals that column.
+pub(crate) fn is_copied_whole<V: Len + Copy, C: Storage + ExtendFrom<V> + PartialEq>(
     alloc: Global,
     view: V,
     source: &C,
@@ -38,7 +38,7 @@ pub(crate) fn is_copied_whole<V: Len + Copy, C: ExtendFrom<V> + PartialEq>(
     copy.reserve_for(once(view)).is_ok() && copy_all(&mut copy, view).is_ok() && copy == *source
 }
 
-// The clone of a duplicate of a column, where both have its rows and are equal
+// Returns the clone of a duplicate of a column, if both are equal to it.
 pub(crate) fn twin_of<C: Storage + Clone + PartialEq + Index<Ref = u64>>(
     alloc: Global,
     column: &C,
@@ -55,8 +55,8 @@ pub(crate) fn twin_of<C: Storage + Clone + PartialEq + Index<Ref = u64>>(
     }
 }
 
-// Does a column differ from its twin once it is cut to `count` rows? Is it an empty one once it is cleared, and takes an
-// item then?
+// Tests whether a column differs from its twin after truncation to `count` rows, and whether it is empty after `clear`
+// and then accepts an item.
 pub(crate) fn is_cut_and_cleared<C: Storage + Push<u64> + PartialEq + Index<Ref = u64>>(
     alloc: Global,
     column: &mut C,
@@ -77,7 +77,7 @@ pub(crate) fn is_cut_and_cleared<C: Storage + Push<u64> + PartialEq + Index<Ref 
         && reads(column, [item].as_slice())
 }
 
-// Are these the words of a view's store?
+// Tests whether these are the words of a view's store.
 pub(crate) fn encodes<'a, V: AsBytes<'a>>(alloc: Global, view: &V, words: &[u64]) -> bool
     requires { IsTrue (representable V.format) }
 {
@@ -85,7 +85,7 @@ pub(crate) fn encodes<'a, V: AsBytes<'a>>(alloc: Global, view: &V, words: &[u64]
     encode(&mut store, view).is_ok() && store.as_slice() == words
 }
 
-// Have a type's slices elements of these sizes?
+// Tests whether the slices of a type have elements of these sizes.
 pub(crate) fn has_sizes<C: Stored>(alloc: Global, sizes: &[usize]) -> bool
     requires { IsTrue (representable C.format) }
 {
@@ -95,7 +95,7 @@ pub(crate) fn has_sizes<C: Stored>(alloc: Global, sizes: &[usize]) -> bool
         && C::slice_count() == sizes.len()
 }
 
-// Has slice `index` of a column as many bytes, and so that of its view?
+// Tests whether slice `index` of a column and of its view has this many bytes.
 pub(crate) fn has_bytes<'a, V: AsBytes<'a>, C: ContainerBytes>(
     column: &C,
     view: &V,
@@ -111,7 +111,7 @@ pub(crate) fn has_bytes<'a, V: AsBytes<'a>, C: ContainerBytes>(
         && view.get_byte_slice(index).1.len() == bytes
 }
 
-// The column that a stash is loaded as
+// Loads a stash as a column.
 pub(crate) fn loaded<C: ContainerBytes + Storage>(
     alloc: Global,
     stash: &Stash<C, Vec<u8>>,
@@ -125,8 +125,8 @@ pub(crate) fn loaded<C: ContainerBytes + Storage>(
     Ok(column)
 }
 
-// Copies rows of a view to a stash; false where they are not there, or where the copy is refused
-pub(crate) fn stash_copies<V: Len + Copy, C: ContainerBytes + ExtendFrom<V>>(
+// Copies rows of a view to a stash; returns false if there are no such rows or the copy fails.
+pub(crate) fn stash_copies<V: Len + Copy, C: ContainerBytes + ExtendFrom<V> + Drop>(
     stash: &mut Stash<C, Vec<u8>>,
     view: V,
     start: usize,
@@ -139,7 +139,7 @@ pub(crate) fn stash_copies<V: Len + Copy, C: ContainerBytes + ExtendFrom<V>>(
     start <= end && end <= view.len() && stash.extend_from_self(view, start..end).is_ok()
 }
 
-// Cuts a stash; false where it has fewer rows, or where the cut is refused
+// Truncates a stash; returns false if it has fewer rows or the call fails.
 pub(crate) fn stash_cut<C: ContainerBytes + Truncate + Drop>(
     stash: &mut Stash<C, Vec<u8>>,
     count: usize,
@@ -150,7 +150,7 @@ pub(crate) fn stash_cut<C: ContainerBytes + Truncate + Drop>(
     count <= stash.len() && stash.truncate(count).is_ok()
 }
 
-// Are the bytes of a stash aligned in place?
+// Tests whether the bytes of a stash can be aligned in place.
 pub(crate) fn aligns<C: ContainerBytes + Drop>(alloc: Global, stash: &mut Stash<C, Vec<u8>>) -> bool
     requires representable { IsTrue (representable C.format) }
     requires sound { IsSound C.format (stash_content stash.old) }
@@ -159,7 +159,7 @@ pub(crate) fn aligns<C: ContainerBytes + Drop>(alloc: Global, stash: &mut Stash<
     stash.make_aligned(alloc).is_ok()
 }
 
-// Does a stash's clone write these words?
+// Tests whether a clone of a stash writes these words.
 pub(crate) fn clone_writes<C: ContainerBytes + Clone>(
     stash: &Stash<C, Vec<u8>>,
     words: &[u64],

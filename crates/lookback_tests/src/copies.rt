@@ -1,4 +1,4 @@
-// Ranges of rows that are copied: which values are stored, by worked rows.
+// Copies of ranges of rows: which values are stored, by worked rows.
 
 use crate::rows::RUNS;
 use crate::runs::Runs;
@@ -6,7 +6,7 @@ use crate::runs::stashes::RunStash;
 use std::test::Fail;
 use test_support::holds;
 
-// The rows 7, 7, 7, of which the first two are both stored
+// The rows 7, 7, 7, of which the first two are stored as values.
 static TWO_SEVENS: [u64; 9] = [40, 40, 40, 56, 72, 3, 3, 7, 7];
 
 #[test]

@@ -1,4 +1,4 @@
-//! Tests of columns in which a row may stand for an earlier one, by their public calls alone.
+//! Tests of columns in which a row may refer to an earlier one, by their public calls.
 #![tactic(auto)]
 
 #[cfg(test)]

@@ -1,4 +1,4 @@
-// Rows that are kept as how far back the same value stands: pushed, read, cut and cleared, by worked rows.
+// Rows that are stored as the distance back to the same value: pushed, read, truncated and cleared, by worked rows.
 
 mod copies;
 mod stashes;
@@ -16,7 +16,7 @@ use test_support::{equal, holds};
 
 type Two = Lookbacks<Vec<u64>, 2>;
 
-// Twenty comes again after two values
+// Twenty occurs again after two values.
 static RETURNS: [u64; 5] = [10, 20, 10, 30, 20];
 
 #[test]
@@ -39,12 +39,12 @@ fn one_of_the_last_values_is_kept_as_its_distance(rt: HostRuntime) -> Result<(),
     Ok(())
 }
 
-// Are these the values and distances of a column?
+// Tests whether these are the values and distances of a column.
 fn keeps<const N: u8>(column: &Lookbacks<Vec<u64>, N>, values: &[u64], distances: &[u8]) -> bool {
     column.inner.oks.as_slice() == values && column.inner.errs.as_slice() == distances
 }
 
-// Has a column of these rows that looks `N` values back these values and distances?
+// Tests whether a column of these rows that looks `N` values back has these values and distances.
 fn column_keeps<const N: u8>(
     alloc: Global,
     rows: &[u64],

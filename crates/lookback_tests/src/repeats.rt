@@ -1,4 +1,4 @@
-// Runs of rows that are kept once: pushed, read, cut and cleared, by worked rows.
+// Runs of rows that are stored once: pushed, read, truncated and cleared, by worked rows.
 use crate::rows::RUNS;
 use crate::runs::Runs;
 use std::test::Fail;

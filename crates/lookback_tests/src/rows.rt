@@ -10,10 +10,10 @@ use std::test::Fail;
 
 pub(crate) type Held = Repeats<Vec<u64>>;
 
-// Two runs of two, and one of one
+// Two runs of two, and one of one.
 pub(crate) static RUNS: [u64; 5] = [1, 1, 2, 2, 1];
 
-// A column of these rows
+// Creates a column of these rows.
 pub(crate) fn numbers<C: Storage + Push<u64> + Drop>(alloc: Global, rows: &[u64]) -> Result<C, Fail>
     ensures { IfOk result (λ c. IsSound C.format (C.content c)) }
 {

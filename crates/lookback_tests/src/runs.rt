@@ -1,6 +1,6 @@
-// Columns of runs and of distances, for the calls that many tests make. The nests of their columns are named here alone,
-// so that a test does not carry them. One struct for any column would hand its impls on at each call, and a macro may not write
-// a ghost field: so there are two.
+// Columns of repeats and of lookbacks, for the calls of many tests. Only these types name the nested columns, so that a
+// test does not. A struct for any column would pass its impls at each call, and a macro may not write a ghost field; so
+// there are two structs.
 ghost use Rattle.columnar_core.specs.Format.{IsSound};
 
 pub(crate) mod stashes;
@@ -20,7 +20,7 @@ use test_support::stores::is_written;
 
 type Far = Lookbacks<Vec<u64>, 255>;
 
-// Numbers that are kept once a run
+// Numbers whose runs are stored once.
 #[derive(Drop)]
 pub(crate) struct Runs {
     column: Held,
@@ -34,14 +34,14 @@ impl Runs {
         }
     }
 
-    // A column of these rows
+    // Creates a column of these rows.
     pub(crate) fn of(alloc: Global, rows: &[u64]) -> Result<Runs, Fail> {
         Ok(Runs {
             column: numbers(alloc, rows)?,
         })
     }
 
-    // An empty column with room for another
+    // Creates an empty column with space for another.
     pub(crate) fn with_room_for(alloc: Global, source: &Runs) -> Result<Runs, Fail> {
         Ok(Runs {
             column: with_room(alloc, source.column.borrow())?,
@@ -52,12 +52,12 @@ impl Runs {
         takes(&mut self.column, item)
     }
 
-    // Is an item taken through a reference?
+    // Pushes a reference to an item; returns whether it succeeds.
     pub(crate) fn takes_lent(&mut self, item: &u64) -> bool {
         takes(&mut self.column, item)
     }
 
-    // Copies these rows of another column after its own
+    // Copies these rows of another column.
     pub(crate) fn copies(&mut self, source: &Runs, start: usize, end: usize) -> bool {
         copied(&mut self.column, source.column.borrow(), start, end)
     }
@@ -86,63 +86,64 @@ impl Runs {
         row_at(&self.column, index)
     }
 
-    // Has it these rows, and no other?
+    // Tests whether it has exactly these rows.
     pub(crate) fn reads(&self, rows: &[u64]) -> bool {
         reads(&self.column, rows)
     }
 
-    // Has it these rows, read through a reference?
+    // Tests whether it has these rows, read through a reference.
     pub(crate) fn reads_lent(&self, rows: &[&u64]) -> bool {
         reads(&&self.column, rows)
     }
 
-    // Have its view and a shorter one these rows, and is the view well formed?
+    // Tests whether its view and a shorter-lived one have these rows, and whether the view is well-formed.
     pub(crate) fn views_read(&self, rows: &[u64]) -> bool {
         let view = self.column.borrow();
         reads(&view, rows) && reads(&view.reborrow(), rows) && view.check().is_ok()
     }
 
-    // The last row, through a view
+    // Returns the last row, through a view.
     pub(crate) fn last(&self) -> Option<u64> {
         Index::last(&self.column.borrow())
     }
 
-    // Are these the values that it keeps?
+    // Tests whether these are its stored values.
     pub(crate) fn keeps(&self, values: &[u64]) -> bool {
         self.column.inner.somes.as_slice() == values
     }
 
-    // How many values it keeps
+    // Counts its stored values.
     pub(crate) fn kept(&self) -> usize {
         self.column.inner.somes.as_slice().len()
     }
 
-    // Are these the words of its store?
+    // Tests whether these are the words of its store.
     pub(crate) fn is_written(&self, words: &[u64]) -> bool {
         is_written(&self.column, words)
     }
 
-    // Are these the words of its view's store?
+    // Tests whether these are the words of its view's store.
     pub(crate) fn encodes(&self, alloc: Global, words: &[u64]) -> bool {
         encodes(alloc, &self.column.borrow(), words)
     }
 
-    // Have its slices elements of these sizes?
+    // Tests whether its slices have elements of these sizes.
     pub(crate) fn has_sizes(alloc: Global, sizes: &[usize]) -> bool {
         has_sizes::<Held>(alloc, sizes)
     }
 
-    // Has slice `index` as many bytes, and so its view's?
+    // Tests whether slice `index`, and its view's, has this many bytes.
     pub(crate) fn has_bytes(&self, index: usize, bytes: usize) -> bool {
         has_bytes(&self.column, &self.column.borrow(), index, bytes)
     }
 
-    // The clone of its duplicate, where both have these rows and are equal
+    // Returns the clone of its duplicate, if both have these rows and are equal.
     pub(crate) fn twin(&self, alloc: Global, rows: &[u64]) -> Option<Held> {
         twin_of(alloc, &self.column, rows)
     }
 
-    // Does it differ from its twin once it is cut? Is it an empty one once it is cleared, and takes an item then?
+    // Tests whether it differs from its twin after truncation, and whether it is empty after `clear` and then accepts
+    // an item.
     pub(crate) fn is_cut_and_cleared(
         &mut self,
         alloc: Global,
@@ -154,7 +155,7 @@ impl Runs {
     }
 }
 
-// Numbers that are kept once for as far back as it goes
+// Numbers that are stored once within the maximum distance.
 #[derive(Drop)]
 pub(crate) struct Backs {
     column: Far,
@@ -168,14 +169,14 @@ impl Backs {
         }
     }
 
-    // A column of these rows
+    // Creates a column of these rows.
     pub(crate) fn of(alloc: Global, rows: &[u64]) -> Result<Backs, Fail> {
         Ok(Backs {
             column: numbers(alloc, rows)?,
         })
     }
 
-    // An empty column with room for another
+    // Creates an empty column with space for another.
     pub(crate) fn with_room_for(alloc: Global, source: &Backs) -> Result<Backs, Fail> {
         Ok(Backs {
             column: with_room(alloc, source.column.borrow())?,
@@ -186,17 +187,17 @@ impl Backs {
         takes(&mut self.column, item)
     }
 
-    // Is an item taken through a reference?
+    // Pushes a reference to an item; returns whether it succeeds.
     pub(crate) fn takes_lent(&mut self, item: &u64) -> bool {
         takes(&mut self.column, item)
     }
 
-    // Is an item taken by reference?
+    // Pushes an item by `push_ref`; returns whether it succeeds.
     pub(crate) fn takes_ref(&mut self, item: &u64) -> bool {
         takes_ref(&mut self.column, item)
     }
 
-    // Copies these rows of another column after its own
+    // Copies these rows of another column.
     pub(crate) fn copies(&mut self, source: &Backs, start: usize, end: usize) -> bool {
         copied(&mut self.column, source.column.borrow(), start, end)
     }
@@ -225,58 +226,59 @@ impl Backs {
         row_at(&self.column, index)
     }
 
-    // Has it these rows, and no other?
+    // Tests whether it has exactly these rows.
     pub(crate) fn reads(&self, rows: &[u64]) -> bool {
         reads(&self.column, rows)
     }
 
-    // Has it these rows, read through a reference?
+    // Tests whether it has these rows, read through a reference.
     pub(crate) fn reads_lent(&self, rows: &[&u64]) -> bool {
         reads(&&self.column, rows)
     }
 
-    // Have its view and a shorter one these rows, and is the view well formed?
+    // Tests whether its view and a shorter-lived one have these rows, and whether the view is well-formed.
     pub(crate) fn views_read(&self, rows: &[u64]) -> bool {
         let view = self.column.borrow();
         reads(&view, rows) && reads(&view.reborrow(), rows) && view.check().is_ok()
     }
 
-    // The last row, through a view
+    // Returns the last row, through a view.
     pub(crate) fn last(&self) -> Option<u64> {
         Index::last(&self.column.borrow())
     }
 
-    // Are these the values that it keeps, and these the distances?
+    // Tests whether these are its stored values and distances.
     pub(crate) fn keeps(&self, values: &[u64], distances: &[u8]) -> bool {
         self.column.inner.oks.as_slice() == values && self.column.inner.errs.as_slice() == distances
     }
 
-    // Are these the words of its store?
+    // Tests whether these are the words of its store.
     pub(crate) fn is_written(&self, words: &[u64]) -> bool {
         is_written(&self.column, words)
     }
 
-    // Are these the words of its view's store?
+    // Tests whether these are the words of its view's store.
     pub(crate) fn encodes(&self, alloc: Global, words: &[u64]) -> bool {
         encodes(alloc, &self.column.borrow(), words)
     }
 
-    // Have its slices elements of these sizes?
+    // Tests whether its slices have elements of these sizes.
     pub(crate) fn has_sizes(alloc: Global, sizes: &[usize]) -> bool {
         has_sizes::<Far>(alloc, sizes)
     }
 
-    // Has slice `index` as many bytes, and so its view's?
+    // Tests whether slice `index`, and its view's, has this many bytes.
     pub(crate) fn has_bytes(&self, index: usize, bytes: usize) -> bool {
         has_bytes(&self.column, &self.column.borrow(), index, bytes)
     }
 
-    // The clone of its duplicate, where both have these rows and are equal
+    // Returns the clone of its duplicate, if both have these rows and are equal.
     pub(crate) fn twin(&self, alloc: Global, rows: &[u64]) -> Option<Far> {
         twin_of(alloc, &self.column, rows)
     }
 
-    // Does it differ from its twin once it is cut? Is it an empty one once it is cleared, and takes an item then?
+    // Tests whether it differs from its twin after truncation, and whether it is empty after `clear` and then accepts
+    // an item.
     pub(crate) fn is_cut_and_cleared(
         &mut self,
         alloc: Global,

@@ -1,4 +1,4 @@
-// Which rows are the same as an item, for each column that can tell.
+// Which rows are the same as an item, for each column that can test it.
 ghost use Rattle.columnar_core.specs.Format.{IsSound};
 
 use columnar_bits::bools::Bools;
@@ -19,7 +19,7 @@ use std::test::Fail;
 use std::time::Duration;
 use test_support::equal;
 
-// Is the item the same as each of two rows?
+// Tests whether the item is the same as each of two rows.
 fn told<T: Item + Copy, C: Storage + Push<T> + SameAs<T> + Drop>(
     alloc: Global,
     first: T,
@@ -146,7 +146,7 @@ fn rows_that_may_be_absent_and_boxes(rt: HostRuntime) -> Result<(), Fail> {
     Ok(())
 }
 
-// A column of boxes of these numbers, each pushed by reference
+// Creates a column of boxes of these numbers, each pushed by reference.
 fn boxes_of<C: Storage + PushRef<Box<u64>>>(
     alloc: Global,
     first: u64,

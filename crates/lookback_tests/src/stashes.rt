@@ -1,4 +1,4 @@
-// A stash over runs: grown, cut, written, opened and copied.
+// A stash of repeats: grown, truncated, written, opened and copied.
 
 use crate::rows::RUNS;
 use crate::runs::Runs;

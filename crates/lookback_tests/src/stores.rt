@@ -1,4 +1,4 @@
-// Worked stores of runs, and which rule others break at which slice.
+// Worked stores of repeats, and the rules that others break, with their slices.
 
 use crate::rows::{Held, RUNS};
 use crate::runs::Runs;
@@ -22,7 +22,7 @@ static SEVENS_AND_NINE: [u64; 9] = [40, 40, 40, 56, 72, 5, 3, 7, 9];
 // The rows 1, 1, 2, 2, 1: the bits 1, 0, 1, 0, 1 and the values 1, 2, 1
 static RUNS_STORED: [u64; 10] = [40, 40, 40, 56, 80, 21, 5, 1, 2, 1];
 
-// One row, that goes on with no value
+// One row that repeats, without a value before it.
 static NO_FIRST: [u64; 7] = [40, 40, 40, 56, 56, 0, 1];
 
 #[test]

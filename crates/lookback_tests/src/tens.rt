@@ -1,5 +1,5 @@
-// A column of one's own whose test for equal rows is not equality: numbers of which those with the same last decimal digit
-// are the same. It is a struct around a column of numbers, with its slices and rows.
+// Your own column whose relation of equal rows is not equality: numbers are the same if their last decimal digits are.
+// It is a struct around a column of numbers, with its slices and rows.
 ghost use Rattle.columnar_base.specs.ElementLaws.{elements_lawful};
 ghost use Rattle.lookback_tests.specs.Tens.{kinned, same_digit};
 ghost use Rattle.lookback_tests.specs.TensLaws.{kinned_lawful, kinned_storable, same_kinned, same_digit_same, same_digit_equal};
@@ -22,7 +22,7 @@ use columnar_lookback::same::SameAs;
 use std::alloc::Global;
 use std::ops::Range;
 
-/// Numbers, each the same as another with its last decimal digit: an owned column, or a view.
+/// Numbers, the same if their last decimal digits are: an owned column, or a view.
 #[derive(Clone, Copy, PartialEq, Drop)]
 pub struct Tens<C> {
     /// The numbers.

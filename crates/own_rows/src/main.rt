@@ -1,4 +1,4 @@
-//! An example: values of a struct and of an enum of one's own, in columns.
+//! An example: values of your own struct and of your own enum, in columns.
 #![tactic(auto)]
 
 mod shape;
@@ -29,7 +29,7 @@ fn two_pages(alloc: Global) -> Result<Vec<String>, AllocError> {
     Ok(vec![in alloc; first, second]?)
 }
 
-// Two visits are written, opened and read; the second is made a value once more.
+// Writes, opens and reads two visits; turns the second into a value again.
 fn show_visits<O: Write>(alloc: Global, out: &mut O) -> anyhow::Result<()> {
     let mut visits = Visits::new(alloc);
     let pages = two_pages(alloc)?;
@@ -51,7 +51,7 @@ fn show_visits<O: Write>(alloc: Global, out: &mut O) -> anyhow::Result<()> {
     Ok(())
 }
 
-// Four figures are written, opened and read; the third is made a value once more.
+// Writes, opens and reads four figures; turns the third into a value again.
 fn show_shapes<O: Write>(alloc: Global, out: &mut O) -> anyhow::Result<()> {
     let mut shapes = Shapes::new(alloc);
     shapes.add(&Shape::Circle(3))?;

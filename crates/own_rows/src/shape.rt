@@ -1,4 +1,4 @@
-//! Figures, an enum of one's own, and a column of them. What makes them rows is in `shape/rows.rt`, which `columnar_derive` writes.
+//! Figures, your own enum, and a column of them. `shape/rows.rt`, which `columnar_derive` writes, makes them rows.
 ghost use Rattle.columnar.specs.Format.{IsSound};
 ghost use Rattle.columnar.specs.Stashes.{stash_content};
 
@@ -21,7 +21,7 @@ pub enum Shape {
     Nothing,
 }
 
-/// Figures, in a column or in bytes that were accepted.
+/// Figures, in a column or in accepted bytes.
 #[derive(Drop)]
 pub struct Shapes {
     stash: Stash<ShapeContainer, Vec<u8>>,
@@ -29,38 +29,38 @@ pub struct Shapes {
 }
 
 impl Shapes {
-    /// No figures.
+    /// Creates a list without figures.
     pub fn new(alloc: Global) -> Shapes {
         Shapes {
             stash: Stash::empty(alloc),
         }
     }
 
-    /// Figures that were written.
+    /// Opens written figures.
     pub fn open(alloc: Global, bytes: Vec<u8>) -> Result<Shapes, StoreFault> {
         let stash = Stash::try_from_bytes(alloc, bytes)?;
         Ok(Shapes { stash })
     }
 
-    /// The bytes of the figures; an error where memory is refused.
+    /// Returns the bytes of the figures; fails if an allocation fails.
     pub fn written(&self, alloc: Global) -> anyhow::Result<Vec<u8>> {
         let mut bytes = Vec::new(alloc);
         self.stash.write_bytes(&mut bytes)?;
         Ok(bytes)
     }
 
-    /// Adds a figure that is kept elsewhere.
+    /// Appends a figure that is stored elsewhere.
     pub fn add(&mut self, shape: &Shape) -> Result<(), GrowError> {
         self.stash.push_ref(shape)
     }
 
-    /// The figure of a number, as a value of its own; None where there are not as many.
+    /// Returns figure `index` as an owned value; `None` if there are not so many.
     pub fn shape(&self, alloc: Global, index: usize) -> Option<Result<Shape, OwnError>> {
         let row = self.stash.borrow().get_checked(index)?;
         Some(Shape::into_owned(alloc, row))
     }
 
-    /// Prints each figure on a line.
+    /// Prints a line for each figure.
     pub fn print<O: Write>(&self, out: &mut O) -> io::Result<()> {
         for row in self.stash.borrow().into_index_iter() {
             match row.show() {

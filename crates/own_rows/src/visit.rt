@@ -1,4 +1,4 @@
-//! Visits, a struct of one's own, and a column of them. What makes them rows is in `visit/rows.rt`, which `columnar_derive` writes.
+//! Visits, your own struct, and a column of them. `visit/rows.rt`, which `columnar_derive` writes, makes them rows.
 ghost use Rattle.columnar.specs.Format.{IsSound};
 ghost use Rattle.columnar.specs.Stashes.{stash_content};
 
@@ -13,7 +13,7 @@ pub use rows::VisitReference;
 use std::alloc::Global;
 use std::io::{self, Write};
 
-/// Who came, when, and what was seen.
+/// Who visited, when, and what they saw.
 #[derive(Drop)]
 pub struct Visit {
     pub time: u64,
@@ -23,7 +23,7 @@ pub struct Visit {
     pub note: Option<String>,
 }
 
-/// Visits in the order in which they came, in a column or in bytes that were accepted.
+/// Visits in order of arrival, in a column or in accepted bytes.
 #[derive(Drop)]
 pub struct Visits {
     stash: Stash<VisitContainer, Vec<u8>>,
@@ -31,32 +31,32 @@ pub struct Visits {
 }
 
 impl Visits {
-    /// No visits.
+    /// Creates a list without visits.
     pub fn new(alloc: Global) -> Visits {
         Visits {
             stash: Stash::empty(alloc),
         }
     }
 
-    /// Visits that were written.
+    /// Opens written visits.
     pub fn open(alloc: Global, bytes: Vec<u8>) -> Result<Visits, StoreFault> {
         let stash = Stash::try_from_bytes(alloc, bytes)?;
         Ok(Visits { stash })
     }
 
-    /// The bytes of the visits; an error where memory is refused.
+    /// Returns the bytes of the visits; fails if an allocation fails.
     pub fn written(&self, alloc: Global) -> anyhow::Result<Vec<u8>> {
         let mut bytes = Vec::new(alloc);
         self.stash.write_bytes(&mut bytes)?;
         Ok(bytes)
     }
 
-    /// Adds a visit that is kept elsewhere.
+    /// Appends a visit that is stored elsewhere.
     pub fn add(&mut self, visit: &Visit) -> Result<(), GrowError> {
         self.stash.push_ref(visit)
     }
 
-    /// Adds a visit whose parts are kept elsewhere.
+    /// Appends a visit whose parts are stored elsewhere.
     pub fn add_parts(&mut self, time: u64, user: &str, pages: &[String]) -> Result<(), GrowError> {
         self.stash.push(VisitReference {
             time,
@@ -67,13 +67,13 @@ impl Visits {
         })
     }
 
-    /// The visit of a number, as a value of its own; None where there are not as many.
+    /// Returns visit `index` as an owned value; `None` if there are not so many.
     pub fn visit(&self, alloc: Global, index: usize) -> Option<Result<Visit, OwnError>> {
         let row = self.stash.borrow().get_checked(index)?;
         Some(Visit::into_owned(alloc, row))
     }
 
-    /// The sum of the times; no other field is read.
+    /// Returns the sum of the times; reads no other field.
     pub fn time(&self) -> u64 {
         let (times, _, _, _, _) = parts_of_five(self.stash.borrow().parts);
         let mut sum = 0u64;
@@ -83,7 +83,8 @@ impl Visits {
         sum
     }
 
-    /// Prints each visit on a line: when, how long the name is, how many pages were seen, and whether there is a note.
+    /// Prints a line for each visit: the time, the length of the name, the number of pages, and whether there is a
+    /// note.
     pub fn print<O: Write>(&self, out: &mut O) -> io::Result<()> {
         for row in self.stash.borrow().into_index_iter() {
             let visit = row.show();

@@ -1,4 +1,4 @@
--- The words of the column of the one number 7, and what is told of it.
+-- The words of the column of the one number 7, and its message.
 use Rattle.std.proofs.Common.{ℕ, List, [], ◌∷◌, ◌++◌, ◌≡◌, ◌%◌, ◌/◌, ◌+◌, get_or, length, map, take, refl, sym, ap, subst, ◌∙◌, arith, codes}
 use Rattle.std.specs.Fmt.{digits}
 use Rattle.std.specs.List.{range_with_len}
@@ -12,7 +12,7 @@ use Rattle.columnar.specs.Bytes.{word}
 use Rattle.columnar.specs.Words.{words}
 use Rattle.roster.specs.Told.{words_line, rows_line, seven_lines}
 
--- the lines, spelled
+-- the lines, spelled out
 pub seven_spelled : words_line (16 ∷ 24 ∷ 7 ∷ []) ++ rows_line 1 ≡ seven_lines
 unfolding digits
 seven_spelled = refl
@@ -35,7 +35,7 @@ words_of_seven c sound rows =
     let one : length bs / 8 ≡ 1 = sym counted ∙ ap length told in
     rw is (slice_of_seven bs (omega (arith, whole, one)) told)
 
--- the words of a column that holds 7 alone, after no others
+-- the words of a column that has only the row 7, appended to none
 pub encoded_seven : (held ws : List ℕ) (c d : Content) → IsSound words_format c → words_format.rows c ≡ number 7 ∷ [] → d ≡ c → held ≡ []
     → ws ≡ held ++ words (slices_of d) → ws ≡ 16 ∷ 24 ∷ 7 ∷ []
 encoded_seven held ws c d sound rows same none wrote =

@@ -1,4 +1,4 @@
--- What the lines of a view show of the bytes that it was opened from.
+-- What the lines of a view show about the bytes it was opened from.
 use Rattle.std.proofs.Common.{ℕ, List, ◌≡◌, ◌∙◌, ap}
 use Rattle.columnar.specs.Accepted.{Accepts}
 use Rattle.columnar.specs.Format.{Format, Content}

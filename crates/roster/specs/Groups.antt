@@ -1,4 +1,4 @@
--- Groups: one value, or a team of them.
+-- Groups: one value, or a team of values.
 use Rattle.std.specs.Prelude.{ℕ, Bool, nat_eq, ◌&&◌, ◌||◌}
 use Rattle.std.proofs.Common.{Vec, Global}
 use Rattle.columnar.specs.Row.{Row}
@@ -18,7 +18,7 @@ abbrev pub group_valid : {T : Type 0} → (T → Type 0) → (Vec T Global → T
 group_valid one many (Solo x) = one x
 group_valid one many (Team v) = many v
 
--- the row that is read
+-- the row of a reference
 abbrev pub reference_row : {S T : Type 0} → (S → Row) → (T → Row) → GroupReference S T → Row
 reference_row one many (SoloRow x) = case 0 (one x)
 reference_row one many (TeamRow v) = case 1 (many v)
@@ -27,6 +27,6 @@ abbrev pub reference_valid : {S T : Type 0} → (S → Type 0) → (T → Type 0
 reference_valid one many (SoloRow x) = one x
 reference_valid one many (TeamRow v) = many v
 
--- has a row no group
+-- the row has no group
 abbrev pub group_unfit : (Unfit → Row → Bool) → (Unfit → Row → Bool) → Unfit → Row → Bool
 group_unfit one many u r = of_variant 0 (one u) r || of_variant 1 (many u) r

@@ -1,4 +1,4 @@
--- The lines that the program tells, as bytes.
+-- The messages of the program, as bytes.
 use Rattle.std.specs.Prelude.{ℕ, List, [], ◌∷◌, ◌++◌, length, codes, decimal}
 use Rattle.std.specs.List.{flat_map}
 use Rattle.roster.specs.declared.told.Failure.{Failure}
@@ -6,15 +6,15 @@ use Rattle.roster.specs.declared.told.Failure.TheVariants.{Memory, TooLong, Inpu
 use Rattle.roster.specs.declared.told.Outcome.{Outcome}
 use Rattle.roster.specs.declared.told.Outcome.TheVariants.{Done, Failed, Misused}
 
--- how many rows there are
+-- the number of rows
 abbrev pub rows_line : ℕ → List ℕ
 rows_line count = codes "rows: " ++ (decimal count ++ codes "\n")
 
--- which rule is broken first, and at which slice
+-- the first broken rule, and its slice
 abbrev pub refused_line : ℕ → ℕ → List ℕ
 refused_line rule slice = codes "refused: " ++ (decimal rule ++ (codes " in slice " ++ (decimal slice ++ codes "\n")))
 
--- the alignment of a slice, and how many bytes it has
+-- the alignment of a slice, and its number of bytes
 abbrev pub slice_line : ℕ → List ℕ → List ℕ
 slice_line align bytes = codes "align: " ++ (decimal align ++ (codes ", bytes.len(): " ++ (decimal (length bytes) ++ codes "\n")))
 
@@ -27,7 +27,7 @@ slice_lines _ _ = []
 abbrev pub sum_line : ℕ → List ℕ
 sum_line sum = codes "Present values summed: " ++ (decimal sum ++ codes "\n")
 
--- numbers with a space between them
+-- numbers separated by spaces
 abbrev pub spaced : List ℕ → List ℕ
 spaced [] = []
 spaced (word ∷ words) = decimal word ++ flat_map (λ w. codes " " ++ decimal w) words
@@ -36,19 +36,19 @@ spaced (word ∷ words) = decimal word ++ flat_map (λ w. codes " " ++ decimal w
 abbrev pub words_line : List ℕ → List ℕ
 words_line words = spaced words ++ codes "\n"
 
--- the words of the column of the one number 7, that is where the table ends, where the slice ends, and the slice; and that
--- it has one row
+-- the words of the column of the one number 7 (the end of the table, the end of the slice, and the slice), and its
+-- number of rows
 abbrev pub seven_lines : List ℕ
 seven_lines = codes "16 24 7\nrows: 1\n"
 
--- what is said where a use was not done
+-- the message for a failure
 abbrev pub failure_line : Failure → List ℕ
 failure_line Memory = codes "failed: no memory\n"
 failure_line TooLong = codes "failed: too long\n"
 failure_line Input = codes "failed: cannot read\n"
 failure_line Output = codes "failed: cannot write\n"
 
--- what the error output is told of an outcome
+-- the message for the error output
 abbrev pub outcome_line : Outcome → List ℕ
 outcome_line (Done status) = []
 outcome_line (Failed failure) = failure_line failure

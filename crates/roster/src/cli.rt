@@ -1,4 +1,4 @@
-//! What the program's words ask for.
+//! The command line of the program.
 ghost use Rattle.std.specs.Prelude.{◌≡◌, ◌∷◌, ℕ, List, [], IfOk, OnOk, OnErr, IsTrue, string_bytes};
 ghost use Rattle.std.specs.Io.KnownBytes.{Appends};
 ghost use Rattle.columnar.specs.Accepted.{Accepts};
@@ -8,7 +8,7 @@ ghost use Rattle.columnar.specs.Row.{number};
 ghost use Rattle.columnar.specs.Sent.{AppendsBeginning};
 ghost use Rattle.columnar.specs.Stashes.{stash_content};
 ghost use Rattle.roster.specs.Told.{outcome_line, seven_lines};
-ghost use Rattle.roster.specs.Uses.{use_of, Answered, Ends, Given, Hears, Judges, ShowsAges};
+ghost use Rattle.roster.specs.Uses.{use_of, Answered, Ends, Given, Hears, Judges, ReceivedStore, ShowsAges};
 
 use crate::group::Group;
 use crate::roster::{Columns, OldColumns, Person, Unbuilt, bytes_of, everyone, tell_view};
@@ -27,13 +27,13 @@ use std::rt::Files;
 /// How a run of the program ended.
 #[derive(Clone, Copy)]
 pub struct Ended {
-    /// What became of what the words ask for.
+    /// The outcome of the command.
     pub outcome: Outcome,
-    /// Did the error output take all that it was to be told? It changes no status.
+    /// Whether the error output accepted the whole message. It does not change the status.
     pub heard: bool,
 }
 
-/// Does what the words ask for, and tells the error output why it was not done.
+/// Executes the command, and writes to the error output why it failed.
 pub fn run_words<R: Files, O: Write, E: Write>(
     rt: &R,
     alloc: Global,
@@ -41,7 +41,7 @@ pub fn run_words<R: Files, O: Write, E: Write>(
     out: &mut O,
     err: &mut E,
 ) -> Ended
-    ensures out { Ends ⟦<Columns as Column>⟧.format ⟦<OldColumns as Column>⟧.format (use_of words.now) result.outcome (O.contents out.old) (O.contents out.new) }
+    ensures out { Ends ⟦<Columns as Column>⟧.format ⟦<OldColumns as Column>⟧.format (ReceivedStore R.File.contents ⟦<Columns as Column>⟧.format) (use_of words.now) result.outcome (O.contents out.old) (O.contents out.new) }
     ensures err { Hears (outcome_line result.outcome) result.heard (E.contents err.old) (E.contents err.new) }
 {
     let outcome = do_words(rt, alloc, words, out);
@@ -49,9 +49,9 @@ pub fn run_words<R: Files, O: Write, E: Write>(
     Ended { outcome, heard }
 }
 
-// Does what the words ask for.
+// Executes the command.
 fn do_words<R: Files, O: Write>(rt: &R, alloc: Global, words: &[String], out: &mut O) -> Outcome
-    ensures { Ends ⟦<Columns as Column>⟧.format ⟦<OldColumns as Column>⟧.format (use_of words.now) result (O.contents out.old) (O.contents out.new) }
+    ensures { Ends ⟦<Columns as Column>⟧.format ⟦<OldColumns as Column>⟧.format (ReceivedStore R.File.contents ⟦<Columns as Column>⟧.format) (use_of words.now) result (O.contents out.old) (O.contents out.new) }
 {
     let Some(answer) = answer_words(rt, alloc, words) else {
         return Outcome::Misused;
@@ -62,13 +62,13 @@ fn do_words<R: Files, O: Write>(rt: &R, alloc: Global, words: &[String], out: &m
     }
 }
 
-// What answers the words, or None where they ask for nothing that the program does.
+// Returns the answer to the command; `None` if there is no such command.
 fn answer_words<R: Files>(
     rt: &R,
     alloc: Global,
     words: &[String],
 ) -> Option<Result<Answer, Failure>>
-    ensures { Answered ⟦<Columns as Column>⟧.format ⟦<OldColumns as Column>⟧.format (use_of words.now) result }
+    ensures { Answered ⟦<Columns as Column>⟧.format ⟦<OldColumns as Column>⟧.format (ReceivedStore R.File.contents ⟦<Columns as Column>⟧.format) (use_of words.now) result }
 {
     match words {
         [] => Some(show(alloc)),
@@ -79,7 +79,7 @@ fn answer_words<R: Files>(
     }
 }
 
-// The status of an answer, whose text goes to the output.
+// Writes the text of an answer to the output, and returns its status.
 fn give<O: WriteBytes>(answer: Result<Answer, Failure>, out: &mut O) -> Result<u8, Failure>
     ensures { Given answer result (O.contents out.old) (O.contents out.new) }
 {
@@ -103,7 +103,7 @@ impl From<Unbuilt> for Failure {
     }
 }
 
-// The bytes of the roster; they are accepted as its columns.
+// Returns the bytes of the roster; they are accepted as its columns.
 fn roster_bytes(alloc: Global) -> Result<Vec<u8>, Failure>
     ensures { IfOk result (λ bytes. Accepts ⟦<Columns as Column>⟧.format bytes.items) }
 {
@@ -111,7 +111,7 @@ fn roster_bytes(alloc: Global) -> Result<Vec<u8>, Failure>
     Ok(bytes_of::<Group<Person>>(alloc, groups.as_slice())?)
 }
 
-// The stash of bytes that are accepted.
+// Opens accepted bytes as a stash.
 fn stash_of<C: Stored>(alloc: Global, bytes: Vec<u8>) -> Stash<C, Vec<u8>>
     requires representable { IsTrue (representable C.format) }
     requires accepted { Accepts C.format bytes.items }
@@ -124,7 +124,7 @@ fn stash_of<C: Stored>(alloc: Global, bytes: Vec<u8>) -> Stash<C, Vec<u8>>
     }
 }
 
-// The slices of the roster, and the sum of the ages, read back from its bytes.
+// Reports the slices of the roster and the sum of the ages, read back from its bytes.
 fn show(alloc: Global) -> Result<Answer, Failure>
     ensures { IfOk result (λ answer. (answer.status ≡ 0) × ShowsAges ⟦<Columns as Column>⟧.format (string_bytes answer.text)) }
 {
@@ -133,26 +133,35 @@ fn show(alloc: Global) -> Result<Answer, Failure>
     Ok(Answer { status: 0, text })
 }
 
-// The roster's bytes as a file. Where they are not built, no file is made.
+// Writes the roster's bytes to a file. Creates no file if building them fails.
 fn write_roster<R: Files>(rt: &R, alloc: Global, path: &str) -> Result<Answer, Failure>
-    ensures { IfOk result (λ answer. (answer.status ≡ 0) × (string_bytes answer.text ≡ [])) }
+    ensures { IfOk result (λ answer. (answer.status ≡ 0) × (string_bytes answer.text ≡ []) × ReceivedStore R.File.contents ⟦<Columns as Column>⟧.format) }
 {
     let bytes = roster_bytes(alloc)?;
-    match fs::create(rt, path) {
-        Ok(mut file) => send_store(&mut file, bytes.as_slice())?,
-        Err(_) => return Err(Failure::Output),
-    }
+    write_file(rt, path, bytes.as_slice())?;
     Ok(Answer {
         status: 0,
         text: String::new(alloc),
     })
 }
 
-// Sends bytes to a file; they are accepted as the roster's columns.
+// Creates a file of bytes that are accepted as the roster's columns.
+fn write_file<R: Files>(rt: &R, path: &str, bytes: &[u8]) -> Result<(), Failure>
+    requires { Accepts ⟦<Columns as Column>⟧.format bytes.now }
+    ensures { OnOk result (ReceivedStore R.File.contents ⟦<Columns as Column>⟧.format) }
+{
+    match fs::create(rt, path) {
+        Ok(mut file) => send_store(&mut file, bytes),
+        Err(_) => Err(Failure::Output),
+    }
+}
+
+// Writes bytes that are accepted as the roster's columns to a file.
 fn send_store<F: WriteBytes>(file: &mut F, bytes: &[u8]) -> Result<(), Failure>
     requires { Accepts ⟦<Columns as Column>⟧.format bytes.now }
     ensures ok { OnOk result (Appends (F.contents file.old) (F.contents file.new) bytes.now) }
     ensures err { OnErr result (AppendsBeginning (F.contents file.old) (F.contents file.new) bytes.now) }
+    ensures received { OnOk result (ReceivedStore F.contents ⟦<Columns as Column>⟧.format) }
 {
     match file.write_all(bytes) {
         Ok(()) => Ok(()),
@@ -160,7 +169,7 @@ fn send_store<F: WriteBytes>(file: &mut F, bytes: &[u8]) -> Result<(), Failure>
     }
 }
 
-// All bytes of a file
+// Reads all bytes of a file.
 fn file_bytes<R: Files>(rt: &R, alloc: Global, path: &str) -> Result<Vec<u8>, Failure> {
     let mut bytes = Vec::new(alloc);
     match fs::open(rt, path) {
@@ -176,7 +185,7 @@ fn file_bytes<R: Files>(rt: &R, alloc: Global, path: &str) -> Result<Vec<u8>, Fa
     }
 }
 
-// How many rows a file has, or which rule it breaks first, and at which slice.
+// Reports the number of rows of a file, or the first broken rule and its slice.
 fn check<R: Files>(rt: &R, alloc: Global, path: &str) -> Result<Answer, Failure>
     ensures { IfOk result (λ answer. (bytes : List ℕ) × Judges ⟦<Columns as Column>⟧.format ⟦<OldColumns as Column>⟧.format bytes answer.status (string_bytes answer.text)) }
 {
@@ -184,8 +193,8 @@ fn check<R: Files>(rt: &R, alloc: Global, path: &str) -> Result<Answer, Failure>
     judge::<Columns>(alloc, bytes)
 }
 
-// The number of rows, status 0, where the bytes are accepted for the columns or for their earlier form; else the first
-// broken rule, status 1.
+// Reports the number of rows, with status 0, if the bytes are accepted as the columns or as their earlier form;
+// otherwise the first broken rule, with status 1.
 fn judge<C: ContainerBytes + Earlier + Len + Drop>(
     alloc: Global,
     bytes: Vec<u8>,
@@ -208,7 +217,7 @@ fn judge<C: ContainerBytes + Earlier + Len + Drop>(
     }
 }
 
-// A column of one number: its words, and its rows once its bytes are opened.
+// Reports on a column of one number: its words, and its rows after its bytes were opened.
 fn first(alloc: Global) -> Result<Answer, Failure>
     ensures { IfOk result (λ answer. (answer.status ≡ 0) × (string_bytes answer.text ≡ seven_lines)) }
 {
@@ -218,7 +227,7 @@ fn first(alloc: Global) -> Result<Answer, Failure>
     Ok(Answer { status: 0, text })
 }
 
-// The words and the bytes of a column that 7 was pushed to; the bytes are accepted, and hold the one row 7.
+// Returns the words and the bytes of a column to which 7 was pushed. The bytes are accepted, and have the one row 7.
 fn written_seven(alloc: Global) -> Result<(Vec<u64>, Vec<u8>), Failure>
     ensures words { IfOk result (λ r. r.0.items ≡ 16 ∷ 24 ∷ 7 ∷ []) }
     ensures accepted { IfOk result (λ r. Accepts ⟦<Vec<u64> as Column>⟧.format r.1.items) }

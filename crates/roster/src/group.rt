@@ -1,5 +1,5 @@
-//! Groups and their columns: a sum type of one's own, by hand. Everything here stands on what `columnar` passes on; what a
-//! column of two variants does with its parts is one call each.
+//! Groups and their columns: your own sum type, written by hand. All code here uses only what `columnar` exports; each
+//! operation on the parts of a column of two variants is one call.
 ghost use Rattle.columnar.specs.Discriminants.{forms_content};
 ghost use Rattle.columnar.specs.Duals.{dual_content, dual_format};
 ghost use Rattle.roster.specs.Groups.{group_row, group_valid, reference_row, reference_valid};
@@ -15,26 +15,26 @@ use columnar::sums::discriminant::{Discriminant, Variants};
 use columnar::sums::variants::{get_dual, len_of_dual};
 use columnar::{Column, Index, Item, Len};
 
-/// One value, or a team of them.
+/// One value, or a team of values.
 #[derive(Drop)]
 pub enum Group<T> {
     Solo(T),
     Team(Vec<T>),
 }
 
-/// A row of a column of groups: what stands for one value, or for a team.
+/// A row of a column of groups: a row of one value, or of a team.
 #[derive(Clone, Copy)]
 pub enum GroupReference<S, T> {
     Solo(S),
     Team(T),
 }
 
-/// A column of groups: the solos, the teams, and of which of the two each row is.
+/// A column of groups: the solos, the teams, and the variant of each row.
 #[derive(Clone, Copy, Drop)]
 pub struct GroupContainer<SC, TC, CVar = Vec<u8>, COff = Vec<u64>> {
-    /// The values of the rows of variant 0.
+    /// The values of the rows with variant 0.
     pub Solo: SC,
-    /// The values of the rows of variant 1.
+    /// The values of the rows with variant 1.
     pub Team: TC,
     /// The variant of each row.
     pub indexes: Discriminant<CVar, COff>,

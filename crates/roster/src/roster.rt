@@ -1,4 +1,4 @@
-//! The roster: who is present, alone or in teams, as a column of groups and as bytes.
+//! The roster: persons who are present alone or in teams, as a column of groups and as bytes.
 ghost use Rattle.std.specs.Prelude.{◌≡◌, All, IfOk, IsTrue, string_bytes};
 ghost use Rattle.columnar.specs.Accepted.{Accepts};
 ghost use Rattle.columnar.specs.Format.{IsSound, representable, slices_of};
@@ -16,13 +16,13 @@ use std::alloc::{AllocError, Global};
 /// A name and an age.
 pub type Person = (String, u64);
 
-/// The column of those who are present.
+/// The column of the persons who are present.
 pub type Columns = ContainerOf<Group<Person>>;
 
-/// The earlier form of these columns, with bounds of lists that are numbers.
+/// The earlier form of these columns, in which the bounds of lists are numbers.
 pub type OldColumns = <Columns as Earlier>::Old;
 
-/// Why something was not built.
+/// Why something could not be built.
 #[derive(Clone, Copy)]
 pub enum Unbuilt {
     Memory,
@@ -44,17 +44,17 @@ impl From<AllocError> for Unbuilt {
     }
 }
 
-// A name and an age
+// Returns a person with a name and an age.
 fn person(alloc: Global, name: &str, age: u64) -> Result<Person, AllocError> {
     Ok((String::from_str(alloc, name)?, age))
 }
 
-// The name is followed by the number.
+// Returns a person whose name ends with the number, which is also the age.
 fn numbered(alloc: Global, name: &str, number: u64) -> Result<Person, AllocError> {
     Ok((format!(in alloc; "{name}{number}")?, number))
 }
 
-// A team of two
+// Returns a team of two.
 fn pair(alloc: Global, one: Person, other: Person) -> Result<Group<Person>, AllocError> {
     let mut team = Vec::new(alloc);
     team.push(one)?;
@@ -62,7 +62,7 @@ fn pair(alloc: Global, one: Person, other: Person) -> Result<Group<Person>, Allo
     Ok(Group::Team(team))
 }
 
-/// Alice alone, Bob and Carol, and then 1024 pairs of a brain and a brawn.
+/// Returns Alice alone, the team of Bob and Carol, and 1024 pairs of a brain and a brawn.
 pub fn everyone(alloc: Global) -> Result<Vec<Group<Person>>, AllocError> {
     let mut groups = Vec::new(alloc);
     groups.push(Group::Solo(person(alloc, "Alice", 20)?))?;
@@ -79,7 +79,10 @@ pub fn everyone(alloc: Global) -> Result<Vec<Group<Person>>, AllocError> {
     Ok(groups)
 }
 
-/// The bytes of a column of the items; they are accepted as one.
+/// Returns the bytes of a column of the items; they are accepted as one.
+///
+/// # Requires
+/// All items are valid, and the column's format is representable.
 pub fn bytes_of<T: Columnar>(alloc: Global, items: &[T]) -> Result<Vec<u8>, Unbuilt>
 where
     T::Container: ContainerBytes + Storage + PushRef<T>,
@@ -97,7 +100,10 @@ where
     }
 }
 
-/// For each slice of a view a line with its alignment and how many bytes it has.
+/// Returns a line for each slice of a view: its alignment and its number of bytes.
+///
+/// # Requires
+/// The view's format is representable.
 pub fn tell_slices<'a, V: AsBytes<'a>>(alloc: Global, view: &V) -> Result<String, AllocError>
     requires { IsTrue (representable V.format) }
     ensures { IfOk result (λ text. string_bytes text ≡ slice_lines V.format.aligns (slices_of (V.content view.now))) }
@@ -110,7 +116,10 @@ pub fn tell_slices<'a, V: AsBytes<'a>>(alloc: Global, view: &V) -> Result<String
     Ok(text)
 }
 
-/// The slices of a view of rows with ages, a line for each, and then the sum of all ages.
+/// Returns a line for each slice of a view of rows with ages, and then the sum of all ages.
+///
+/// # Requires
+/// The view is well-formed, and its format is representable.
 pub fn tell_view<'a, V: AsBytes<'a> + Index<Ref: Aged> + Len>(
     alloc: Global,
     view: &V,

@@ -1,4 +1,4 @@
-//! What the program tells, and why it fails.
+//! The messages of the program, and why it fails.
 ghost use Rattle.std.specs.Prelude.{◌≡◌, ◌++◌, IfOk, OnOk, OnErr, string_bytes};
 ghost use Rattle.std.specs.Io.KnownBytes.{Appends};
 ghost use Rattle.columnar.specs.Sent.{AppendsBeginning};
@@ -7,28 +7,28 @@ ghost use Rattle.roster.specs.Told.{rows_line, refused_line, sum_line, words_lin
 use columnar::bytes::WriteBytes;
 use std::alloc::{AllocError, Global};
 
-/// What answers a use of the program: the exit status, and the text for the output.
+/// The answer to a command: the exit status, and the text for the output.
 #[derive(Drop)]
 pub struct Answer {
     pub status: u8,
     pub text: String,
 }
 
-/// Why a use was not done.
+/// Why a command failed.
 #[derive(Clone, Copy)]
 pub enum Failure {
-    /// A request for memory was refused.
+    /// An allocation failed.
     Memory,
-    /// A column would pass the lengths that it can have.
+    /// A column would exceed its maximum length.
     TooLong,
-    /// A file was not read.
+    /// A file could not be read.
     Input,
-    /// The output, or a file, was not written.
+    /// The output, or a file, could not be written.
     Output,
 }
 
 impl Failure {
-    /// The line that is said of it.
+    /// Returns the message for the failure.
     pub fn line(self) -> &'static str
         ensures { result.now ≡ failure_line self }
     {
@@ -41,19 +41,19 @@ impl Failure {
     }
 }
 
-/// What became of a use of the program.
+/// The outcome of a command.
 #[derive(Clone, Copy)]
 pub enum Outcome {
-    /// It was done, with this status.
+    /// It succeeded, with this status.
     Done(u8),
-    /// It was not done.
+    /// It failed.
     Failed(Failure),
-    /// The words ask for nothing that the program does.
+    /// There is no such command.
     Misused,
 }
 
 impl Outcome {
-    /// What the error output is told of it; nothing of a use that was done.
+    /// Returns the message for the error output; empty if the command succeeded.
     pub fn line(self) -> &'static str
         ensures { result.now ≡ outcome_line self }
     {
@@ -64,7 +64,7 @@ impl Outcome {
         }
     }
 
-    /// The exit status: 1 for a failure, 2 for a misuse.
+    /// Returns the exit status: 1 for a failure, 2 for a misuse.
     pub fn status(self) -> u8
         ensures { result ≡ outcome_status self }
     {
@@ -76,7 +76,7 @@ impl Outcome {
     }
 }
 
-/// Writes the text, whole; after a failure a beginning of it went out, and not all.
+/// Writes the whole text. On an error, only a proper prefix of it was written.
 pub fn put<O: WriteBytes>(out: &mut O, text: &str) -> Result<(), Failure>
     ensures ok { OnOk result (Appends (O.contents out.old) (O.contents out.new) text.now) }
     ensures err { OnErr result (AppendsBeginning (O.contents out.old) (O.contents out.new) text.now) }
@@ -87,21 +87,21 @@ pub fn put<O: WriteBytes>(out: &mut O, text: &str) -> Result<(), Failure>
     }
 }
 
-/// The line that tells how many rows there are.
+/// Returns the line with the number of rows.
 pub fn tell_rows(alloc: Global, count: usize) -> Result<String, AllocError>
     ensures { IfOk result (λ line. string_bytes line ≡ rows_line count) }
 {
     format!(in alloc; "rows: {count}\n")
 }
 
-/// The line that tells which rule is broken first, and at which slice.
+/// Returns the line with the first broken rule and its slice.
 pub fn tell_fault(alloc: Global, rule: u8, slice: usize) -> Result<String, AllocError>
     ensures { IfOk result (λ line. string_bytes line ≡ refused_line rule slice) }
 {
     format!(in alloc; "refused: {rule} in slice {slice}\n")
 }
 
-/// The numbers in one line, with a space between them.
+/// Returns the numbers in one line, separated by spaces.
 pub fn tell_words(alloc: Global, words: &[u64]) -> Result<String, AllocError>
     ensures { IfOk result (λ line. string_bytes line ≡ words_line words.now) }
 {
@@ -116,7 +116,7 @@ pub fn tell_words(alloc: Global, words: &[u64]) -> Result<String, AllocError>
     Ok(line)
 }
 
-/// The words of a column in one line, and then how many rows it has.
+/// Returns the words of a column in one line, and then its number of rows.
 pub fn tell_column(alloc: Global, words: &[u64], rows: usize) -> Result<String, AllocError>
     ensures { IfOk result (λ text. string_bytes text ≡ words_line words.now ++ rows_line rows) }
 {

@@ -1,5 +1,5 @@
--- What a column of entries denies: a number, three numbers each of which may be absent, and a text that is kept once where
--- the one before is the same.
+-- The limit of a column of entries: a number, three optional numbers, and a text that is stored once if it repeats the
+-- previous one.
 use Rattle.std.specs.Int.{w32, w64}
 use Rattle.std.specs.Prelude.{[], ◌∷◌, ◌++◌}
 use Rattle.columnar_core.specs.declared.fault.GrowError.{GrowError}
@@ -20,7 +20,7 @@ use Rattle.columnar.specs.Row.{Row}
 use Rattle.columnar.specs.Strings.{strings_format}
 use Rattle.columnar.specs.Tuples.{pair_format}
 
--- More than 2^64 - 1 entries, or numbers in all threes, or bytes in all texts; or a list that is no three.
+-- More than 2^64 - 1 entries, or numbers in all threes, or bytes in all texts; or a list that is not of length three.
 abbrev pub entries_limit : Limit
 entries_limit = pair_limit count_limit (pair_limit (lists_limit (multiples_limit 3) (options_limit count_limit)) (recall_limit (lists_limit count_limit count_limit)))
 
@@ -36,6 +36,6 @@ texts_format = repeats_format (strings_format words_format)
 abbrev pub entries_format : Format
 entries_format = pair_format numbers_format (pair_format threes_format texts_format)
 
--- A refused entry is denied together with the rows that stand.
+-- A refused entry is denied together with the existing rows.
 abbrev pub RefusedAreDenied : Type 0
 RefusedAreDenied = (old new : Content) (entry : Row) (error : GrowError) → IsSound entries_format old → Refused entries_format old new (entry ∷ []) error → Denied error entries_limit (entries_format.rows old ++ entry ∷ [])

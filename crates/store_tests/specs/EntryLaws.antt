@@ -1,4 +1,4 @@
--- The entries of a roster's records are limited as their parts are.
+-- The limit of entries follows from the limits of their parts.
 use Rattle.std.specs.Int.{w32, w64}
 use Rattle.columnar.specs.Elements.{elements_format, words_format, word_row_of}
 use Rattle.columnar.specs.Fixed.{fixed_format}
@@ -15,7 +15,7 @@ use Rattle.columnar.specs.Strings.{strings_format}
 use Rattle.columnar.specs.Tuples.{pair_format}
 use Rattle.store_tests.specs.Entries.{entries_limit, numbers_format, threes_format, texts_format, entries_format, RefusedAreDenied}
 
--- made part by part, as the type is
+-- built part by part, like the type
 pub entries_limited : IsLimited entries_format entries_limit
 entries_limited =
     let small = elements_format 4 4 (unsigned_row_of w32) in

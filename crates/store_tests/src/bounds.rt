@@ -1,4 +1,4 @@
-// Each generic impl at a concrete type, through its bound.
+// Each generic impl at a concrete type, through its trait.
 ghost use Rattle.std.specs.Prelude.{IfSome, IsTrue};
 ghost use Rattle.columnar_core.specs.Format.{IsSound, representable};
 
@@ -26,7 +26,7 @@ static PAIRS: [u64; 9] = [24, 48, 72, 1, 2, 3, 10, 20, 30];
 
 static LISTS: [u64; 12] = [32, 48, 72, 96, 2, 3, 1, 2, 3, 10, 20, 30];
 
-// The rows of a container, copied into another with all that a container does
+// Copies the rows of a container into another, with all operations of a container.
 fn uses<'a, C: Container<'a>>(alloc: Global, source: &'a C) -> Option<C>
     requires { IsSound C.format (C.content source.now) }
     ensures { IfSome result (λ c. IsSound C.format (C.content c)) }
@@ -56,7 +56,7 @@ fn uses<'a, C: Container<'a>>(alloc: Global, source: &'a C) -> Option<C>
     Some(copy)
 }
 
-// A container of one item, pushed by value and twice by reference
+// Creates a container of one item, pushed by value and twice by reference.
 fn takes<'x, T: Item + Copy, C: Storage + Push<T> + Push<&'x T> + PushRef<T>>(
     alloc: Global,
     item: &'x T,
@@ -77,7 +77,7 @@ fn takes<'x, T: Item + Copy, C: Storage + Push<T> + Push<&'x T> + PushRef<T>>(
     Some(column)
 }
 
-// A container that is loaded from bytes
+// Loads a container from bytes.
 fn loads<C: ContainerBytes + Storage>(alloc: Global, words: &[u64]) -> Option<C>
     requires { IsTrue (representable C.format) }
     ensures { IfSome result (λ c. IsSound C.format (C.content c)) }
@@ -97,7 +97,7 @@ fn loads<C: ContainerBytes + Storage>(alloc: Global, words: &[u64]) -> Option<C>
     }
 }
 
-// A view of bytes, which tests itself
+// Returns a view of bytes that passes its own test.
 fn views<'a, V: FromBytes<'a> + Check + Drop>(bytes: &'a [u8]) -> Option<V>
     requires { IsTrue (representable V.format) }
     ensures { IfSome result (λ v. IsSound V.format (V.content v)) }
@@ -114,7 +114,7 @@ fn views<'a, V: FromBytes<'a> + Check + Drop>(bytes: &'a [u8]) -> Option<V>
     }
 }
 
-// The first and the last row, where there is one
+// Returns the first and the last row, if there are any.
 fn ends<V: Index + Len>(view: &V) -> Option<(V::Ref, V::Ref)>
     requires { IsSound V.format (V.content view.now) }
 {
@@ -124,7 +124,7 @@ fn ends<V: Index + Len>(view: &V) -> Option<(V::Ref, V::Ref)>
     }
 }
 
-// The same, as values of another type
+// Returns the same as values of another type.
 fn ends_as<T: Item + Drop, V: IndexAs<T> + Len>(view: &V) -> Option<(T, T)>
     requires { IsSound V.format (V.content view.now) }
 {
@@ -143,7 +143,7 @@ fn as_value<T: Item, R: CopyAs<T>>(row: R) -> T
     row.copy_as()
 }
 
-// The last offset, where the offsets rise to `end`
+// Returns the last offset, if the offsets rise to `end`.
 fn rises<O: Offsets>(bounds: &O, end: u64) -> Option<u64>
     requires { IsSound O.format (O.content bounds.now) }
 {
@@ -155,7 +155,7 @@ fn rises<O: Offsets>(bounds: &O, end: u64) -> Option<u64>
     }
 }
 
-// Do the offsets in bytes rise to `end`?
+// Tests whether the offsets in bytes rise to `end`.
 fn rises_in<O: StoredOffsets>(bytes: &[u8], end: u64) -> bool
     requires { IsTrue (representable O.format) }
 {

@@ -25,13 +25,13 @@ type BesideView<'a> = (View<'a, u64>, ListsView<'a>);
 
 type Nested = Vecs<Lists, Vec<u64>>;
 
-// Three pairs, in two lists of two and one
+// Three pairs, in two lists of two and one.
 static LISTS: [u64; 12] = [32, 48, 72, 96, 2, 3, 1, 2, 3, 10, 20, 30];
 
-// The same lists, beside the numbers 7 and 8
+// The same lists, with the numbers 7 and 8 in another column.
 static BESIDE: [u64; 15] = [40, 56, 72, 96, 120, 7, 8, 2, 3, 1, 2, 3, 10, 20, 30];
 
-// A list of the second list, no list, and both lists
+// The second list, no list, and both lists, each as a list of lists.
 static NESTED: [u64; 19] = [
     40, 64, 88, 120, 152, 1, 1, 3, 1, 3, 4, 3, 1, 2, 3, 30, 10, 20, 30,
 ];
@@ -70,7 +70,7 @@ fn a_bound_past_the_values_is_refused(rt: HostRuntime) -> Result<(), Fail> {
             Err(StoreFault::Bounds(1))
         );
     }
-    // The values are a pair whose parts differ in length: the rule of the part comes before that of the lists.
+    // The values are a pair whose parts differ in length: the part's rule is checked before that of the lists.
     let values_differ = [32, 48, 72, 88, 2, 4, 1, 2, 3, 10, 20];
     equal!(rt; refusal::<Lists>(alloc, values_differ.as_slice())?, (10, 1));
     Ok(())

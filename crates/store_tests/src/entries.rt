@@ -1,17 +1,17 @@
-// What a refused push tells of the rows: at a nest of columns, from what the contract of `push` says of a refusal alone.
+// What a refused push says about the rows, for nested columns, from the contract of `push` alone.
 ghost use Rattle.std.specs.Prelude.{◌≡◌};
 ghost use Rattle.store_tests.specs.Entries.{entries_format, RefusedAreDenied};
 
 use columnar::primitive::offsets::Fixeds;
 use columnar::{Column, Options, Repeats, Strings, Vecs};
 
-// A number, three numbers each of which may be absent, and a text that is kept once where the one before is the same
+// A number, three optional numbers, and a text that is stored once if it repeats the previous one.
 type Entries = (
     Vec<u64>,
     (Vecs<Options<Vec<u32>>, Fixeds<3>>, Repeats<Strings>),
 );
 
-// The law of these columns: an entry that is refused by Length or Offset is denied together with the rows that stand.
+// The law of these columns: if an entry is refused with Length or Offset, it is denied together with the existing rows.
 #[tactic(auto, using(crate::specs::EntryLaws::entry_denied))]
 fn refused_entries_are_denied()
     ensures { RefusedAreDenied }

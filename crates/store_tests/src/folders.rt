@@ -1,5 +1,5 @@
-// Folders as trees, each node the bytes in it. A node that is read in place is a field of a struct, which knows that the
-// node is valid: a walk down then asks nothing, by `columnar`'s names alone.
+// Folders as trees; the value of a node is its number of bytes. A node that is read in place is a field of a struct,
+// which knows that the node is valid, so a walk down has no preconditions. Uses only `columnar`'s names.
 ghost use Rattle.columnar.specs.Format.{IsSound};
 ghost use Rattle.columnar.specs.NodeRefs.{ref_valid};
 ghost use Rattle.columnar.specs.Trees.{owned_trees, trees_format};
@@ -29,7 +29,7 @@ impl Folders {
         self.trees.push_tree(folder)
     }
 
-    // The bytes in the folder to which numbers of kids lead, from tree `index` on
+    // Returns the bytes of the folder at this path of child numbers, from tree `index` on.
     fn bytes_at(&self, index: usize, path: &[usize]) -> Option<u64> {
         let Some(node) = self.trees.borrow().get_checked(index) else {
             return None;
@@ -41,7 +41,7 @@ impl Folders {
     }
 }
 
-// A folder, read in place
+// A folder, read in place.
 #[derive(Drop)]
 struct Folder<V: Column + Copy, B: NodeBounds + Copy> {
     node: TreesRef<V, B>,

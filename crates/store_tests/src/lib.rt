@@ -1,5 +1,5 @@
-//! Tests of what crosses the crates, by `columnar`'s public calls alone: worked stores, columns at depth, and records of
-//! one's own. They stand here, so that `columnar` is proved once.
+//! Tests across crates, by `columnar`'s public calls: worked stores, nested columns, and your own records. They are a
+//! crate of their own, so that `columnar` is proved once.
 #![tactic(auto)]
 
 #[cfg(test)]

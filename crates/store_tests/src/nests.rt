@@ -1,5 +1,5 @@
-// A record with a number, a number that may be absent and a list of numbers: pushed and read back. The nest is named here
-// alone, as that of `records`.
+// A record with a number, an optional number and a list of numbers: pushed and read. Only this file names the nested
+// columns, as in `records`.
 ghost use Rattle.columnar_core.specs.Format.{IsSound, part, part_format};
 ghost use Rattle.columnar_bytes.specs.Stashes.{stash_content};
 
@@ -11,10 +11,10 @@ use std::alloc::Global;
 use std::test::Fail;
 use test_support::equal;
 
-// Whose, of how many years where that is known, and the marks, each in a column of its own
+// The owner, the age if known, and the marks, each in its own column.
 type Columns = (Vec<u64>, (Options<Vec<u32>>, Vecs<Vec<u16>>));
 
-// The marks of many
+// The marks of several persons.
 #[derive(Drop)]
 struct Marks {
     stash: Stash<Columns, Vec<u8>>,
@@ -28,7 +28,7 @@ impl Marks {
         }
     }
 
-    // Adds someone's marks, or nothing where memory is refused or there are too many
+    // Appends someone's marks; changes nothing if an allocation fails or there are too many.
     fn record<'v>(
         &mut self,
         whose: u64,
@@ -44,7 +44,7 @@ impl Marks {
         self.stash.len()
     }
 
-    // Whose the marks at `index` are, the years, and the first mark
+    // Returns the owner of the marks at `index`, the age, and the first mark.
     fn row(&self, index: usize) -> Option<(u64, Option<u32>, Option<u16>)> {
         let view = self.stash.borrow();
         if index >= view.len() {
@@ -55,7 +55,7 @@ impl Marks {
     }
 }
 
-// All rows of a view, as one row
+// Returns all rows of a view as one row.
 fn whole<V: Len + Copy>(view: V) -> Slice<V>
     requires { IsSound V.format (V.content view) }
     ensures { IsSound (part_format V.format) (part result.lower result.upper (V.content result.slice)) }
@@ -63,7 +63,7 @@ fn whole<V: Len + Copy>(view: V) -> Slice<V>
     Slice::new(0, view.len(), view)
 }
 
-// The first item of a list, where there is one
+// Returns the first item of a list, if there is one.
 fn first<V: Index + Copy>(list: Slice<V>) -> Option<V::Ref>
     requires { IsSound (part_format V.format) (part list.lower list.upper (V.content list.slice)) }
 {

@@ -1,4 +1,4 @@
-// Rows that may be absent: worked stores, columns at depth, and a run of commands.
+// Options: worked stores, nested columns, and a run of commands.
 use columnar::bytes::stash::{Command, Stash};
 use columnar::fault::StoreFault;
 use columnar::{Borrow, Len, Options, Push, Storage, Vecs};
@@ -31,7 +31,7 @@ fn some_and_none_are_written_and_opened(rt: HostRuntime) -> Result<(), Fail> {
     Ok(())
 }
 
-// The fault of words that are no column of optional numbers
+// Returns the fault of words that are not a column of optional numbers.
 fn fault(alloc: Global, words: &[u64]) -> Result<Option<StoreFault>, Fail> {
     let bytes = bytes_of(alloc, words)?;
     match Stash::<Numbers, Vec<u8>>::try_from_bytes(alloc, bytes) {

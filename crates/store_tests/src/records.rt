@@ -1,5 +1,5 @@
-// A record of one's own: a struct around a stash. The nest of columns is named here alone, so its proofs are paid once,
-// by the methods; who uses the record pays for no nest.
+// Your own record: a struct around a stash. Only this struct names the nested columns, so its methods are proved once,
+// and its users have no nested types.
 ghost use Rattle.std.specs.Prelude.{◌≡◌, ◌+◌};
 ghost use Rattle.columnar_core.specs.Format.{IsSound};
 ghost use Rattle.columnar_bytes.specs.Stashes.{stash_content};
@@ -11,10 +11,10 @@ use std::alloc::Global;
 use std::test::Fail;
 use test_support::equal;
 
-// When, who, how loud and how long, each in a column of its own
+// The time, the user, the level and the duration, each in its own column.
 type Columns = ((Vec<u64>, Vec<u32>), (Vec<u16>, Vec<u64>));
 
-// An event of a log
+// An event of a log.
 #[derive(Clone, Copy, Debug, PartialEq, Eq)]
 struct Event {
     time: u64,
@@ -37,7 +37,7 @@ impl Log {
         }
     }
 
-    // Adds an event, or none where memory is refused or there are too many
+    // Appends an event; changes nothing if an allocation fails or there are too many.
     fn record(&mut self, event: Event) -> Result<(), GrowError> {
         self.stash
             .push(((event.time, event.user), (event.level, event.size)))
@@ -47,7 +47,7 @@ impl Log {
         self.stash.len()
     }
 
-    // Event `index`, where there is one
+    // Returns event `index`, if there is one.
     fn event(&self, index: usize) -> Option<Event> {
         let view = self.stash.borrow();
         if index >= view.len() {

@@ -1,5 +1,5 @@
-// Whole stores that were worked by hand: lists of units over bounds that follow a stride, rows of arrays, and the rules that
-// no other test breaks.
+// Whole stores that were worked out by hand: lists of units with bounds that follow a stride, rows of arrays, and the
+// rules that no other test breaks.
 use columnar::bytes::indexed::validate;
 use columnar::bytes::stash::Stash;
 use columnar::primitive::offsets::{Fixeds, Strides};
@@ -13,7 +13,7 @@ use test_support::stashes::{opened, row_of, writes};
 use test_support::stores::{bytes_of, front, refusal};
 use test_support::{equal, holds};
 
-// Lists of units, bounded by offsets that follow a stride
+// Lists of units, with bounds that follow a stride.
 type Spans = Vecs<Empties, Strides>;
 
 // Lists of three units
@@ -24,7 +24,7 @@ static EMPTY_LISTS: [u64; 7] = [32, 48, 48, 56, 0, 1152921504606846976, 0];
 
 static LISTS_OF_ONE: [u64; 7] = [32, 48, 48, 56, 1, 1152921504606846976, 0];
 
-// How many rows the words have as the store of a type, where they are accepted
+// Counts the rows of words as the store of a type, if they are accepted.
 fn rows(alloc: Global, words: &[u64]) -> Option<usize> {
     let stash = opened::<Spans>(alloc, words)?;
     Some(stash.len())
@@ -47,7 +47,7 @@ fn lists_of_a_stride_of_nothing_are_empty(rt: HostRuntime) -> Result<(), Fail> {
     Ok(())
 }
 
-// How many lists the words have, and how many units the last of them, where they are accepted
+// Counts the lists of words, and the units of the last one, if they are accepted.
 fn threes(alloc: Global, words: &[u64]) -> Option<(usize, usize)> {
     let stash = opened::<Threes>(alloc, words)?;
     let list = row_of(&stash, 1)?;
@@ -127,7 +127,7 @@ fn a_store_has_a_table(rt: HostRuntime) -> Result<(), Fail> {
     Ok(())
 }
 
-// The number of the rule that the first bytes of words break as the store of optional numbers, and its slice
+// Returns the number of the rule that the first bytes of words break as the store of optional numbers, and its slice.
 fn refusal_of_front(alloc: Global, words: &[u64], len: usize) -> Result<(u8, usize), Error> {
     let bytes = bytes_of(alloc, words)?;
     Ok(

@@ -1,5 +1,5 @@
-// Whole stores of columns of values: written as the words that were worked by hand, opened and read, and refused where
-// they break a rule.
+// Whole stores of columns of values: written as the words worked out by hand, opened and read, and rejected if they
+// break a rule.
 use columnar::bytes::indexed::encode;
 use columnar::bytes::stash::Stash;
 use columnar::fault::GrowError;
@@ -75,7 +75,7 @@ fn a_half_character_is_refused(rt: HostRuntime) -> Result<(), Fail> {
         refusal::<Chars<Vec<u32>>>(alloc, half.as_slice())?,
         (14, 0)
     );
-    // The code before it is a character's.
+    // The code before it is that of a character.
     let stash = opened::<Chars<Vec<u32>>>(alloc, [16, 20, 55295].as_slice()).expect(&rt, "one");
     equal!(rt; row_of(&stash, 0), Some('\u{D7FF}'));
     Ok(())

@@ -1,4 +1,4 @@
-// Stores that were worked by hand, through the public paths.
+// Stores that were worked out by hand, through the public paths.
 use columnar::bytes::indexed::{
     DecodedStore, decode, decode_index, encode, length_in_bytes, length_in_words, validate,
     validate_structure, write,
@@ -21,7 +21,7 @@ static SEVEN: [u8; 24] = [
     16, 0, 0, 0, 0, 0, 0, 0, 24, 0, 0, 0, 0, 0, 0, 0, 7, 0, 0, 0, 0, 0, 0, 0,
 ];
 
-// The number of the rule that words break as a store of so many slices, and its slice; 0 where they break none
+// Returns the number of the rule that words break as a store of `slices` slices, and its slice; 0 if they break none.
 fn refusal_of_structure(
     alloc: Global,
     words: &[u64],

@@ -1,8 +1,7 @@
-//! What a test claims. Each claim is one call, where `assert!` and `assert_eq!` write a branch into the test itself: the
-//! proof of a test takes a time that grows with the square of its branches. The crate of the test has the calls, in a
-//! module `claims`.
+//! Claims in tests. Each claim is one call, whereas `assert!` and `assert_eq!` add a branch to the test, and proof time
+//! of a test grows with the square of its branches. The crate of the test defines the calls in a module `claims`.
 
-/// Claims that a condition holds; it is known to hold after the claim.
+/// Claims that a condition holds. The condition is known after the claim.
 #[macro_export]
 macro_rules! holds {
     ($rt:expr; $claim:expr $(,)?) => {

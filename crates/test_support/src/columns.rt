@@ -1,4 +1,4 @@
-//! Reads and changes of columns, each one a call.
+//! Reads and changes of columns, each as one call.
 ghost use Rattle.std.specs.Prelude.{◌≡◌, IfSome, length};
 ghost use Rattle.columnar_base.specs.Format.{IsSound, part, part_format};
 
@@ -7,7 +7,7 @@ use columnar_core::fault::GrowError;
 use columnar_core::slice::Slice;
 use columnar_core::traits::{Index, Item, Len, Push, PushRef};
 
-/// The number of rows of a container, through the bound.
+/// Counts the rows of a container, through its trait.
 pub fn count<'a, C: Container<'a>>(column: &'a C) -> usize
     requires { IsSound C.format (C.content column.now) }
     ensures { result ≡ length (C.format.rows (C.content column.now)) }
@@ -15,7 +15,7 @@ pub fn count<'a, C: Container<'a>>(column: &'a C) -> usize
     column.len()
 }
 
-/// Row `index`, where there is one.
+/// Returns row `index`, if there is one.
 pub fn row_at<V: Index + Len>(view: &V, index: usize) -> Option<V::Ref>
     requires { IsSound V.format (V.content view.now) }
     ensures { IfSome result V.Ref.valid }
@@ -23,7 +23,7 @@ pub fn row_at<V: Index + Len>(view: &V, index: usize) -> Option<V::Ref>
     view.get_checked(index)
 }
 
-/// Has a column, or a view, these rows, and no other?
+/// Tests whether a column or view has exactly these rows.
 pub fn reads<T: Item + PartialEq + Copy, V: Index<Ref = T> + Len>(view: &V, rows: &[T]) -> bool
     requires { IsSound V.format (V.content view.now) }
 {
@@ -35,7 +35,7 @@ pub fn reads<T: Item + PartialEq + Copy, V: Index<Ref = T> + Len>(view: &V, rows
     view.len() == rows.len()
 }
 
-/// Item `index` of a list, where there is one.
+/// Returns item `index` of a list, if there is one.
 pub fn item_of<V: Index + Copy>(list: Option<Slice<V>>, index: usize) -> Option<V::Ref>
     requires { IfSome list (λ s. IsSound (part_format V.format) (part s.lower s.upper (V.content s.slice))) }
     ensures { IfSome result V.Ref.valid }
@@ -43,7 +43,7 @@ pub fn item_of<V: Index + Copy>(list: Option<Slice<V>>, index: usize) -> Option<
     row_at(&list?, index)
 }
 
-/// Pushes an item; false where the push is refused.
+/// Pushes an item; returns false on an error.
 pub fn takes<T: Item, C: Push<T>>(column: &mut C, item: T) -> bool
     requires sound { IsSound C.format (C.content column.old) }
     requires valid { T.valid item }
@@ -52,7 +52,7 @@ pub fn takes<T: Item, C: Push<T>>(column: &mut C, item: T) -> bool
     column.push(item).is_ok()
 }
 
-/// The same of an item by reference.
+/// Pushes a referenced item; returns false on an error.
 pub fn takes_ref<T: Item, C: PushRef<T>>(column: &mut C, item: &T) -> bool
     requires sound { IsSound C.format (C.content column.old) }
     requires valid { T.valid item.now }
@@ -61,7 +61,7 @@ pub fn takes_ref<T: Item, C: PushRef<T>>(column: &mut C, item: &T) -> bool
     column.push_ref(item).is_ok()
 }
 
-/// Pushes the rows `lower..upper` of a view as one row; false where they are not there, or where the push is refused.
+/// Pushes the rows `lower..upper` of a view as one row; returns false if there are no such rows or the push fails.
 pub fn takes_rows<V: Len + Copy, C: Push<Slice<V>>>(
     column: &mut C,
     view: V,
@@ -75,7 +75,7 @@ pub fn takes_rows<V: Len + Copy, C: Push<Slice<V>>>(
     lower <= upper && upper <= view.len() && column.push(Slice::new(lower, upper, view)).is_ok()
 }
 
-/// Pushes ranges of a view's rows, each as one row, up to the first that is not taken; were all of them taken?
+/// Pushes ranges of a view's rows, each as one row, up to the first failure; returns whether all were pushed.
 pub fn takes_ranges<V: Len + Copy, C: Push<Slice<V>>>(
     column: &mut C,
     view: V,
@@ -93,8 +93,7 @@ pub fn takes_ranges<V: Len + Copy, C: Push<Slice<V>>>(
     true
 }
 
-/// Copies the rows `start..end` of a view after those of a column; false where they are not there, or where the copy is
-/// refused.
+/// Copies the rows `start..end` of a view; returns false if there are no such rows or the copy fails.
 pub fn copied<V: Len + Copy, C: ExtendFrom<V>>(
     column: &mut C,
     view: V,
@@ -108,7 +107,7 @@ pub fn copied<V: Len + Copy, C: ExtendFrom<V>>(
     start <= end && end <= view.len() && column.extend_from_self(view, start..end).is_ok()
 }
 
-/// Copies all rows of a view after those of a column.
+/// Copies all rows of a view.
 pub fn copy_all<V: Len + Copy, C: ExtendFrom<V>>(column: &mut C, view: V) -> Result<(), GrowError>
     requires sound { IsSound C.format (C.content column.old) }
     requires view_sound { IsSound V.format (V.content view) }
@@ -118,7 +117,7 @@ pub fn copy_all<V: Len + Copy, C: ExtendFrom<V>>(column: &mut C, view: V) -> Res
     column.extend_from_self(view, 0..n)
 }
 
-/// Cuts a column to its first `n` rows, where it has as many.
+/// Truncates a column to its first `n` rows, if it has that many.
 pub fn cut<C: Truncate>(column: &mut C, n: usize)
     requires { IsSound C.format (C.content column.old) }
     ensures { IsSound C.format (C.content column.new) }

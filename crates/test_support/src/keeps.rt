@@ -1,4 +1,4 @@
-//! Calls that take memory, with whatever request for it refused: each is done, or nothing has changed.
+//! Calls that allocate, whichever allocation fails: each succeeds, or changes nothing.
 ghost use Rattle.std.specs.Prelude.{All, IfSome, IsTrue};
 ghost use Rattle.columnar_base.specs.Format.{IsSound, representable};
 ghost use Rattle.columnar_bytes.specs.Stashes.{stash_content};
@@ -14,7 +14,7 @@ use columnar_core::traits::{Item, Len, Push, PushRef};
 use std::alloc::Global;
 use std::iter::once;
 
-/// A push is done, or refused and then done.
+/// Tests that a push succeeds, or fails without a change and then succeeds.
 pub fn push_keeps<T: Item + Copy, C: ContainerBytes + Storage + Push<T>>(
     stash: &mut Stash<C, Vec<u8>>,
     item: T,
@@ -39,7 +39,7 @@ pub fn push_keeps<T: Item + Copy, C: ContainerBytes + Storage + Push<T>>(
     variant(stash) == 0 && writes(stash, after)
 }
 
-/// The same of a push by reference.
+/// Tests the same for a push by reference.
 pub fn push_ref_keeps<T: Item, C: ContainerBytes + Storage + PushRef<T>>(
     stash: &mut Stash<C, Vec<u8>>,
     item: &T,
@@ -76,7 +76,7 @@ fn extend<T: Item + Copy, C: ContainerBytes + Storage + Push<T>>(
     stash.extend(once(item))
 }
 
-/// An extension is done, or stopped at the item that is refused, and then done.
+/// Tests that an extension succeeds, or stops at the item that failed and then succeeds.
 pub fn extension_keeps<T: Item + Copy, C: ContainerBytes + Storage + Push<T>>(
     stash: &mut Stash<C, Vec<u8>>,
     item: T,
@@ -101,7 +101,7 @@ pub fn extension_keeps<T: Item + Copy, C: ContainerBytes + Storage + Push<T>>(
     variant(stash) == 0 && writes(stash, after)
 }
 
-/// An item twice.
+/// Returns an item twice.
 pub fn twice<T: Item + Copy>(alloc: Global, item: T) -> Option<Vec<T>>
     requires { T.valid item }
     ensures { IfSome result (λ v. All T.valid v.items) }
@@ -112,8 +112,8 @@ pub fn twice<T: Item + Copy>(alloc: Global, item: T) -> Option<Vec<T>>
     Some(items)
 }
 
-/// Two items are pushed at once, or neither of them; the second is cut off again. Where the column can't hold both, they are
-/// refused for that.
+/// Tests that two items are pushed at once, or neither; removes the second again. If the column cannot hold both, the
+/// error must say so.
 pub fn slice_keeps<T: Item, C: ContainerBytes + Storage + PushRef<T>>(
     stash: &mut Stash<C, Vec<u8>>,
     items: &[T],
@@ -148,7 +148,7 @@ pub fn slice_keeps<T: Item, C: ContainerBytes + Storage + PushRef<T>>(
     }
 }
 
-/// A copy of the first rows of a view is done, or refused and then done.
+/// Tests that a copy of the first rows of a view succeeds, or fails without a change and then succeeds.
 pub fn copy_keeps<V: Len + Copy, C: ContainerBytes + Storage + ExtendFrom<V>>(
     stash: &mut Stash<C, Vec<u8>>,
     view: V,
@@ -180,7 +180,7 @@ pub fn copy_keeps<V: Len + Copy, C: ContainerBytes + Storage + ExtendFrom<V>>(
     variant(stash) == 0 && writes(stash, after)
 }
 
-/// The same of a copy whose range is tested, into a column.
+/// Tests the same for a copy with a range check, into a column.
 pub fn tested_copy_keeps<V: Len + Copy, C: ContainerBytes + Storage + ExtendFrom<V>>(
     stash: &mut Stash<C, Vec<u8>>,
     view: V,
@@ -204,7 +204,7 @@ pub fn tested_copy_keeps<V: Len + Copy, C: ContainerBytes + Storage + ExtendFrom
     }
 }
 
-/// Room for a view is made, or not; the rows stay.
+/// Tests that the rows stay the same, whether reserving space for a view succeeds or fails.
 pub fn room_keeps<V: Len + Copy, C: ContainerBytes + Storage + ExtendFrom<V>>(
     stash: &mut Stash<C, Vec<u8>>,
     view: V,
@@ -222,7 +222,7 @@ pub fn room_keeps<V: Len + Copy, C: ContainerBytes + Storage + ExtendFrom<V>>(
     kept && writes(stash, before)
 }
 
-/// An empty column with room for a view is made, or not.
+/// Tests that a column with space for a view is created empty, or not created.
 pub fn room_is_made_or_refused<V: Len + Copy, C: ContainerBytes + Storage + ExtendFrom<V>>(
     alloc: Global,
     view: V,
@@ -233,7 +233,7 @@ pub fn room_is_made_or_refused<V: Len + Copy, C: ContainerBytes + Storage + Exte
     }
 }
 
-/// A cut is done, or refused and then done.
+/// Tests that a truncation succeeds, or fails without a change and then succeeds.
 pub fn cut_keeps<C: ContainerBytes + Storage>(
     stash: &mut Stash<C, Vec<u8>>,
     count: usize,
@@ -260,7 +260,7 @@ pub fn cut_keeps<C: ContainerBytes + Storage>(
     variant(stash) == 0 && writes(stash, after)
 }
 
-/// What a stash is turned into has the same words, and the stash is as it was; so it is after a refusal.
+/// Tests that conversions of a stash have the same words, and that the stash stays the same, also after an error.
 pub fn turns_keep<C: ContainerBytes + Storage>(
     alloc: Global,
     stash: &Stash<C, Vec<u8>>,
@@ -281,8 +281,8 @@ pub fn turns_keep<C: ContainerBytes + Storage>(
     typed && aligned && variant(stash) == held && writes(stash, words)
 }
 
-/// A clone and a duplicate are of the same variant and have the same words, and the stash is as it was; so it is after a
-/// refusal.
+/// Tests that a clone and a duplicate have the same variant and the same words, and that the stash stays the same, also
+/// after an error.
 pub fn clones_keep<C: ContainerBytes + Storage + Clone>(
     alloc: Global,
     stash: &Stash<C, Vec<u8>>,
@@ -302,7 +302,7 @@ pub fn clones_keep<C: ContainerBytes + Storage + Clone>(
     cloned && same && variant(stash) == held && writes(stash, words)
 }
 
-/// The bytes are aligned in place, or the stash is as it was.
+/// Tests that the bytes are aligned in place, or the stash stays the same.
 pub fn aligning_keeps<C: ContainerBytes + Storage>(
     alloc: Global,
     stash: &mut Stash<C, Vec<u8>>,
@@ -321,7 +321,7 @@ pub fn aligning_keeps<C: ContainerBytes + Storage>(
     kept && writes(stash, words)
 }
 
-/// The bytes are loaded in place, or the stash is as it was.
+/// Tests that the bytes are loaded in place, or the stash stays the same.
 pub fn loading_keeps<C: ContainerBytes + Drop>(stash: &mut Stash<C, Vec<u8>>, words: &[u64]) -> bool
     requires { IsTrue (representable C.format) }
 {
@@ -334,7 +334,7 @@ pub fn loading_keeps<C: ContainerBytes + Drop>(stash: &mut Stash<C, Vec<u8>>, wo
     kept && writes(stash, words)
 }
 
-/// The words of a column are appended, or the store is as it was.
+/// Tests that the words of a column are appended, or the store stays the same.
 pub fn encoding_keeps<'a, S: AsBytes<'a>>(alloc: Global, item: &S, words: &[u64]) -> bool
     requires { IsTrue (representable S.format) }
 {
@@ -349,12 +349,12 @@ pub fn encoding_keeps<'a, S: AsBytes<'a>>(alloc: Global, item: &S, words: &[u64]
     }
 }
 
-/// The words after the first two.
+/// Returns the words after the first two.
 pub fn after_two(words: &[u64]) -> &[u64] {
     if words.len() >= 2 { &words[2..] } else { words }
 }
 
-/// The sizes of a type's elements, 8 each, are appended, or the vector is as it was.
+/// Tests that the element sizes of a type, 8 each, are appended, or the vector stays the same.
 pub fn sizes_keep<C: Stored>(sizes: &mut Vec<usize>) -> bool
     requires { IsTrue (representable C.format) }
 {

@@ -1,6 +1,6 @@
-//! What the crates of tests share: calls that are proved once for all containers, stores that are written as words,
-//! writers, and the macros by which a test claims. Each call asks what the calls that it makes ask, and keeps a column
-//! well formed; what they answer is for the tests to compare.
+//! Shared code of the test crates: calls that are proved once for all containers, stores written as words, writers, and
+//! macros for claims. Each call has the preconditions of the calls it makes, and keeps a column well-formed; the tests
+//! compare the results.
 #![tactic(auto)]
 
 pub mod claims;

@@ -1,4 +1,4 @@
-//! Runs of commands on stashes that begin without rows.
+//! Runs of commands on stashes that start without rows.
 ghost use Rattle.std.specs.Prelude.{All, IsTrue};
 ghost use Rattle.columnar_base.specs.Format.{IsSound, representable};
 ghost use Rattle.columnar_bytes.specs.Machine.{IsValid};
@@ -10,13 +10,13 @@ use columnar_core::fault::GrowError;
 use columnar_core::traits::{Item, Len, PushRef};
 use std::alloc::Global;
 
-/// A command that was done.
+/// The reply to a command that succeeded.
 pub const DONE: Reply = Reply::Done;
 
-/// Rows that are not there.
+/// The reply for rows that do not exist.
 pub const RANGE: Reply = Reply::Refused(Refusal::Range);
 
-/// The replies to commands, the variant that the stash then is of, and whether it then writes these words.
+/// Returns the replies to commands, the variant of the stash afterwards, and whether it then writes these words.
 pub fn ran<T: Item, V: Len + Copy, C: ContainerBytes + Storage + PushRef<T> + ExtendFrom<V>>(
     alloc: Global,
     source: V,
@@ -31,7 +31,7 @@ pub fn ran<T: Item, V: Len + Copy, C: ContainerBytes + Storage + PushRef<T> + Ex
     Ok((replies?, variant(&stash), writes(&stash, words)))
 }
 
-/// Are all commands done, from no rows on, and does the stash then write these words?
+/// Tests whether all commands succeed from an empty stash, and whether it then writes these words.
 pub fn all_done<T: Item, V: Len + Copy, C: ContainerBytes + Storage + PushRef<T> + ExtendFrom<V>>(
     alloc: Global,
     source: V,

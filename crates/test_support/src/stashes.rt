@@ -1,4 +1,4 @@
-//! Stashes: opened, written, read.
+//! Stashes: opening, writing, reading.
 ghost use Rattle.std.specs.Prelude.{◌≡◌, IfSome, IsTrue};
 ghost use Rattle.columnar_base.specs.Format.{IsSound, representable};
 ghost use Rattle.columnar_bytes.specs.Stashes.{stash_content, variant_of, bytes};
@@ -12,7 +12,7 @@ use columnar_core::container::{Borrow, ContainerBytes};
 use columnar_core::traits::{Item, Len};
 use std::alloc::Global;
 
-/// The stash of words that are accepted, where they are.
+/// Opens words as a stash, if they are accepted.
 pub fn opened<C: Stored>(alloc: Global, words: &[u64]) -> Option<Stash<C, Vec<u8>>>
     requires { IsTrue (representable C.format) }
     ensures sound { IfSome result (λ s. IsSound C.format (stash_content s)) }
@@ -22,7 +22,7 @@ pub fn opened<C: Stored>(alloc: Global, words: &[u64]) -> Option<Stash<C, Vec<u8
     Stash::try_from_bytes(alloc, bytes).ok()
 }
 
-/// What a stash writes, opened, where it is written.
+/// Opens the words that a stash writes, if it can be written.
 pub fn reopened<C: ContainerBytes, B: ByteStore>(
     alloc: Global,
     stash: &Stash<C, B>,
@@ -36,7 +36,7 @@ pub fn reopened<C: ContainerBytes, B: ByteStore>(
     Stash::try_from_bytes(alloc, bytes).ok()
 }
 
-/// Row `index` of a stash, where there is one.
+/// Returns row `index` of a stash, if there is one.
 pub fn row_of<'a, C: Stored + Borrow<'a, Borrowed: FromBytes<'a>>, B: ByteStore>(
     stash: &'a Stash<C, B>,
     index: usize,
@@ -48,7 +48,7 @@ pub fn row_of<'a, C: Stored + Borrow<'a, Borrowed: FromBytes<'a>>, B: ByteStore>
     row_at(&view, index)
 }
 
-/// Does a stash write these words?
+/// Tests whether a stash writes these words.
 pub fn writes<C: ContainerBytes, B: ByteStore>(stash: &Stash<C, B>, words: &[u64]) -> bool
     requires { IsTrue (representable C.format) }
 {
@@ -56,7 +56,7 @@ pub fn writes<C: ContainerBytes, B: ByteStore>(stash: &Stash<C, B>, words: &[u64
     stash.write_bytes(&mut comparing).is_ok() && comparing.is_same()
 }
 
-/// Is the stash a column (0), opened bytes (1) or aligned bytes (2)?
+/// Returns the variant: 0 a column, 1 opened bytes, 2 aligned bytes.
 pub fn variant<C: Stored, B: ByteStore>(stash: &Stash<C, B>) -> u8 {
     match stash {
         Stash::Typed(_) => 0,
@@ -65,7 +65,7 @@ pub fn variant<C: Stored, B: ByteStore>(stash: &Stash<C, B>) -> u8 {
     }
 }
 
-/// Has a stash these rows, and no other?
+/// Tests whether a stash has exactly these rows.
 pub fn has<'a, T, C: Stored + Len + Borrow<'a, Ref = T, Borrowed: FromBytes<'a>>, B: ByteStore>(
     stash: &'a Stash<C, B>,
     rows: &[T],

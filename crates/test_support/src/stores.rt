@@ -1,4 +1,4 @@
-//! Stores that are written as words.
+//! Stores written as words.
 ghost use Rattle.std.specs.Prelude.{IsTrue};
 ghost use Rattle.columnar_base.specs.Format.{representable};
 
@@ -12,7 +12,7 @@ use columnar_core::owned::Owned;
 use std::alloc::Global;
 use std::io::Error;
 
-/// The bytes of words, each lowest first.
+/// Returns the bytes of words, little-endian.
 pub fn bytes_of(alloc: Global, words: &[u64]) -> Result<Vec<u8>, Error> {
     let mut bytes = Vec::new(alloc);
     match ByteSlice::of_words(words).write(&mut bytes) {
@@ -21,8 +21,8 @@ pub fn bytes_of(alloc: Global, words: &[u64]) -> Result<Vec<u8>, Error> {
     }
 }
 
-/// The number of the rule that words break as the store of a type, and its slice; 0 where they break none. What a stash
-/// says of them has to be the same, or the answer is 99.
+/// Returns the number of the first rule that words break as a store of a type, and its slice; 0 if they break none.
+/// Returns 99 if a stash reports anything else about them.
 pub fn refusal<C: Stored + Drop>(alloc: Global, words: &[u64]) -> Result<(u8, usize), Error>
     requires { IsTrue (representable C.format) }
 {
@@ -38,7 +38,7 @@ pub fn refusal<C: Stored + Drop>(alloc: Global, words: &[u64]) -> Result<(u8, us
     }
 }
 
-/// The first items.
+/// Returns the first items.
 pub fn front<T>(items: &[T], len: usize) -> &[T] {
     if len <= items.len() {
         &items[..len]
@@ -47,7 +47,7 @@ pub fn front<T>(items: &[T], len: usize) -> &[T] {
     }
 }
 
-/// Are these the words of a column's store?
+/// Tests whether these are the words of a column's store.
 pub fn is_written<C: ContainerBytes>(column: &C, words: &[u64]) -> bool
     requires { IsTrue (representable C.format) }
 {

@@ -1,4 +1,4 @@
-//! All of them over one column, given the words that it has and those that it comes to have.
+//! All calls on one column, given its words before and after each call.
 ghost use Rattle.std.specs.Prelude.{All, IsTrue};
 ghost use Rattle.columnar_base.specs.Format.{IsSound, representable};
 ghost use Rattle.columnar_bytes.specs.Stashes.{stash_content};
@@ -19,22 +19,22 @@ use columnar_core::fault::{EncodeError, GrowError};
 use columnar_core::traits::{Item, Len, Push, PushRef};
 use std::alloc::Global;
 
-/// The words of a column and of what it becomes in the calls of a test.
+/// The words of a column before and after the calls of a test.
 #[derive(Drop)]
 pub struct Trial<'a> {
-    /// The words of the column, and how many rows it has.
+    /// The words of the column, and its number of rows.
     pub before: &'a [u64],
     pub rows: usize,
-    /// The words with one item more.
+    /// The words with one more item.
     pub after: &'a [u64],
-    /// The words of the source, how many of its rows are copied, into which words, and what these become.
+    /// The words of the source, how many of its rows are copied, the words of the target, and those after the copy.
     pub source: &'a [u64],
     pub taken: usize,
     pub into: &'a [u64],
     pub with_taken: &'a [u64],
 }
 
-/// Pushes to bytes and to a column.
+/// Tests pushes to bytes and to a column.
 pub fn both_pushes_keep<T: Item + Copy, C: ContainerBytes + Storage + Push<T>>(
     alloc: Global,
     item: T,
@@ -53,7 +53,7 @@ pub fn both_pushes_keep<T: Item + Copy, C: ContainerBytes + Storage + Push<T>>(
         && push_keeps(&mut typed, item, trial.before, trial.after)
 }
 
-/// Pushes of an item by value and by reference, to bytes and to a column.
+/// Tests pushes of an item by value and by reference, to bytes and to a column.
 pub fn pushes_keep<
     'a,
     T: Item + Copy,
@@ -75,7 +75,7 @@ pub fn pushes_keep<
         && pushes_of_many_keep::<T, C>(alloc, *item, trial)
 }
 
-/// Extensions of bytes and of a column, and pushes of slices to both.
+/// Tests extensions of bytes and of a column, and pushes of slices to both.
 pub fn pushes_of_many_keep<T: Item + Copy, C: ContainerBytes + Storage + Push<T> + PushRef<T>>(
     alloc: Global,
     item: T,
@@ -105,7 +105,7 @@ pub fn pushes_of_many_keep<T: Item + Copy, C: ContainerBytes + Storage + Push<T>
         && slice_keeps(&mut bytes, items.as_slice(), trial.before, trial.after)
 }
 
-/// Copies of rows, and room for them: in bytes, in a column and in an empty one.
+/// Tests copies of rows, and reserving space for them: in bytes, in a column and in an empty column.
 pub fn copies_keep<V: Len + Copy, C: ContainerBytes + Storage + ExtendFrom<V>>(
     alloc: Global,
     source: V,
@@ -152,7 +152,7 @@ pub fn copies_keep<V: Len + Copy, C: ContainerBytes + Storage + ExtendFrom<V>>(
         )
 }
 
-/// Bytes and a column are loaded, copied, aligned, cloned and cut.
+/// Tests loading, copying, aligning, cloning and truncating of bytes and of a column.
 pub fn turns_and_clones_keep<C: ContainerBytes + Storage + Clone>(
     alloc: Global,
     trial: &Trial<'_>,
@@ -178,7 +178,7 @@ pub fn turns_and_clones_keep<C: ContainerBytes + Storage + Clone>(
         && cut_keeps(&mut stash, trial.rows, words, trial.before)
 }
 
-/// Do the words break a rule, where there is memory to test it?
+/// Tests whether the words break a rule, if there is memory for the test.
 pub fn is_refused<C: ContainerBytes + Storage>(alloc: Global, words: &[u64]) -> bool
     requires { IsTrue (representable C.format) }
 {
@@ -188,7 +188,7 @@ pub fn is_refused<C: ContainerBytes + Storage>(alloc: Global, words: &[u64]) -> 
     }
 }
 
-/// Is no store of the test refused? Else it would end before the calls that it tests.
+/// Tests that no store of the test is rejected; otherwise the test would end before the calls under test.
 pub fn is_lawful<C: ContainerBytes + Storage>(alloc: Global, trial: &Trial<'_>) -> bool
     requires { IsTrue (representable C.format) }
 {
@@ -198,7 +198,7 @@ pub fn is_lawful<C: ContainerBytes + Storage>(alloc: Global, trial: &Trial<'_>) 
         && !is_refused::<C>(alloc, trial.into)
 }
 
-/// Each call that takes memory, but the pushes.
+/// Tests every call that allocates, except pushes.
 pub fn calls_keep<
     'v,
     V: AsBytes<'v> + Len + Copy,
@@ -213,7 +213,7 @@ pub fn calls_keep<
         && encoding_keeps(alloc, &source, trial.source)
 }
 
-/// The sizes of a type's elements are appended to a vector without room, and to one with room for one of them.
+/// Tests that the element sizes of a type are appended to a vector without capacity, and to one with capacity for one.
 pub fn both_sizes_keep<C: Stored>(alloc: Global) -> bool
     requires { IsTrue (representable C.format) }
 {
@@ -224,8 +224,8 @@ pub fn both_sizes_keep<C: Stored>(alloc: Global) -> bool
     sizes_keep::<C>(&mut sizes) && sizes_keep::<C>(&mut room)
 }
 
-/// Each call that takes memory, but the pushes: copies are made out of a stash that is kept in `source`. No store of the
-/// trial is refused.
+/// Tests every call that allocates, except pushes. Copies are made from a stash stored in `source`. No store of the
+/// trial is rejected.
 pub fn copies_and_turns_keep<'a, C>(
     alloc: Global,
     source: &'a mut Option<Stash<C, Vec<u8>>>,
@@ -249,7 +249,8 @@ where
     }
 }
 
-/// Each call that takes memory: those that copy or make a column, and pushes of an item by value and by reference.
+/// Tests every call that allocates: those that copy or create a column, and pushes of an item by value and by
+/// reference.
 pub fn each_call_keeps<'a, T: Item + Copy, C>(
     alloc: Global,
     item: &'a T,
@@ -271,7 +272,7 @@ where
     copies_and_turns_keep(alloc, source, trial) && pushes_keep::<T, C>(alloc, item, trial)
 }
 
-/// A run of one command does it, or tells that memory was refused; the stash is as it was then.
+/// Tests that a run of one command executes it, or reports an allocation failure and leaves the stash the same.
 pub fn run_keeps<T: Item, V: Len + Copy, C: ContainerBytes + Storage + PushRef<T> + ExtendFrom<V>>(
     alloc: Global,
     stash: Stash<C, Vec<u8>>,

@@ -1,7 +1,7 @@
-//! Writers that compare what they are given, or take little of it.
+//! Writers that compare their input, or accept little of it.
 use std::io::{Error, ErrorKind, Result, Write};
 
-/// Compares what it is given with the bytes of words; takes no memory.
+/// Compares its input with the bytes of words. Allocates nothing.
 #[derive(Drop)]
 pub struct Comparing<'a> {
     words: &'a [u64],
@@ -10,7 +10,7 @@ pub struct Comparing<'a> {
 }
 
 impl<'a> Comparing<'a> {
-    /// One that was given nothing yet.
+    /// Creates a writer without input so far.
     pub fn new(words: &'a [u64]) -> Self {
         Comparing {
             words,
@@ -19,7 +19,7 @@ impl<'a> Comparing<'a> {
         }
     }
 
-    /// Was it given all of the words, and nothing else?
+    /// Tests whether the input was exactly the words.
     pub fn is_same(&self) -> bool {
         self.same && self.taken % 8 == 0 && self.taken / 8 == self.words.len()
     }
@@ -44,14 +44,14 @@ impl<'a> Write for Comparing<'a> {
     }
 }
 
-/// Takes at most one byte a call. Once `limit` bytes are taken it fails, or takes nothing more where it has no fault.
+/// Accepts at most one byte per call. After `limit` bytes it fails, or accepts nothing more if `kind` is `None`.
 #[derive(Drop)]
 pub struct Slow {
-    /// What it has taken.
+    /// The bytes it has accepted.
     pub taken: Vec<u8>,
-    /// How many bytes it takes.
+    /// How many bytes it accepts.
     pub limit: usize,
-    /// How it fails then.
+    /// The error it returns then.
     pub kind: Option<ErrorKind>,
 }
 

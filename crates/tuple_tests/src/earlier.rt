@@ -1,4 +1,4 @@
-// Tuples that are made of their earlier form.
+// Tuples that are made from their earlier form.
 use super::worked::{One, Ten, Three, Two};
 use columnar_core::container::Storage;
 use columnar_core::earlier::Earlier;
@@ -7,7 +7,7 @@ use std::alloc::Global;
 use test_support::columns::takes;
 use test_support::holds;
 
-// Has the tuple that is made of its earlier form, with this row twice, both rows?
+// Tests whether the tuple that is made from its earlier form, with this row twice, has both rows.
 fn is_made_of_two<T: Item + Copy, C: Earlier<Old: Storage + Push<T>> + Len + Drop>(
     alloc: Global,
     row: T,

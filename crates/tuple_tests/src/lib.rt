@@ -1,5 +1,5 @@
-//! Tests of tuples of columns, by their public calls alone. They stand here and not in the crates of tuples, since a crate
-//! with tests is proved twice: once without them, and once with them.
+//! Tests of tuples of columns, by their public calls. They are not in the crates of tuples, since a crate with tests is
+//! proved twice: without them and with them.
 #![tactic(auto)]
 
 #[cfg(test)]

@@ -1,4 +1,4 @@
-// Worked stores, and which rule others break at which slice.
+// Worked stores, and the rules that others break, with their slices.
 ghost use Rattle.std.specs.Prelude.{IsTrue};
 ghost use Rattle.columnar_core.specs.Format.{representable};
 
@@ -12,30 +12,30 @@ use test_support::stores::refusal;
 // Two columns of two rows and of one
 static UNEVEN_PAIR: [u64; 6] = [24, 32, 48, 1, 2, 3];
 
-// Three columns, the third of which is shorter
+// Three columns; the third is shorter.
 static SHORT_THIRD: [u64; 9] = [32, 48, 64, 72, 1, 2, 3, 4, 5];
 
-// Three columns, the last of which is longer
+// Three columns; the last is longer.
 static LONG_LAST_OF_THREE: [u64; 8] = [32, 40, 48, 64, 1, 2, 3, 4];
 
-// Six columns, the last of which is longer
+// Six columns; the last is longer.
 static LONG_LAST_OF_SIX: [u64; 14] = [56, 64, 72, 80, 88, 96, 112, 1, 2, 3, 4, 5, 6, 7];
 
-// Ten columns, the last of which is longer
+// Ten columns; the last is longer.
 static LONG_LAST_OF_TEN: [u64; 22] = [
     88, 96, 104, 112, 120, 128, 136, 144, 152, 160, 176, 1, 2, 3, 4, 5, 6, 7, 8, 9, 10, 11,
 ];
 
-// Three columns, of which the second ends amid an element
+// Three columns; the second ends within an element.
 static BROKEN_SECOND: [u64; 8] = [32, 40, 52, 64, 1, 2, 3, 4];
 
-// Three columns, of which the second is a pair whose parts are of one row and of two
+// Three columns; the second is a pair whose parts have one row and two.
 static UNEVEN_SECOND: [u64; 10] = [40, 48, 56, 72, 80, 1, 2, 3, 4, 5];
 
-// A store, and the rule that it breaks and at which slice; both are 0 where it is accepted
+// A store, the rule that it breaks, and the slice; both are 0 if it is accepted.
 type Case<'a> = (&'a [u64], (u8, usize));
 
-// Claims how many slices the type has, and how each store of it is judged: one call at each tuple.
+// Claims the number of slices of the type, and the verdict on each store: one call for each tuple.
 fn judged<C: Stored + Drop, R: Abort>(rt: &R, alloc: Global, slices: usize, cases: &[Case<'_>])
     requires { IsTrue (representable C.format) }
 {

@@ -1,4 +1,4 @@
-// Each call once, at tuples of one, two, three, seven and ten columns.
+// Each call once, for tuples of one, two, three, seven and ten columns.
 ghost use Rattle.std.specs.Prelude.{◌≡◌, IsTrue};
 ghost use Rattle.columnar_core.specs.Format.{IsSound, representable};
 
@@ -13,14 +13,14 @@ use std::test::Fail;
 use test_support::stashes::{opened, row_of};
 use test_support::{equal, holds};
 
-// A column that is well formed
+// A well-formed column.
 #[derive(Drop)]
 struct Held<C: Column> {
     column: C,
     ghost sound: { IsSound C.format (C.content column) },
 }
 
-// One of the one row, that was pushed twice, copied, cleared and cut; none where a call is refused
+// Creates a column of one row, which was pushed twice, copied, cleared and truncated; none if a call fails.
 fn grown<T: Item + Copy, C: Storage + Reserve + Push<T> + PushRef<T>>(
     alloc: Global,
     row: T,
@@ -40,8 +40,8 @@ fn grown<T: Item + Copy, C: Storage + Reserve + Push<T> + PushRef<T>>(
     Some(Held { column })
 }
 
-// A copy of all rows, through the view; none where a call is refused
-fn copied<'a, C: Borrow<'a> + ExtendFrom<<C as Borrow<'a>>::Borrowed>>(
+// Copies all rows through the view; none if a call fails.
+fn copied<'a, C: Storage + Borrow<'a> + ExtendFrom<<C as Borrow<'a>>::Borrowed>>(
     alloc: Global,
     held: &'a Held<C>,
 ) -> Option<Held<C>> {
@@ -53,7 +53,7 @@ fn copied<'a, C: Borrow<'a> + ExtendFrom<<C as Borrow<'a>>::Borrowed>>(
     Some(Held { column })
 }
 
-// Is the view of a column written as these words?
+// Tests whether the view of a column is written as these words.
 fn lends<'a, C: Borrow<'a, Borrowed: AsBytes<'a> + Check>>(
     alloc: Global,
     held: &'a Held<C>,
@@ -64,11 +64,13 @@ fn lends<'a, C: Borrow<'a, Borrowed: AsBytes<'a> + Check>>(
     is_written(alloc, &held.column.borrow(), words)
 }
 
-// Is a column of the one row, grown and then copied, written as these words? What is borrowed stands in `column` and `copy`.
+// Tests whether a column of one row, grown and then copied, is written as these words. `column` and `copy` own what is
+// borrowed.
 fn grows_and_copies<
     'a,
     T: Item + Copy,
-    C: Borrow<'a, Borrowed: AsBytes<'a> + Check>
+    C: Storage
+        + Borrow<'a, Borrowed: AsBytes<'a> + Check>
         + ExtendFrom<<C as Borrow<'a>>::Borrowed>
         + Push<T>
         + PushRef<T>,
@@ -93,7 +95,7 @@ fn grows_and_copies<
     }
 }
 
-// The row of one row's words, which are opened in `stash`
+// Returns the row of one row's words, which are opened in `stash`.
 fn row_of_one<'a, C: Stored + Drop + Borrow<'a, Borrowed: FromBytes<'a>>>(
     alloc: Global,
     stash: &'a mut Option<Stash<C, Vec<u8>>>,

@@ -1,4 +1,4 @@
-// Tuples of one to ten columns of numbers, and the words of such with few rows.
+// Tuples of one to ten columns of numbers, and the words of tuples with few rows.
 ghost use Rattle.std.specs.Prelude.{IsTrue};
 ghost use Rattle.columnar_core.specs.Format.{representable};
 
@@ -37,24 +37,24 @@ pub type Ten = (
     Vec<u64>,
 );
 
-// One column with the one row 1
+// One column with the row 1.
 pub static ONE: [u64; 3] = [16, 24, 1];
 
-// Two columns with the one row 1, 2
+// Two columns with the row 1, 2.
 pub static TWO: [u64; 5] = [24, 32, 40, 1, 2];
 
-// Three columns with the one row 1, 2, 3
+// Three columns with the row 1, 2, 3.
 pub static THREE: [u64; 7] = [32, 40, 48, 56, 1, 2, 3];
 
-// Seven columns with the one row 1 to 7
+// Seven columns with the row 1 to 7.
 pub static SEVEN: [u64; 15] = [64, 72, 80, 88, 96, 104, 112, 120, 1, 2, 3, 4, 5, 6, 7];
 
-// Ten columns with the one row 0 to 9
+// Ten columns with the row 0 to 9.
 pub static TEN: [u64; 21] = [
     88, 96, 104, 112, 120, 128, 136, 144, 152, 160, 168, 0, 1, 2, 3, 4, 5, 6, 7, 8, 9,
 ];
 
-// Does a view pass its own test, and is it written as these words?
+// Tests whether a view passes its own test, and is written as these words.
 pub fn is_written<'a, V: AsBytes<'a> + Check>(alloc: Global, view: &V, words: &[u64]) -> bool
     requires { IsTrue (representable V.format) }
 {

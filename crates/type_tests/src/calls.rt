@@ -1,4 +1,4 @@
-//! What the tests do with a type, each by one call.
+//! Operations of the tests on a type, each as one call.
 ghost use Rattle.std.specs.Prelude.{All, IsTrue};
 ghost use Rattle.columnar.specs.Format.{representable};
 
@@ -10,7 +10,7 @@ use columnar::{
 };
 use std::alloc::Global;
 
-/// Are the items, as a column, these words?
+/// Tests whether the items, as a column, have these words.
 pub fn are_words<T: Columnar>(alloc: Global, items: &[T], words: &[u64]) -> bool
 where
     T::Container: ContainerBytes + Storage + PushRef<T>,
@@ -36,7 +36,7 @@ where
     bytes.as_slice() == wanted.as_slice()
 }
 
-/// Do the items come back from a column of them? The slot keeps the column.
+/// Tests whether the items can be read from a column of them. `slot` owns the column.
 pub fn come_back<'a, T: FromRow<Ref<'a, T>> + PartialEq>(
     alloc: Global,
     slot: &'a mut Option<ContainerOf<T>>,
@@ -49,18 +49,18 @@ where
     come_back_or_lack_memory(alloc, slot, items) == Outcome::Same
 }
 
-/// What became of items that were made a column and were to come back.
+/// The outcome of converting items to a column and reading them again.
 #[derive(Clone, Copy, Debug, PartialEq, Eq)]
 pub enum Outcome {
-    /// The same items came back.
+    /// The same items were read.
     Same,
-    /// Others did, or the refusal was none for want of memory.
+    /// Other items were read, or an error other than an allocation failure occurred.
     Other,
-    /// Memory was refused.
+    /// An allocation failed.
     NoMemory,
 }
 
-/// As `come_back`, where memory may be refused.
+/// Does the same as `come_back`, for tests in which an allocation may fail.
 pub fn come_back_or_lack_memory<'a, T: FromRow<Ref<'a, T>> + PartialEq>(
     alloc: Global,
     slot: &'a mut Option<ContainerOf<T>>,
@@ -95,7 +95,7 @@ where
     }
 }
 
-/// Are numbers that come one by one, lent and given up, the columns of these?
+/// Tests whether numbers from an iterator, by reference and by value, become the columns of these numbers.
 pub fn are_made_by_each(alloc: Global, items: &[u64]) -> bool {
     let Ok(lent) = u64::as_columns(alloc, items.iter()) else {
         return false;
@@ -109,7 +109,7 @@ pub fn are_made_by_each(alloc: Global, items: &[u64]) -> bool {
     lent.as_slice() == items && given.as_slice() == items
 }
 
-/// Why a row has no value of the type, if it has none
+/// Returns why a row has no value of the type, if it has none.
 pub fn refusal_of<R: Item, T: FromRow<R>>(alloc: Global, row: R) -> Option<OwnError>
     requires { R.valid row }
 {
@@ -119,7 +119,7 @@ pub fn refusal_of<R: Item, T: FromRow<R>>(alloc: Global, row: R) -> Option<OwnEr
     }
 }
 
-/// Has the column of a type bytes, and does it take values of the type by reference?
+/// Tests whether the column of a type has bytes, and accepts values of the type by reference.
 pub fn is_columnar<T: Columnar>() -> bool
 where
     T::Container: ContainerBytes + PushRef<T>,
@@ -127,12 +127,12 @@ where
     true
 }
 
-/// Are these the names of the type's slices, each with a space after it?
+/// Tests whether these are the names of the type's slices, each followed by a space.
 pub fn has_names<C: SliceNames>(alloc: Global, expected: &str) -> bool {
     names_or_lack_memory::<C>(alloc, expected) == Outcome::Same
 }
 
-/// As `has_names`, where memory may be refused.
+/// Does the same as `has_names`, for tests in which an allocation may fail.
 pub fn names_or_lack_memory<C: SliceNames>(alloc: Global, expected: &str) -> Outcome {
     let names = match C::slice_names(alloc) {
         Ok(names) => names,

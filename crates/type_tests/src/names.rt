@@ -47,7 +47,7 @@ fn the_column_of_a_nest_has_names(rt: HostRuntime) -> Result<(), Fail> {
     Ok(())
 }
 
-// A user and tags, or no event
+// A user and tags, or no event.
 pub struct Event;
 
 impl PartNames for Event {

@@ -1,4 +1,4 @@
-// Values that come back from columns, and rows that have no value.
+// Values that are read from columns, and rows that have no value.
 use crate::calls::{are_made_by_each, come_back, refusal_of};
 use columnar::Columnar;
 use columnar::common::{Slice, View};

@@ -1,4 +1,4 @@
-// Types as columns with a request for memory refused, or none: what was asked is done, or Memory is answered.
+// Types as columns with one failed allocation, or none: each call succeeds, or returns `Memory`.
 use crate::calls::{Outcome, come_back_or_lack_memory, names_or_lack_memory};
 use crate::names::Event;
 use columnar::adts::tree::Trees;
@@ -31,7 +31,7 @@ fn two_records(alloc: Global) -> Result<Vec<Record>, AllocError> {
 #[test]
 fn records_come_back_or_lack_memory(rt: HostRuntime) {
     let alloc = rt.alloc();
-    // without memory for the records there is nothing to ask
+    // without memory for the records there is nothing to test
     if let Ok(records) = two_records(alloc) {
         let outcome = come_back_or_lack_memory::<Record>(alloc, &mut None, records.as_slice());
         holds!(rt; outcome != Outcome::Other);
@@ -54,7 +54,7 @@ fn a_text_is_copied_or_stays(rt: HostRuntime) {
 
 type Units = Empties;
 
-// Columns of a few slices, as a tuple of ten
+// Columns of a few slices, as a tuple of ten.
 type Plain = (
     Vec<u64>,
     Bools,
@@ -78,7 +78,7 @@ fn slices_of_plain_columns_are_named_or_memory_is_lacking(rt: HostRuntime) {
     holds!(rt; outcome != Outcome::Other);
 }
 
-// Columns over others
+// Columns over other columns.
 type Nested = (
     Vecs<Vec<u64>>,
     Strings,
@@ -103,7 +103,7 @@ fn slices_of_nested_columns_are_named_or_memory_is_lacking(rt: HostRuntime) {
     holds!(rt; outcome != Outcome::Other);
 }
 
-// Tuples of one to nine
+// Tuples of one to nine fields.
 type Widths = (
     (Units,),
     (Units, Units),

@@ -1,4 +1,4 @@
-// Stores that were worked by hand.
+// Stores that were worked out by hand.
 use crate::calls::{are_words, come_back};
 use std::test::Fail;
 use test_support::holds;

@@ -12,7 +12,7 @@ use std::test::Fail;
 use std::time::Duration;
 use test_support::holds;
 
-// Are the two types one?
+// Accepts only two equal types.
 fn is_one<T>(_left: PhantomData<T>, _right: PhantomData<T>) -> bool {
     true
 }

@@ -15,7 +15,7 @@ use test_support::{equal, holds};
 
 type Held = Bools<Vec<u64>, [u64; 2]>;
 
-// n bits, set where i is a multiple of `step`
+// Creates n bits; bit i is set if i is a multiple of `step`.
 fn column(alloc: Global, n: usize, step: usize) -> Result<Held, Fail>
     requires { 0 < step }
     ensures sound { IfOk result (λ c. IsSound bools_format (owned_content c)) }

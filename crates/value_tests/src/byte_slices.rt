@@ -8,7 +8,7 @@ use std::num::Wrapping;
 use std::test::Fail;
 use test_support::{equal, holds};
 
-// Is the number kept in these bytes, read back from them, and written with this alignment?
+// Tests whether the number is stored as these bytes, read from them, and written with this alignment.
 fn is_kept<T: Primitive + Sliced>(alloc: Global, items: &[T], bytes: &[u8], align: u64) -> bool
     requires one { length items.now ≡ 1 }
     requires whole { length bytes.now ≡ T.size }
@@ -120,7 +120,7 @@ fn arrays_stand_one_after_the_other(rt: HostRuntime) -> Result<(), Fail> {
     Ok(())
 }
 
-// Each family of numbers makes arrays that go out.
+// Each family of numbers makes arrays that can be written.
 #[test]
 fn arrays_of_each_number_go_out(rt: HostRuntime) -> Result<(), Fail> {
     equal!(rt;

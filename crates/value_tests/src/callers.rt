@@ -1,4 +1,4 @@
-//! What a caller learns of a column of multiples, by the contracts alone: none of these has a proof file.
+//! Callers that use only the contracts of a column of multiples: none of these functions has a proof file.
 ghost use Rattle.std.specs.Prelude.{◌≡◌, ◌+◌, ◌-◌, ◌*◌, ◌≤◌, ◌↔◌, length, take, drop, Err, IfErr, OnOk, OnErr, IsTrue, IsFalse};
 ghost use Rattle.columnar_core.specs.Format.{IsSound};
 ghost use Rattle.columnar_primitive.specs.Fixed.{fixed_format, fixed_rows, passes, strays, IsLimit};
@@ -11,7 +11,7 @@ use columnar_core::view::View;
 use columnar_primitive::offsets::fixeds::Fixeds;
 use std::ops::Range;
 
-/// Pushes an offset: which error is answered is told by the count and the offset.
+/// Pushes an offset: the count and the offset determine the error.
 pub fn multiple_taken<const K: u64>(column: &mut Fixeds<K>, item: u64) -> Result<(), GrowError>
     requires { IsSound (fixed_format K) (counted column.old.count) }
     ensures limit { IfErr result IsLimit }
@@ -21,7 +21,7 @@ pub fn multiple_taken<const K: u64>(column: &mut Fixeds<K>, item: u64) -> Result
     column.push(item)
 }
 
-/// As `multiple_taken`, by reference.
+/// Does the same as `multiple_taken` with a reference.
 pub fn multiple_taken_ref<const K: u64>(column: &mut Fixeds<K>, item: &u64) -> Result<(), GrowError>
     requires { IsSound (fixed_format K) (counted column.old.count) }
     ensures limit { IfErr result IsLimit }
@@ -31,7 +31,7 @@ pub fn multiple_taken_ref<const K: u64>(column: &mut Fixeds<K>, item: &u64) -> R
     column.push_ref(item)
 }
 
-/// Copies a range of offsets: how many there are then, and which error is answered.
+/// Copies a range of offsets: its contract says how many there are afterwards, and which error is returned.
 pub fn multiples_copied<'x, const K: u64>(
     column: &mut Fixeds<K>,
     view: Fixeds<K, View<'x, u64>>,

@@ -1,5 +1,6 @@
-//! A column that is well formed, and what the tests of many columns do with one. Each call at a column writes the column's
-//! impls into the proof of the test; so what is done together is one call, which is proved once for all columns.
+//! A well-formed column, and the operations of the tests on many columns. Each call on a column adds the column's impls
+//! to the proof of the test; therefore operations that belong together are one call, which is proved once for all
+//! columns.
 ghost use Rattle.std.specs.Prelude.{◌<◌, All, IsTrue};
 ghost use Rattle.std.specs.Iterator.{HoldsAlong, IsFinite};
 ghost use Rattle.columnar_core.specs.Format.{IsSound, representable};
@@ -11,7 +12,7 @@ use std::alloc::Global;
 use std::iter::once;
 use test_support::columns::{copied, copy_all, cut, row_at, takes, takes_ref};
 
-/// A column that is well formed.
+/// A well-formed column.
 #[derive(Drop)]
 pub struct Held<C: Column> {
     pub column: C,
@@ -19,21 +20,21 @@ pub struct Held<C: Column> {
 }
 
 impl<C: Storage> Held<C> {
-    // One of the same rows
+    // Duplicates the column.
     fn duplicate(&self, alloc: Global) -> Option<Self> {
         let column = self.column.duplicate(alloc).ok()?;
         Some(Held { column })
     }
 
-    // Has it no row once it is cleared?
+    // Tests whether it has no rows after `clear`.
     fn clears(mut self) -> bool {
         self.column.clear();
         self.column.is_empty()
     }
 }
 
-/// A column of these rows: one is pushed by value, one by reference, one as where no lifetime can be named, and the others in
-/// turn. None where a push is refused.
+/// Creates a column of these rows: one is pushed by value, one by reference, one where no lifetime can be named, and
+/// the others in order. `None` if a push fails.
 pub fn grown<
     'x,
     T: Item,
@@ -59,7 +60,7 @@ pub fn grown<
     }
 }
 
-/// A column of two rows: one is pushed by value, one by reference. None where a push is refused.
+/// Creates a column of two rows: one is pushed by value, one by reference. `None` if a push fails.
 pub fn pair_of<'x, T: Item, C: Storage + Push<T> + Push<&'x T>>(
     alloc: Global,
     first: T,
@@ -78,7 +79,8 @@ pub fn pair_of<'x, T: Item, C: Storage + Push<T> + Push<&'x T>>(
     }
 }
 
-/// Has a column these rows, and no other, read from itself and from its view, and is the view well formed by its own test?
+/// Tests whether a column has exactly these rows, read from itself and from its view, and whether the view passes its
+/// own test.
 pub fn reads<
     'a,
     T: Item + PartialEq + Copy,
@@ -96,20 +98,20 @@ pub fn reads<
     column.len() == rows.len() && view.check().is_ok()
 }
 
-/// What `copy_twice` makes of the rows of a view.
+/// The results of `copy_twice` on the rows of a view.
 #[derive(Drop)]
 pub struct Copies<C: Column> {
-    /// All of the rows.
+    /// All rows.
     pub all: Held<C>,
-    /// All of the rows, and some of them once more.
+    /// All rows, and some of them again.
     pub more: Held<C>,
-    /// The first of these.
+    /// The first rows of `more`.
     pub cut: Held<C>,
-    /// A duplicate of the first.
+    /// A duplicate of `cut`.
     pub again: Held<C>,
 }
 
-// A copy of all rows of a view, with room for those of the views; none where it is refused
+// Copies all rows of a view, with space for those of the views; none on an error.
 fn copy_of<V: Len + Copy, C: Storage + ExtendFrom<V>, I: Iterator<Item = V> + Drop>(
     alloc: Global,
     view: V,
@@ -124,8 +126,8 @@ fn copy_of<V: Len + Copy, C: Storage + ExtendFrom<V>, I: Iterator<Item = V> + Dr
     Some(Held { column })
 }
 
-// The same column with the rows `start..end` of a view after its own, and then with room for those of the view; none where
-// it is refused
+// Returns the same column with the rows `start..end` of a view appended, then with space for those of the view; none on
+// an error.
 fn copied_after<V: Len + Copy, C: Storage + ExtendFrom<V>>(
     mut held: Held<C>,
     view: V,
@@ -139,8 +141,8 @@ fn copied_after<V: Len + Copy, C: Storage + ExtendFrom<V>>(
     if taken & made { Some(held) } else { None }
 }
 
-/// Copies all rows of a view, into room for those of the views, and after them the rows `start..end`; cuts that to the first
-/// `kept` rows, duplicates and clears it. None where a call is refused, or where a row is left by the last.
+/// Copies all rows of a view into space for those of the views, and then the rows `start..end`; truncates that to
+/// `kept` rows, duplicates and clears it. `None` if a call fails, or if a row remains after `clear`.
 pub fn copy_twice<V: Len + Copy, C: Storage + ExtendFrom<V>, I: Iterator<Item = V> + Drop>(
     alloc: Global,
     view: V,
@@ -170,7 +172,7 @@ pub fn copy_twice<V: Len + Copy, C: Storage + ExtendFrom<V>, I: Iterator<Item = 
     }
 }
 
-/// The sizes of a type's elements, where there is memory.
+/// Returns the element sizes of a type, if there is memory.
 pub fn sizes_of<C: Stored>(alloc: Global) -> Option<Vec<usize>>
     requires { IsTrue (representable C.format) }
 {
@@ -179,7 +181,7 @@ pub fn sizes_of<C: Stored>(alloc: Global) -> Option<Vec<usize>>
     Some(sizes)
 }
 
-/// Has slice 0 of a column and of its view so many bytes, and the view's this alignment?
+/// Tests whether slice 0 of a column and of its view has this many bytes, and the view's this alignment.
 pub fn slices_are<'a, C: ContainerBytes + Borrow<'a, Borrowed: AsBytes<'a>>>(
     column: &'a C,
     align: u64,

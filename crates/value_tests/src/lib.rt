@@ -1,7 +1,9 @@
-//! Tests of the columns of values, and of the layers below them, by their public calls alone. They stand here and not in
-//! the layers' own crates, since a crate with tests is proved twice: once without them, and once with them.
+//! Tests of the columns of values, and of the layers below them, by their public calls. They are not in the layers' own
+//! crates, since a crate with tests is proved twice: without them and with them.
 #![tactic(auto)]
 
+#[cfg(test)]
+mod adapters;
 #[cfg(test)]
 mod bools;
 #[cfg(test)]

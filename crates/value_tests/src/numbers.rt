@@ -110,7 +110,7 @@ fn slices_arrays_and_references_are_columns(rt: HostRuntime) -> Result<(), Fail>
     Ok(())
 }
 
-// What the rows that an iterator has left add up to.
+// Returns the sum of the rows that an iterator has left.
 fn sum_of<S: Index<Ref = u64> + Len + Drop>(rows: IterOwn<S>) -> u64 {
     let mut sum = 0u64;
     for row in rows {

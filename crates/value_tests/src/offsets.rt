@@ -1,4 +1,4 @@
-// The worked offsets.
+// Worked offsets.
 ghost use Rattle.std.specs.Prelude.{◌≡◌};
 ghost use Rattle.columnar_core.specs.Format.{IsSound};
 ghost use Rattle.columnar_primitive.specs.Stride.{strides_format, head_and_bounds};
@@ -15,10 +15,10 @@ use std::alloc::Global;
 use test_support::columns::cut;
 use test_support::{equal, holds};
 
-// What a push answers.
+// The result of a push.
 type Answer = Result<(), GrowError>;
 
-// Pushes offsets through the bound; is each answered so?
+// Pushes offsets through the trait; returns whether each has this result.
 fn answers<C: Push<u64>>(column: &mut C, cases: &[(u64, Answer)]) -> bool
     requires { IsSound C.format (C.content column.old) }
     ensures { IsSound C.format (C.content column.new) }
@@ -31,7 +31,7 @@ fn answers<C: Push<u64>>(column: &mut C, cases: &[(u64, Answer)]) -> bool
     true
 }
 
-// Offset `index`, and whether the offsets rise to each of two ends.
+// Returns offset `index`, and whether the offsets rise to each of two ends.
 fn told<C: Offsets>(column: &C, index: usize, end: u64, other: u64) -> (Option<u64>, bool, bool)
     requires { IsSound C.format (C.content column.now) }
 {
@@ -43,7 +43,7 @@ fn told<C: Offsets>(column: &C, index: usize, end: u64, other: u64) -> (Option<u
     (offset, column.rises_to(end), column.rises_to(other))
 }
 
-// Is a duplicate equal to its column?
+// Tests whether a duplicate equals its column.
 fn is_duplicated<C: Storage + PartialEq>(alloc: Global, column: &C) -> bool {
     match column.duplicate(alloc) {
         Ok(same) => same == *column,
@@ -51,7 +51,7 @@ fn is_duplicated<C: Storage + PartialEq>(alloc: Global, column: &C) -> bool {
     }
 }
 
-// Copies rows through the bound, None where the range is not there.
+// Copies rows through the trait; `None` if the range does not exist.
 fn copied<'a, C: Container<'a>>(
     into: &mut C,
     from: &'a C,
@@ -115,7 +115,7 @@ fn a_full_count_is_refused_and_accepted_in_a_store(rt: HostRuntime) {
     }
 }
 
-// Bounds of list `index`, where it is there.
+// Returns the bounds of list `index`, if it exists.
 fn list_at(column: &Strides<Vec<u64>, [u64; 2]>, index: usize) -> Option<(usize, usize)>
     requires { IsSound strides_format (head_and_bounds column.now.head column.now.bounds.items) }
 {
@@ -126,7 +126,7 @@ fn list_at(column: &Strides<Vec<u64>, [u64; 2]>, index: usize) -> Option<(usize,
     }
 }
 
-// The only word, where there is one alone.
+// Returns the only word, if there is exactly one.
 fn only<W: Words>(words: &W) -> Option<u64> {
     if words.size() == 8 {
         Some(words.word(0))
@@ -135,7 +135,7 @@ fn only<W: Words>(words: &W) -> Option<u64> {
     }
 }
 
-// Takes the last offset away, where there is one.
+// Removes the last offset, if there is one.
 fn popped(column: &mut Strides<Vec<u64>, [u64; 2]>)
     requires { IsSound strides_format (head_and_bounds column.old.head column.old.bounds.items) }
     ensures { IsSound strides_format (head_and_bounds column.new.head column.new.bounds.items) }
@@ -213,7 +213,7 @@ fn what_a_head_claims_is_reckoned(rt: HostRuntime) {
     equal!(rt; odd.check(), Err(StoreFault::ElementSize(1)));
 }
 
-// The view of a head and bounds.
+// Returns the view of a head and bounds.
 fn viewed<'a>(head: &'a [u64], bounds: &'a [u64]) -> Strides<View<'a, u64>, View<'a, u64>> {
     Strides {
         head: View::from_slice(head),

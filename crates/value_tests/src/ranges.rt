@@ -1,4 +1,4 @@
-// Ranges of rows: cut, compared, ordered and hashed.
+// Ranges of rows: truncated, compared, ordered and hashed.
 ghost use Rattle.std.specs.Prelude.{◌≡◌};
 
 use columnar_base::traits::Column;
@@ -13,7 +13,7 @@ use std::test::Fail;
 use std::time::Duration;
 use test_support::{equal, holds};
 
-// The two ends of a range.
+// Returns both ends of a range.
 fn ends<S: Column + Drop>(range: Slice<S>) -> (usize, usize) {
     (range.lower, range.upper)
 }
@@ -30,7 +30,7 @@ fn row_hash_of<T: OrderedRow>(row: &T) -> u64 {
     state.finish()
 }
 
-// Is the first one less than the second, whichever way one asks?
+// Tests in every way whether the first is less than the second.
 fn rises<T: Ord + Hash>(less: &T, more: &T) -> bool {
     *less < *more
         && less.partial_cmp(more) == Some(Ordering::Less)
@@ -39,7 +39,7 @@ fn rises<T: Ord + Hash>(less: &T, more: &T) -> bool {
         && hash_of(less) != hash_of(more)
 }
 
-// Are the two equal, whichever way one asks?
+// Tests in every way whether the two are equal.
 fn agrees<T: Ord + Hash>(one: &T, other: &T) -> bool {
     *one == *other
         && one.partial_cmp(other) == Some(Ordering::Equal)
@@ -47,7 +47,7 @@ fn agrees<T: Ord + Hash>(one: &T, other: &T) -> bool {
         && hash_of(one) == hash_of(other)
 }
 
-// Is the first one less than the second, as rows?
+// Tests whether the first is less than the second, as rows.
 fn rises_as_row<T: OrderedRow>(less: &T, more: &T) -> bool {
     less.compare_row(more) == Ordering::Less
         && more.compare_row(less) == Ordering::Greater
@@ -109,6 +109,47 @@ fn rows_are_ordered(rt: HostRuntime) -> Result<(), Fail> {
     holds!(rt; rises_as_row(&[1u8, 2], &[1, 3]));
     holds!(rt; rises_as_row(&[1u8, 2].as_slice(), &[2].as_slice()));
     holds!(rt; rises_as_row(&Duration::new(1, 9), &Duration::new(2, 0)));
+    Ok(())
+}
+
+// In ascending order: the infinities at both ends of the numbers, -0.0 before 0.0, and then the NaNs.
+#[test]
+fn floats_are_ordered(rt: HostRuntime) -> Result<(), Fail> {
+    let doubles = [
+        -1.0 / 0.0,
+        -1.7976931348623157e308,
+        -1.0,
+        -5e-324,
+        -0.0,
+        0.0,
+        5e-324,
+        0.1,
+        1.0,
+        1.7976931348623157e308,
+        1.0 / 0.0,
+        0.0 / 0.0,
+    ];
+    let singles = [
+        -1.0f32 / 0.0,
+        -3.4028235e38,
+        -1.0,
+        -1e-45,
+        -0.0,
+        0.0,
+        1e-45,
+        0.1,
+        1.0,
+        3.4028235e38,
+        1.0 / 0.0,
+        0.0 / 0.0,
+    ];
+    for i in 1..12usize {
+        holds!(rt; rises_as_row::<f64>(&doubles[i - 1], &doubles[i]));
+        holds!(rt; rises_as_row::<f32>(&singles[i - 1], &singles[i]));
+    }
+    holds!(rt; doubles[11].same_row(&(-(0.0 / 0.0))));
+    holds!(rt; rises_as_row(&[0.5f64, -0.0], &[0.5, 0.0]));
+    holds!(rt; rises_as_row(&[0.5f32].as_slice(), &[0.5, -1.0].as_slice()));
     Ok(())
 }
 

@@ -1,9 +1,9 @@
-// What a tally notes.
+// What a tally records.
 ghost use Rattle.std.specs.Prelude.{◌≡◌, [], ◌∷◌};
 
 use columnar_base::tally::Tally;
 
-// What each call notes.
+// Records each kind of note once, and words twice; the contract says what the tally then has.
 fn noted_once_each() -> Tally
     ensures { result ≡ record { counts = 1; words = 7 ∷ 5 ∷ []; turns = 1 } }
 {

@@ -35,7 +35,7 @@ type Times = Durations<Vec<u64>, Vec<u32>>;
 
 type Units = Empties<u64>;
 
-// Is a view well formed, through the bound?
+// Tests through the trait whether a view is well-formed.
 fn checked<V: Check>(view: &V) -> Result<(), StoreFault>
     requires { IsTrue (representable V.format) }
 {

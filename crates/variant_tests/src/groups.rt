@@ -1,4 +1,4 @@
-// A column of groups, `Solo` of a person or `Team` of many: its store is that of a container by hand.
+// A column of groups, `Solo` of a person or `Team` of many: its store equals that of a container written by hand.
 use columnar_core::container::Storage;
 use columnar_types::types::ContainerOf;
 use columnar_variants::cases::{Last, Nth};
@@ -13,7 +13,7 @@ type Person = (String, u64);
 
 type Groups = Variants<(ContainerOf<Person>, (ContainerOf<Vec<Person>>,))>;
 
-// Alice alone: the slices of the solos, those of the teams, and the variants
+// Alice alone: the slices of the solos, those of the teams, and the variants.
 static ALICE: [u64; 19] = [
     96,
     104,

@@ -1,4 +1,4 @@
-//! Tests of columns of any number of variants, by their public calls alone.
+//! Tests of columns of any number of variants, by their public calls.
 #![tactic(auto)]
 
 #[cfg(test)]

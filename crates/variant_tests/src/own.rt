@@ -1,20 +1,26 @@
-// Rows of one's own: told from those before them, and written in place.
+// Your own rows: distinguished from those before them, and written in place.
 ghost use Rattle.columnar_core.specs.Format.{IsSound};
 
 use columnar_cells::index_mut::IndexMut;
 use columnar_cells::items::{Field, SetItem};
 use columnar_cells::set::SetRow;
 use columnar_core::container::Storage;
-use columnar_core::traits::{Column, Len};
+use columnar_core::fault::GrowError;
+use columnar_core::ordered::OrderedRow;
+use columnar_core::traits::{Column, Len, Push};
 use columnar_lookback::repeats::Repeats;
 use columnar_own::rows::{OwnRow, OwnRows};
+use columnar_primitive::offsets::fixeds::Fixeds;
+use columnar_variants::cases::{Last, Nth};
+use columnar_variants::variants::Variants;
 use std::alloc::Global;
+use std::cmp::Ordering;
 use std::rt::HostRuntime;
 use std::test::Fail;
 use test_support::columns::{reads, takes, takes_ref};
 use test_support::{equal, holds};
 
-// What tells readings from other rows
+// Distinguishes readings from other rows.
 struct Reading;
 
 type Readings = OwnRows<(Vec<u64>, Vec<u32>), Reading>;
@@ -27,7 +33,7 @@ fn row(time: u64, value: u32) -> Row {
     OwnRow::new((time, value))
 }
 
-// Runs of readings, for the calls that the tests make.
+// Runs of readings, for the calls of the tests.
 #[derive(Drop)]
 struct HeldRuns {
     column: Runs,
@@ -53,7 +59,7 @@ impl HeldRuns {
         reads(&self.column, rows)
     }
 
-    // The times that are kept
+    // Returns the stored times.
     fn times(&self) -> &[u64] {
         self.column.inner.somes.parts.0.as_slice()
     }
@@ -76,7 +82,7 @@ fn own_rows_print_their_parts(rt: HostRuntime) -> Result<(), Fail> {
     Ok(())
 }
 
-// Readings, for the calls that the tests make.
+// Readings, for the calls of the tests.
 #[derive(Drop)]
 struct Held {
     column: Readings,
@@ -107,7 +113,7 @@ impl Held {
     }
 }
 
-// Writes the value of a row by what is lent of it; false where there is no such row
+// Writes the value of a row through its loan; returns false if there is no such row.
 fn lent_written(column: &mut Readings, index: usize, value: u32) -> bool
     requires { IsSound ⟦<Readings as Column>⟧.format (⟦<Readings as Column>⟧.content column.old) }
 {
@@ -118,7 +124,7 @@ fn lent_written(column: &mut Readings, index: usize, value: u32) -> bool
     }
 }
 
-// Writes the time of the last row by what is lent of it; false where there is none
+// Writes the time of the last row through its loan; returns false if there is none.
 fn last_written(column: &mut Readings, time: u64) -> bool
     requires { IsSound ⟦<Readings as Column>⟧.format (⟦<Readings as Column>⟧.content column.old) }
 {
@@ -149,5 +155,41 @@ fn own_rows_are_lent(rt: HostRuntime) -> Result<(), Fail> {
     let Held { mut column, .. } = held;
     holds!(rt; lent_written(&mut column, 0, 9));
     equal!(rt; column.parts.1.as_slice(), [9, 4].as_slice());
+    Ok(())
+}
+
+#[test]
+fn own_rows_compare_by_their_first_different_part(rt: HostRuntime) -> Result<(), Fail> {
+    holds!(rt; row(1, 2) == row(1, 2) && row(1, 2) != row(1, 3));
+    holds!(rt; row(1, 2).same_row(&row(1, 2)) && !row(1, 2).same_row(&row(3, 2)));
+    equal!(rt; row(1, 9).compare_row(&row(3, 2)), Ordering::Less);
+    equal!(rt; row(3, 2).compare_row(&row(3, 2)), Ordering::Equal);
+    equal!(rt; row(3, 4).compare_row(&row(3, 2)), Ordering::Greater);
+    Ok(())
+}
+
+type Either = OwnRow<Nth<u64, Last<u32>>, Reading>;
+
+#[test]
+fn own_rows_compare_by_their_variant_first(rt: HostRuntime) -> Result<(), Fail> {
+    let first = Either::new(Nth::This(9));
+    let second = Either::new(Nth::Next(Last(1)));
+    holds!(rt; first.same_row(&first) && !first.same_row(&second));
+    equal!(rt; first.compare_row(&second), Ordering::Less);
+    equal!(rt; second.compare_row(&Either::new(Nth::Next(Last(0)))), Ordering::Greater);
+    Ok(())
+}
+
+type Multiples = OwnRows<Fixeds<2>, Reading>;
+
+type Kinds = Variants<(Fixeds<2>, (Vec<u8>,))>;
+
+#[test]
+fn a_refused_part_says_why(rt: HostRuntime) -> Result<(), Fail> {
+    let mut own = Multiples::empty(rt.alloc());
+    let odd = OwnRow::<u64, Reading>::new(3);
+    equal!(rt; own.push(odd), Err(GrowError::Offset));
+    let mut kinds = Kinds::empty(rt.alloc());
+    equal!(rt; kinds.push(Nth::<u64, Last<u8>>::This(3)), Err(GrowError::Offset));
     Ok(())
 }

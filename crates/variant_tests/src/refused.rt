@@ -1,4 +1,4 @@
-// Each call that takes memory, with whatever request for memory refused: it is done, or nothing has changed.
+// Every call that allocates, whichever allocation fails: it succeeds, or changes nothing.
 use crate::two::{Row, Two};
 use columnar_variants::cases::{Last, Nth};
 use std::rt::HostRuntime;
@@ -6,12 +6,12 @@ use std::test::Fail;
 use test_support::holds;
 use test_support::trials::{Trial, copies_and_turns_keep, pushes_keep};
 
-// The rows 5 of the first variant, 7 of the second, 6 of the first; and one more, 8 of the second
+// The rows 5 of the first variant, 7 of the second, 6 of the first; and one more, 8 of the second.
 static THREE: [u64; 12] = [40, 56, 64, 67, 96, 5, 6, 7, 256, 0, 0, 1];
 
 static FOUR: [u64; 14] = [40, 56, 72, 76, 112, 5, 6, 7, 8, 16777472, 0, 0, 1, 1];
 
-// The row 8 of the second variant
+// The row 8 of the second variant.
 static ONE: [u64; 8] = [40, 40, 48, 48, 64, 8, 2, 1];
 
 #[test]

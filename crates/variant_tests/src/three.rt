@@ -1,4 +1,4 @@
-// Columns of three variants: pushes, copies of ranges and cuts.
+// Columns of three variants: pushes, copies of ranges and truncations.
 ghost use Rattle.columnar_core.specs.Format.{IsSound};
 
 use columnar_core::container::{Borrow, Storage};
@@ -15,7 +15,7 @@ type Three = Variants<(Vec<u64>, (Vec<u16>, (Vec<u64>,)))>;
 
 type Row = Nth<u64, Nth<u16, Last<u64>>>;
 
-// A column of three variants, for the calls that the tests make.
+// A column of three variants, for the calls of the tests.
 #[derive(Drop)]
 struct Held {
     column: Three,
@@ -23,7 +23,7 @@ struct Held {
 }
 
 impl Held {
-    // A column of these rows, or of those before one that was refused
+    // Creates a column of these rows, or of those before the first that fails.
     fn of(alloc: Global, rows: &[Row]) -> Held {
         let mut held = Held {
             column: Three::empty(alloc),
@@ -54,7 +54,7 @@ impl Held {
         reads(&self.column, rows)
     }
 
-    // How many values there are of the second variant
+    // Counts the values of the second variant.
     fn seconds(&self) -> usize {
         self.column.columns.1.0.len()
     }

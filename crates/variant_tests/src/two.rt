@@ -1,4 +1,4 @@
-// Columns of two variants: a worked store, and stores of broken rules.
+// Columns of two variants: a worked store, and stores that break rules.
 ghost use Rattle.columnar_core.specs.Format.{IsSound};
 
 use columnar_core::container::Storage;
@@ -16,7 +16,7 @@ pub type Two = Variants<(Vec<u64>, (Vec<u64>,))>;
 
 pub type Row = Nth<u64, Last<u64>>;
 
-// A column of two variants, for the calls that the tests make.
+// A column of two variants, for the calls of the tests.
 #[derive(Drop)]
 struct Held {
     column: Two,
@@ -78,7 +78,7 @@ fn rules_of_two_variants(rt: HostRuntime) -> Result<(), Fail> {
     Ok(())
 }
 
-// Where all rows are of one variant, a head tells which and how many: one more than the variant, and the number.
+// If all rows have one variant, two words describe them: one more than the variant, and the number of rows.
 #[test]
 fn heads_of_two_variants(rt: HostRuntime) -> Result<(), Fail> {
     let alloc = rt.alloc();

@@ -10,7 +10,7 @@ use columnar::{Borrow, ContainerBytes, ExtendFrom, FromBytes, Item, PushRef, Sto
 use std::alloc::Global;
 use test_support::runs::ran;
 
-// The replies to commands, the variant that the stash then is of, and whether it then writes these words
+// Returns the replies to commands, the variant of the stash afterwards, and whether it then writes these words.
 pub(super) fn ran_from<'a, T: Item, C>(
     alloc: Global,
     source: &'a Stash<C, Vec<u8>>,

@@ -1,4 +1,4 @@
-// Stashes: a column, opened bytes and aligned bytes, what each call makes of them, and runs of commands.
+// Stashes (a column, opened bytes, aligned bytes), the result of each call, and runs of commands.
 ghost use Rattle.columnar_core.specs.Format.{IsSound};
 ghost use Rattle.columnar_bytes.specs.Stashes.{stash_content};
 
@@ -18,12 +18,12 @@ use test_support::{equal, holds};
 
 type Pairs = (Vec<u64>, Vec<u64>);
 
-// The numbers 7 and 8, and a word after the last slice
+// The numbers 7 and 8, and a word after the last slice.
 static WORD_BEHIND: [u64; 5] = [16, 32, 7, 8, 9];
 
 static SEVEN_EIGHT: [u64; 4] = [16, 32, 7, 8];
 
-// A stash of numbers, for the calls that the tests make: the traits of its column are named here alone.
+// A stash of numbers, for the calls of the tests: only this type names the traits of its column.
 #[derive(Drop)]
 struct Numbers<B: ByteStore> {
     stash: Stash<Vec<u64>, B>,
@@ -31,21 +31,21 @@ struct Numbers<B: ByteStore> {
 }
 
 impl Numbers<Vec<u8>> {
-    // A column without rows
+    // Creates a column without rows.
     fn empty(alloc: Global) -> Self {
         Numbers {
             stash: Stash::empty(alloc),
         }
     }
 
-    // The same, with room for the rows of a view
+    // Creates the same with space for the rows of a view.
     fn roomy(alloc: Global, view: View<'_, u64>) -> Result<Self, GrowError> {
         Ok(Numbers {
             stash: Stash::with_capacity_for(alloc, [view].iter().copied())?,
         })
     }
 
-    // What commands make of a column without rows, and the replies to them
+    // Runs commands on a column without rows; returns the stash and the replies.
     fn ran(
         alloc: Global,
         source: &[u64],
@@ -57,13 +57,13 @@ impl Numbers<Vec<u8>> {
     }
 }
 
-// The bytes of 7 and 8, opened
+// Opens the bytes of 7 and 8.
 fn seven_eight(alloc: Global) -> Result<Numbers<Vec<u8>>, Fail> {
     Numbers::opened(alloc, bytes_of(alloc, WORD_BEHIND.as_slice())?)
 }
 
 impl<B: ByteStore> Numbers<B> {
-    // Bytes that are accepted
+    // Opens accepted bytes.
     fn opened(alloc: Global, bytes: B) -> Result<Self, Fail> {
         match Stash::try_from_bytes(alloc, bytes) {
             Ok(stash) => Ok(Numbers { stash }),
@@ -71,12 +71,12 @@ impl<B: ByteStore> Numbers<B> {
         }
     }
 
-    // Has it these rows, and no other?
+    // Tests whether it has exactly these rows.
     fn has(&self, rows: &[u64]) -> bool {
         has(&self.stash, rows)
     }
 
-    // Row `index`, where there is one, of the view that the trait lends
+    // Returns row `index`, if there is one, from the trait's view.
     fn row(&self, index: usize) -> Option<u64> {
         row_through(&self.stash, index)
     }
@@ -85,7 +85,7 @@ impl<B: ByteStore> Numbers<B> {
         self.stash.is_empty()
     }
 
-    // Does it write these words?
+    // Tests whether it writes these words.
     fn writes(&self, words: &[u64]) -> bool {
         writes(&self.stash, words)
     }
@@ -98,7 +98,7 @@ impl<B: ByteStore> Numbers<B> {
         self.stash.length_in_bytes()
     }
 
-    // How many bytes it holds; none where it is a column
+    // Returns the number of its bytes; 0 if it is a column.
     fn held(&self) -> usize {
         match &self.stash {
             Stash::Typed(_) => 0,
@@ -111,7 +111,7 @@ impl<B: ByteStore> Numbers<B> {
         self.stash.push(item).is_ok()
     }
 
-    // Pushes a lent number
+    // Pushes a reference to a number.
     fn pushes_lent(&mut self, item: &u64) -> bool {
         self.stash.push(item).is_ok()
     }
@@ -121,7 +121,7 @@ impl<B: ByteStore> Numbers<B> {
         self.stash.push_ref(item).is_ok()
     }
 
-    // Pushes into the column that it lends
+    // Pushes to the column that it gives.
     fn pushes_within(&mut self, item: u64) -> bool {
         match self.stash.make_typed() {
             Ok(column) => Push::push(column, item).is_ok(),
@@ -129,18 +129,18 @@ impl<B: ByteStore> Numbers<B> {
         }
     }
 
-    // Copies these numbers of a slice
+    // Copies these numbers of a slice.
     fn copies(&mut self, rows: &[u64], start: usize, end: usize) -> bool {
         let view = View::from_slice(rows);
         start <= end && end <= view.len() && self.stash.extend_from_self(view, start..end).is_ok()
     }
 
-    // Makes room for the rows of views
+    // Reserves space for the rows of views.
     fn makes_room(&mut self, views: &[View<'_, u64>]) -> bool {
         self.stash.reserve_for(views.iter().copied()).is_ok()
     }
 
-    // Cuts it to one row, where it has more
+    // Truncates it to one row, if it has more.
     fn cuts_to_one(&mut self) -> bool {
         self.stash.len() > 1 && self.stash.truncate(1).is_ok()
     }
@@ -149,7 +149,7 @@ impl<B: ByteStore> Numbers<B> {
         self.stash.clear();
     }
 
-    // Makes the bytes of its encoding
+    // Encodes it into aligned bytes in place.
     fn aligns(&mut self, alloc: Global) -> bool {
         self.stash.make_aligned(alloc).is_ok()
     }
@@ -172,7 +172,7 @@ impl<B: ByteStore> Numbers<B> {
         })
     }
 
-    // A stash over its aligned bytes, where it holds such
+    // Returns a stash over its aligned bytes, if it has them.
     fn into_aligned(self) -> Option<Numbers<AlignedBytes>> {
         let stash = self.stash;
         match stash {
@@ -183,7 +183,7 @@ impl<B: ByteStore> Numbers<B> {
         }
     }
 
-    // Is a clone of this variant, and does it write these words?
+    // Tests whether a clone has this variant and writes these words.
     fn clones(&self, kind: u8, words: &[u64]) -> bool {
         match self.stash.clone() {
             Ok(copy) => variant(&copy) == kind && writes(&copy, words),
@@ -192,7 +192,7 @@ impl<B: ByteStore> Numbers<B> {
     }
 }
 
-// Row `index` of a stash, through the trait, where there is one
+// Returns row `index` of a stash through the trait, if there is one.
 fn row_through<'a, S: Borrow<'a>>(stash: &'a S, index: usize) -> Option<S::Ref>
     requires { IsSound S.format (S.content stash.now) }
 {
@@ -247,6 +247,31 @@ fn shared_bytes_are_opened(rt: HostRuntime) -> Result<(), Fail> {
     holds!(rt; stash.writes(WORD_BEHIND.as_slice()));
     holds!(rt; stash.pushes(9));
     holds!(rt; stash.has(&[7, 8, 9]));
+    Ok(())
+}
+
+// Tests whether the bytes of 7 and 8 are opened behind this many other bytes of a buffer.
+fn opens_behind(alloc: Global, others: usize) -> Result<bool, Fail> {
+    let store = bytes_of(alloc, WORD_BEHIND.as_slice())?;
+    let mut buffer = Vec::new(alloc);
+    for _ in 0..others {
+        buffer.push(255)?;
+    }
+    buffer.extend_from_slice(store.as_slice())?;
+    match buffer.get(others..) {
+        Some(bytes) => {
+            let stash = Numbers::opened(alloc, bytes)?;
+            Ok(stash.has(&[7, 8]) && stash.writes(WORD_BEHIND.as_slice()))
+        }
+        None => Ok(false),
+    }
+}
+
+#[test]
+fn stores_are_opened_at_any_place_of_a_buffer(rt: HostRuntime) -> Result<(), Fail> {
+    let alloc = rt.alloc();
+    holds!(rt; opens_behind(alloc, 1)? && opens_behind(alloc, 2)?);
+    holds!(rt; opens_behind(alloc, 3)? && opens_behind(alloc, 4)?);
     Ok(())
 }
 
@@ -486,7 +511,7 @@ fn a_run_over_pairs(rt: HostRuntime) -> Result<(), Fail> {
     Ok(())
 }
 
-// Whose, of how many years where that is known, and the marks
+// The owner, the age if known, and the marks.
 type Marks = (Vec<u64>, (Options<Vec<u32>>, Vecs<Vec<u16>>));
 
 #[test]

@@ -1,4 +1,4 @@
-// Rows of one of two kinds, and variants: worked stores, pushes, cuts and copies, and a run of commands.
+// Results and variants: worked stores, pushes, truncations and copies, and a run of commands.
 ghost use Rattle.std.specs.Prelude.{◌≡◌, ◌++◌, [], ◌∷◌, IsTrue, IfOk};
 ghost use Rattle.columnar_core.specs.Format.{IsSound, representable};
 ghost use Rattle.columnar_bytes.specs.Stashes.{stash_content};
@@ -26,10 +26,10 @@ type Outcomes = Results<Vec<u64>, Vec<u64>>;
 
 type Kinds = Discriminant;
 
-// A number and a mark, or a list
+// A number and a mark, or a list.
 type Events = Results<(Vec<u64>, Bools), Vecs<Vec<u16>>>;
 
-// The fault of words as the store of a type, where they have one
+// Returns the fault of words as the store of a type, if they have one.
 fn fault_of<C: Stored>(alloc: Global, words: &[u64]) -> Result<Option<StoreFault>, Error>
     requires { IsTrue (representable C.format) }
 {
@@ -40,7 +40,7 @@ fn fault_of<C: Stored>(alloc: Global, words: &[u64]) -> Result<Option<StoreFault
     }
 }
 
-// A column of outcomes, for the calls that the tests make: its traits are named here alone.
+// A column of results, for the calls of the tests: only this type names its traits.
 #[derive(Drop)]
 struct Held {
     column: Outcomes,
@@ -54,14 +54,14 @@ impl Held {
         }
     }
 
-    // A column of these rows
+    // Creates a column of these rows.
     fn of(alloc: Global, rows: &[Result<u64, u64>]) -> Result<Held, GrowError> {
         let mut column = Outcomes::empty(alloc);
         column.push_slice(rows)?;
         Ok(Held { column })
     }
 
-    // Pushes the first by value, the second lent and the third by reference
+    // Pushes the first by value, the second as a reference, and the third by `push_ref`.
     fn pushes(
         &mut self,
         first: Result<u64, u64>,
@@ -73,7 +73,7 @@ impl Held {
             && self.column.push_ref(third).is_ok()
     }
 
-    // Copies these rows of another column after its own
+    // Copies these rows of another column.
     fn copies(&mut self, source: &Held, start: usize, end: usize) -> bool {
         copied(&mut self.column, source.column.borrow(), start, end)
     }
@@ -82,27 +82,27 @@ impl Held {
         cut(&mut self.column, n);
     }
 
-    // Row `index`, where there is one
+    // Returns row `index`, if there is one.
     fn row(&self, index: usize) -> Option<Result<u64, u64>> {
         row_at(&self.column, index)
     }
 
-    // The same, as the column lends it
+    // Returns the same row as a reference.
     fn lent_row(&self, index: usize) -> Option<Result<&u64, &u64>> {
         row_at(&&self.column, index)
     }
 
-    // The same, of the view
+    // Returns the same row from the view.
     fn row_in_view(&self, index: usize) -> Option<Result<u64, u64>> {
         row_at(&self.column.borrow(), index)
     }
 
-    // Are these the values, and these the errors?
+    // Tests whether these are the values and the errors.
     fn keeps(&self, oks: &[u64], errs: &[u64]) -> bool {
         self.column.oks.as_slice() == oks && self.column.errs.as_slice() == errs
     }
 
-    // Does the view keep all rules?
+    // Tests whether the view is well-formed.
     fn checks(&self) -> bool {
         self.column.borrow().check().is_ok()
     }
@@ -125,7 +125,7 @@ impl Held {
         self.column.try_unwrap_err()
     }
 
-    // Is it empty once it is cleared, and what is then unwrapped?
+    // Tests whether it is empty after `clear`, and what then is unwrapped.
     fn is_cleared(self) -> bool {
         let mut column = self.column;
         column.clear();
@@ -179,7 +179,7 @@ fn ranges_of_outcomes_are_copied(rt: HostRuntime) -> Result<(), Fail> {
     Ok(())
 }
 
-// The first row tells nothing of the others.
+// The first row does not determine the others.
 #[test]
 fn outcomes_of_one_kind_are_unwrapped(rt: HostRuntime) -> Result<(), Fail> {
     let alloc = rt.alloc();
@@ -203,12 +203,12 @@ static EVENTS: [u64; 16] = [
     72, 72, 72, 88, 96, 96, 112, 120, 124, 1, 2, 7, 1, 1, 2, 327683,
 ];
 
-// The same, but the first row is 9 and false.
+// The same, with the first row 9 and false.
 static OTHER_EVENTS: [u64; 16] = [
     72, 72, 72, 88, 96, 96, 112, 120, 124, 1, 2, 9, 0, 1, 2, 327683,
 ];
 
-// Does a stash write these words once it took an item by value, and one by reference?
+// Tests whether a stash writes these words after one push by value and one by reference.
 fn pushes_write<S: Item + Drop, T: Item, C: ContainerBytes + Storage + Push<S> + PushRef<T>>(
     alloc: Global,
     first: S,
@@ -259,7 +259,7 @@ fn a_run_over_events(rt: HostRuntime) -> Result<(), Fail> {
     Ok(())
 }
 
-// A stash of variants, for the calls that the tests make
+// A stash of variants, for the calls of the tests.
 #[derive(Drop)]
 struct Variants {
     stash: Stash<Kinds, Vec<u8>>,
@@ -267,7 +267,7 @@ struct Variants {
 }
 
 impl Variants {
-    // The stash of words that are accepted
+    // Opens accepted words.
     fn opened(alloc: Global, words: &[u64]) -> Result<Variants, Fail> {
         match opened::<Kinds>(alloc, words) {
             Some(stash) => Ok(Variants { stash }),
@@ -275,7 +275,7 @@ impl Variants {
         }
     }
 
-    // Has it these rows, and no other?
+    // Tests whether it has exactly these rows.
     fn has(&self, rows: &[(u8, u64)]) -> bool {
         has(&self.stash, rows)
     }
@@ -288,7 +288,7 @@ impl Variants {
         self.stash.is_empty()
     }
 
-    // Row `index`, where there is one
+    // Returns row `index`, if there is one.
     fn row(&self, index: usize) -> Option<(u8, u64)> {
         row_of(&self.stash, index)
     }
@@ -326,17 +326,17 @@ fn stores_of_variants_that_are_refused(rt: HostRuntime) -> Result<(), Fail> {
     for (words, fault) in [
         // another number of earlier rows
         ([24, 27, 56, 65536, 0, 1, 1].as_slice(), variant),
-        // written out, and of one variant
+        // a variant for each row, though all are equal
         ([24, 26, 48, 0, 0, 1].as_slice(), variant),
         ([24, 25, 32, 0, 0].as_slice(), variant),
         // no variant, one above 255, and no row
         ([24, 24, 40, 0, 3].as_slice(), variant),
         ([24, 24, 40, 257, 1].as_slice(), variant),
         ([24, 24, 40, 1, 0].as_slice(), variant),
-        // one word alone, and fewer offsets than variants
+        // a single word, and fewer offsets than variants
         ([24, 24, 32, 1].as_slice(), variant),
         ([24, 26, 40, 256, 0].as_slice(), variant),
-        // half a word of a head
+        // half a word at the end of the offsets
         ([24, 24, 36, 1, 1].as_slice(), StoreFault::ElementSize(1)),
     ] {
         equal!(rt; fault_of::<Kinds>(rt.alloc(), words)?, Some(fault));
@@ -344,7 +344,7 @@ fn stores_of_variants_that_are_refused(rt: HostRuntime) -> Result<(), Fail> {
     Ok(())
 }
 
-// Pushes one more row of the variant of all rows, where there is one
+// Pushes one more row of the variant of all rows, if there is one.
 fn push_again(kinds: &mut Kinds) -> Option<Result<(), GrowError>>
     requires { IsSound discriminant_format (owned_forms kinds.old.variant.items kinds.old.offset.items) }
 {
@@ -368,7 +368,7 @@ fn no_head_wraps(rt: HostRuntime) -> Result<(), Fail> {
     Ok(())
 }
 
-// The rows (0, 0), (0, 1) and (1, 0)
+// Creates the rows (0, 0), (0, 1) and (1, 0).
 fn three(alloc: Global) -> Result<Kinds, GrowError>
     ensures sound { IfOk result (λ d. IsSound discriminant_format (owned_forms d.variant.items d.offset.items)) }
     ensures variants { IfOk result (λ d. variants_of (owned_forms d.variant.items d.offset.items) ≡ 0 ∷ 0 ∷ 1 ∷ []) }

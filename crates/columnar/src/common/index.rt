@@ -1,4 +1,4 @@
-//! Rows by their number.
+//! Access to rows by number.
 
 pub use columnar_cells::index_mut::IndexMut;
 pub use columnar_cells::lent::Lent;

@@ -1,3 +1,3 @@
-//! Which variant each row is of.
+//! The variant of each row.
 
 pub use columnar_sums::discriminant::{Discriminant, Variants};

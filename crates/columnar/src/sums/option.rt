@@ -1,3 +1,3 @@
-//! Rows that may be absent.
+//! Columns of options.
 
 pub use columnar_sums::option::Options;

@@ -1,3 +1,3 @@
-//! Rows of one of two kinds.
+//! Columns of results.
 
 pub use columnar_sums::result::Results;

@@ -1,11 +1,13 @@
-//! What a column of a sum type of one's own is made of: the variants of its rows, and the values of each variant in a column of
-//! their own. With two variants, each trait of a container is one call of these.
+//! The parts of a column of your own sum type: the variants of its rows, and a column for the values of each variant.
+//! With two variants, each container trait is one call of these functions.
 
+pub use columnar_variants::bank::apart::{columns_of, first_and_others};
 pub use columnar_variants::bank::bytes::{
     AsBytesBank, BytesBank, CheckBank, FromBytesBank, StoredBank,
 };
 pub use columnar_variants::bank::copy::ExtendBank;
 pub use columnar_variants::bank::earlier::EarlierBank;
+pub use columnar_variants::bank::few::{Digit, FewColumns, Fifteen, Next, Within, Zero};
 pub use columnar_variants::bank::grow::{ClearBank, CutBank, ReserveBank, StorageBank};
 pub use columnar_variants::bank::owned::{BorrowBank, ReborrowBank};
 pub use columnar_variants::bank::push::{PushCase, PushCaseRef};
@@ -24,7 +26,7 @@ pub use columnar_variants::dual::{
     get_dual, len_of_dual, push_first, push_first_ref, push_second, push_second_ref, reserve_dual,
     truncate_dual,
 };
-pub use columnar_variants::fronts::{count_rows, fronts};
+pub use columnar_variants::fronts::{count_rows, fronts, fronts_tallied};
 pub use columnar_variants::run::push_variants;
 pub use columnar_variants::variants::Variants;
 pub use columnar_variants::variants::owned::ReborrowCases;

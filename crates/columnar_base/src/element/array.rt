@@ -1,15 +1,43 @@
-//! Arrays of elements as elements: one element's bytes after the other's.
-ghost use Rattle.std.specs.Prelude.{ℕ, ◌≡◌};
+//! Arrays as rows; arrays of elements as elements, stored one element after the other.
+ghost use Rattle.std.specs.Prelude.{ℕ, ◌≡◌, List, length, map, refl};
 ghost use Rattle.columnar_base.specs.Arrays.{array_bytes, array_row, array_row_of, array_size};
-ghost use Rattle.columnar_base.specs.ArrayLaws.{array_element};
+ghost use Rattle.columnar_base.specs.ArrayLaws.{array_element, array_row_is};
+ghost use Rattle.columnar_base.specs.Floats.{double_row, single_row};
+ghost use Rattle.columnar_base.specs.Row.{Row, list};
 
 use super::Element;
 use crate::traits::Item;
 use crate::view::element_in;
 
-/// As a row, it is the list of its elements.
-impl<T: Element, const N: usize> Item for [T; N] {
-    ghost meaning = { array_row N T.size T.le_bytes T.row_of };
+/// A value whose arrays are rows.
+pub trait ArrayItem: Item {
+    // the row of an array of that many items
+    ghost array_row: { ℕ → List Self → Row };
+
+    ghost is_list: { (n : ℕ) (xs : List Self) → length xs ≡ n → array_row n xs ≡ list (map Self.meaning xs) };
+}
+
+impl<T: Element> ArrayItem for T {
+    ghost array_row = { λ n xs. array_row n T.size T.le_bytes T.row_of xs };
+
+    ghost is_list = { λ n xs l. array_row_is n T.element xs l };
+}
+
+impl ArrayItem for f32 {
+    ghost array_row = { λ n xs. list (map single_row xs) };
+
+    ghost is_list = { λ n xs l. refl };
+}
+
+impl ArrayItem for f64 {
+    ghost array_row = { λ n xs. list (map double_row xs) };
+
+    ghost is_list = { λ n xs l. refl };
+}
+
+/// Its row is the list of its items' rows.
+impl<T: ArrayItem, const N: usize> Item for [T; N] {
+    ghost meaning = { T.array_row N };
 
     ghost valid = { λ x. Unit {0} };
 }

@@ -1,4 +1,4 @@
-//! Numbers whose operators wrap, as elements: each is the number inside.
+//! Wrapping numbers as elements: each is the number inside.
 ghost use Rattle.std.specs.Prelude.{ℕ, ◌≡◌};
 ghost use Rattle.columnar_base.specs.NumberLaws.{element_inside};
 

@@ -1,5 +1,5 @@
 // Made by .ci/widths.py: change .ci/widths/base.template, and not this file.
-//! Tuples of four columns of one length.
+//! Tuples of four columns of equal length.
 ghost use Rattle.std.specs.Prelude.{◌≡◌, List, [], ◌∷◌, OnOk, IfErr};
 ghost use Rattle.columnar_base.specs.Row.{tuple};
 ghost use Rattle.columnar_base.specs.Format.{both, IsSound};
@@ -16,14 +16,14 @@ use crate::tuple::three::enter_three;
 use crate::tuple::{ByRef, ByValue, Enter, duplicate_after, reserve_after, taken_back};
 use std::alloc::Global;
 
-/// As a row, it is the tuple of the rows of its parts.
+/// Its row is the tuple of its parts' rows.
 impl<P: Item, Q: Item, R: Item, S: Item> Item for (P, Q, R, S) {
     ghost meaning = { λ p. tuple (P.meaning p.0) (tuple (Q.meaning p.1) (tuple (R.meaning p.2) (S.meaning p.3))) };
 
     ghost valid = { λ p. P.valid p.0 × (Q.valid p.1 × (R.valid p.2 × S.valid p.3)) };
 }
 
-/// The slices of the parts in their order; a row is the tuple of their rows.
+/// The slices of the parts in order. Each row is the tuple of the parts' rows.
 impl<A: Column, B: Column, C: Column, D: Column> Column for (A, B, C, D) {
     ghost format = { tuple_format A.format B.format (C.format ∷ D.format ∷ []) };
 
@@ -48,7 +48,7 @@ impl<A: Index, B: Index, C: Index, D: Index> Index for (A, B, C, D) {
     }
 }
 
-/// Rows are read through a reference as those of the parts are through one.
+/// Reads rows through a reference: each row is the tuple of the parts' rows, read through references.
 impl<'a, A, B, C, D> Index for &'a (A, B, C, D)
 where
     A: Column,
@@ -147,7 +147,7 @@ impl<A: Reserve, B: Reserve, C: Reserve, D: Reserve> Reserve for (A, B, C, D) {
     }
 }
 
-/// It takes what can be pushed into it: tuples of items of its parts, by value and by reference.
+/// Takes every item with `PushInto`: tuples of items of the parts, by value or by reference.
 impl<Z: PushInto<(A, B, C, D)>, A: Column, B: Column, C: Column, D: Column> Push<Z>
     for (A, B, C, D) {
     #[inline(always)]
@@ -156,7 +156,13 @@ impl<Z: PushInto<(A, B, C, D)>, A: Column, B: Column, C: Column, D: Column> Push
     }
 }
 
-/// Each of four parts takes what is handed to it. Where one of them refuses it, none has taken any.
+/// Enters each item or range into its part, for four parts. If one part refuses, none changes.
+///
+/// # Requires
+/// A well-formed tuple, valid entries, and equally many rows for all parts, from the same start.
+///
+/// # Errors
+/// The error of the part that refuses.
 #[inline(always)]
 pub fn enter_four<
     A: Truncate,
@@ -191,7 +197,7 @@ pub fn enter_four<
     }
 }
 
-/// Each part takes its own of the item. Where one of them refuses it, none has taken any.
+/// Pushes each field to its part. If one part refuses, none changes.
 impl<
     P: Item,
     Q: Item + Drop,
@@ -218,7 +224,7 @@ impl<
     }
 }
 
-/// The parts of the item are pushed by reference.
+/// Pushes the fields by reference.
 impl<
     'x,
     P: Item,
@@ -261,7 +267,10 @@ impl<
     }
 }
 
-/// The parts of four columns of one length, each well formed, as the tuple is.
+/// Splits a tuple of four columns into its parts, each well-formed.
+///
+/// # Requires
+/// A well-formed tuple.
 pub fn parts_of_four<A: Column, B: Column, C: Column, D: Column>(
     tuple: (A, B, C, D),
 ) -> (A, B, C, D)

@@ -1,5 +1,5 @@
 // Made by .ci/widths.py: change .ci/widths/base.template, and not this file.
-//! Tuples of nine columns of one length.
+//! Tuples of nine columns of equal length.
 ghost use Rattle.std.specs.Prelude.{◌≡◌, List, [], ◌∷◌, OnOk, IfErr};
 ghost use Rattle.columnar_base.specs.Row.{tuple};
 ghost use Rattle.columnar_base.specs.Format.{both, IsSound};
@@ -16,7 +16,7 @@ use crate::tuple::eight::enter_eight;
 use crate::tuple::{ByRef, ByValue, Enter, duplicate_after, reserve_after, taken_back};
 use std::alloc::Global;
 
-/// As a row, it is the tuple of the rows of its parts.
+/// Its row is the tuple of its parts' rows.
 impl<P: Item, Q: Item, R: Item, S: Item, T: Item, U: Item, V: Item, W: Item, X: Item> Item
     for (P, Q, R, S, T, U, V, W, X) {
     ghost meaning = { λ p. tuple (P.meaning p.0) (tuple (Q.meaning p.1) (tuple (R.meaning p.2) (tuple (S.meaning p.3) (tuple (T.meaning p.4) (tuple (U.meaning p.5) (tuple (V.meaning p.6) (tuple (W.meaning p.7) (X.meaning p.8)))))))) };
@@ -24,7 +24,7 @@ impl<P: Item, Q: Item, R: Item, S: Item, T: Item, U: Item, V: Item, W: Item, X: 
     ghost valid = { λ p. P.valid p.0 × (Q.valid p.1 × (R.valid p.2 × (S.valid p.3 × (T.valid p.4 × (U.valid p.5 × (V.valid p.6 × (W.valid p.7 × X.valid p.8))))))) };
 }
 
-/// The slices of the parts in their order; a row is the tuple of their rows.
+/// The slices of the parts in order. Each row is the tuple of the parts' rows.
 impl<
     A: Column,
     B: Column,
@@ -100,7 +100,7 @@ impl<A: Index, B: Index, C: Index, D: Index, E: Index, F: Index, G: Index, H: In
     }
 }
 
-/// Rows are read through a reference as those of the parts are through one.
+/// Reads rows through a reference: each row is the tuple of the parts' rows, read through references.
 impl<'a, A, B, C, D, E, F, G, H, I> Index for &'a (A, B, C, D, E, F, G, H, I)
 where
     A: Column,
@@ -330,7 +330,7 @@ impl<
     }
 }
 
-/// It takes what can be pushed into it: tuples of items of its parts, by value and by reference.
+/// Takes every item with `PushInto`: tuples of items of the parts, by value or by reference.
 impl<
     Z: PushInto<(A, B, C, D, E, F, G, H, I)>,
     A: Column,
@@ -349,7 +349,13 @@ impl<
     }
 }
 
-/// Each of nine parts takes what is handed to it. Where one of them refuses it, none has taken any.
+/// Enters each item or range into its part, for nine parts. If one part refuses, none changes.
+///
+/// # Requires
+/// A well-formed tuple, valid entries, and equally many rows for all parts, from the same start.
+///
+/// # Errors
+/// The error of the part that refuses.
 #[inline(always)]
 pub fn enter_nine<
     A: Truncate,
@@ -406,7 +412,7 @@ pub fn enter_nine<
     }
 }
 
-/// Each part takes its own of the item. Where one of them refuses it, none has taken any.
+/// Pushes each field to its part. If one part refuses, none changes.
 impl<
     P: Item,
     Q: Item + Drop,
@@ -453,7 +459,7 @@ impl<
     }
 }
 
-/// The parts of the item are pushed by reference.
+/// Pushes the fields by reference.
 impl<
     'x,
     P: Item,
@@ -526,7 +532,10 @@ impl<
     }
 }
 
-/// The parts of nine columns of one length, each well formed, as the tuple is.
+/// Splits a tuple of nine columns into its parts, each well-formed.
+///
+/// # Requires
+/// A well-formed tuple.
 pub fn parts_of_nine<
     A: Column,
     B: Column,

@@ -9,14 +9,14 @@ use crate::storage::{Reserve, Storage, Truncate};
 use crate::traits::{Clear, Column, Index, Item, Len, Push, PushInto, PushRef};
 use std::alloc::Global;
 
-/// As a row, it is the tuple of the row of its part.
+/// Its row is the tuple of its part's row.
 impl<P: Item> Item for (P,) {
     ghost meaning = { λ p. solo (P.meaning p.0) };
 
     ghost valid = { λ p. P.valid p.0 };
 }
 
-/// The slices of the part; a row is the tuple of its row.
+/// The slices of the part. Each row is the tuple of the part's row.
 impl<A: Column> Column for (A,) {
     ghost format = { solo_format A.format };
 
@@ -37,7 +37,7 @@ impl<A: Index> Index for (A,) {
     }
 }
 
-/// Rows are read through a reference as those of the part are through one.
+/// Reads rows through a reference: each row is the tuple of the part's row, read through a reference.
 impl<'a, A> Index for &'a (A,)
 where
     A: Column,
@@ -89,7 +89,7 @@ impl<A: Reserve> Reserve for (A,) {
     }
 }
 
-/// It takes what can be pushed into it: tuples of an item of its part, by value and by reference.
+/// Takes every item with `PushInto`: tuples of one item of the part, by value or by reference.
 impl<Z: PushInto<(A,)>, A: Column> Push<Z> for (A,) {
     #[inline(always)]
     fn push(&mut self, item: Z) -> Result<(), GrowError> {
@@ -97,7 +97,7 @@ impl<Z: PushInto<(A,)>, A: Column> Push<Z> for (A,) {
     }
 }
 
-/// The part takes its own of the item.
+/// Pushes the field to the part.
 impl<P: Item, A: Push<P>> PushInto<(A,)> for (P,) {
     #[inline(always)]
     fn push_into(self, column: &mut (A,)) -> Result<(), GrowError> {
@@ -106,7 +106,7 @@ impl<P: Item, A: Push<P>> PushInto<(A,)> for (P,) {
     }
 }
 
-/// The part of the item is pushed by reference.
+/// Pushes the field by reference.
 impl<'x, P: Item, A: PushRef<P>> PushInto<(A,)> for &'x (P,) {
     #[inline(always)]
     fn push_into(self, column: &mut (A,)) -> Result<(), GrowError> {

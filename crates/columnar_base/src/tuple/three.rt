@@ -1,5 +1,5 @@
 // Made by .ci/widths.py: change .ci/widths/base.template, and not this file.
-//! Tuples of three columns of one length.
+//! Tuples of three columns of equal length.
 ghost use Rattle.std.specs.Prelude.{◌≡◌, List, [], ◌∷◌, OnOk, IfErr};
 ghost use Rattle.columnar_base.specs.Row.{tuple};
 ghost use Rattle.columnar_base.specs.Format.{both, IsSound};
@@ -15,14 +15,14 @@ use crate::traits::{Clear, Column, Index, Item, Len, Push, PushInto, PushRef};
 use crate::tuple::{ByRef, ByValue, Enter, duplicate_after, enter_two, reserve_after, taken_back};
 use std::alloc::Global;
 
-/// As a row, it is the tuple of the rows of its parts.
+/// Its row is the tuple of its parts' rows.
 impl<P: Item, Q: Item, R: Item> Item for (P, Q, R) {
     ghost meaning = { λ p. tuple (P.meaning p.0) (tuple (Q.meaning p.1) (R.meaning p.2)) };
 
     ghost valid = { λ p. P.valid p.0 × (Q.valid p.1 × R.valid p.2) };
 }
 
-/// The slices of the parts in their order; a row is the tuple of their rows.
+/// The slices of the parts in order. Each row is the tuple of the parts' rows.
 impl<A: Column, B: Column, C: Column> Column for (A, B, C) {
     ghost format = { tuple_format A.format B.format (C.format ∷ []) };
 
@@ -46,7 +46,7 @@ impl<A: Index, B: Index, C: Index> Index for (A, B, C) {
     }
 }
 
-/// Rows are read through a reference as those of the parts are through one.
+/// Reads rows through a reference: each row is the tuple of the parts' rows, read through references.
 impl<'a, A, B, C> Index for &'a (A, B, C)
 where
     A: Column,
@@ -127,7 +127,7 @@ impl<A: Reserve, B: Reserve, C: Reserve> Reserve for (A, B, C) {
     }
 }
 
-/// It takes what can be pushed into it: tuples of items of its parts, by value and by reference.
+/// Takes every item with `PushInto`: tuples of items of the parts, by value or by reference.
 impl<Z: PushInto<(A, B, C)>, A: Column, B: Column, C: Column> Push<Z> for (A, B, C) {
     #[inline(always)]
     fn push(&mut self, item: Z) -> Result<(), GrowError> {
@@ -135,7 +135,13 @@ impl<Z: PushInto<(A, B, C)>, A: Column, B: Column, C: Column> Push<Z> for (A, B,
     }
 }
 
-/// Each of three parts takes what is handed to it. Where one of them refuses it, none has taken any.
+/// Enters each item or range into its part, for three parts. If one part refuses, none changes.
+///
+/// # Requires
+/// A well-formed tuple, valid entries, and equally many rows for all parts, from the same start.
+///
+/// # Errors
+/// The error of the part that refuses.
 #[inline(always)]
 pub fn enter_three<
     A: Truncate,
@@ -159,7 +165,7 @@ pub fn enter_three<
     }
 }
 
-/// Each part takes its own of the item. Where one of them refuses it, none has taken any.
+/// Pushes each field to its part. If one part refuses, none changes.
 impl<
     P: Item,
     Q: Item + Drop,
@@ -182,7 +188,7 @@ impl<
     }
 }
 
-/// The parts of the item are pushed by reference.
+/// Pushes the fields by reference.
 impl<
     'x,
     P: Item,
@@ -219,7 +225,10 @@ impl<
     }
 }
 
-/// The parts of three columns of one length, each well formed, as the tuple is.
+/// Splits a tuple of three columns into its parts, each well-formed.
+///
+/// # Requires
+/// A well-formed tuple.
 pub fn parts_of_three<A: Column, B: Column, C: Column>(tuple: (A, B, C)) -> (A, B, C)
     requires { IsSound (tuple_format A.format B.format (C.format ∷ [])) (both (A.content tuple.0) (both (B.content tuple.1) (C.content tuple.2))) }
     ensures first { IsSound A.format (A.content result.0) }

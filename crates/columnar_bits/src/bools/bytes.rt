@@ -1,4 +1,4 @@
-//! Truth values in slices of bytes.
+//! Booleans in byte slices.
 ghost use Rattle.std.specs.Prelude.{◌≡◌, ◌+◌, ◌^◌, ◌<◌, length, refl};
 ghost use Rattle.columnar_core.specs.Format.{slice, both, first, moved};
 ghost use Rattle.columnar_core.specs.Faults.{verdict};
@@ -18,14 +18,20 @@ use columnar_core::view::{View, element_in};
 use columnar_core::words::{Words, byte_count, word_count};
 use std::alloc::Global;
 
-// Is the count below 64, and is no bit set from there on?
+// Returns whether the count is below 64, and no bit from it on is set.
 fn fits_tail(word: u64, count: u64) -> bool
     ensures { result ≡ is_tail word count }
 {
     count < 64 && word >> count == 0
 }
 
-/// Which rule do the words and the tail break first? Slices are counted from `from` on.
+/// Validates the words and the tail, with slices counted from `from` on.
+///
+/// # Requires
+/// Slice numbers below 2^64.
+///
+/// # Errors
+/// The first broken rule.
 pub fn judged(values: View<'_, u64>, tail: View<'_, u64>, from: usize) -> Result<(), StoreFault>
     requires { from + 2 < 2 ^ 64 }
     ensures { verdict result ≡ first (moved from (bools_broken (both (slice (view_bytes values.entry)) (slice (view_bytes tail.entry))))) }
@@ -104,7 +110,7 @@ impl<'s> AsBytes<'s> for Bools<View<'s, u64>, View<'s, u64>> {
     }
 }
 
-// The two words of 16 bytes.
+// Returns the two words of 16 bytes.
 fn two_words(bytes: &[u8]) -> [u64; 2]
     requires { length bytes.now ≡ 16 }
     ensures { le_bytes result ≡ bytes.now }

@@ -1,4 +1,4 @@
-//! A column as words.
+//! Encoding a column as words.
 ghost use Rattle.std.specs.Prelude.{[], ◌∷◌, ◌≡◌, ◌++◌, ◌+◌, ◌<◌, ◌≤◌, ◌*◌, ◌^◌, ◌↔◌, length, vec_len, vec_capacity, IsTrue, OnOk, OnErr};
 ghost use Rattle.std.specs.List.{flat_map};
 ghost use Rattle.columnar_core.specs.Format.{representable, slices_of};
@@ -13,12 +13,17 @@ use columnar_core::bytes::AsBytes;
 use columnar_core::fault::EncodeError;
 use columnar_core::store::round_up;
 
-// How many words are made at once
+// The number of words that are made at once.
 const BLOCK: usize = 128;
 
-/// Appends the column's encoding to the store, with offsets counted from its own start. Refused with `Length` exactly
-/// where its bytes would pass 2^64 - 1, and with `Memory` only where the store has no room for it and can't grow; a
-/// refusal leaves the store's words. Asks that the type is representable.
+/// Appends the column's encoding to the store, with offsets counted from the start of the encoding.
+///
+/// # Requires
+/// A representable type.
+///
+/// # Errors
+/// `Length` if and only if the encoding would exceed 2^64 - 1 bytes; `Memory` only if the store's capacity is too small
+/// and cannot grow. The words of the store stay.
 pub fn encode<'a, S: AsBytes<'a>>(store: &mut Vec<u64>, item: &S) -> Result<(), EncodeError>
     requires { IsTrue (representable S.format) }
     ensures ok { OnOk result (store.new.items ≡ store.old.items ++ words (slices_of (S.content item.now))) }
@@ -38,7 +43,7 @@ pub fn encode<'a, S: AsBytes<'a>>(store: &mut Vec<u64>, item: &S) -> Result<(), 
     Ok(())
 }
 
-// Appends where each slice ends. There is room for it.
+// Appends the end of each slice; the capacity suffices.
 fn append_table<'a, S: AsBytes<'a>>(store: &mut Vec<u64>, item: &S)
     requires representable { IsTrue (representable S.format) }
     requires counted { 8 * length (words (slices_of (S.content item.now))) < 2 ^ 64 }
@@ -56,7 +61,7 @@ fn append_table<'a, S: AsBytes<'a>>(store: &mut Vec<u64>, item: &S)
     }
 }
 
-// Appends the words of each slice. There is room for them.
+// Appends the words of each slice; the capacity suffices.
 fn append_slices<'a, S: AsBytes<'a>>(store: &mut Vec<u64>, item: &S)
     requires representable { IsTrue (representable S.format) }
     requires room { vec_len store.old + length (flat_map slice_words (slices_of (S.content item.now))) ≤ vec_capacity store.old }
@@ -78,7 +83,7 @@ fn append_slice(store: &mut Vec<u64>, slice: ByteSlice<'_>)
     }
 }
 
-// Appends the words of a slice that is made of them, all at once.
+// Appends the words of a slice that is made of words, all at once.
 fn append_words(store: &mut Vec<u64>, words: &[u64])
     requires { vec_len store.old + length (slice_words (le_bytes words.now)) ≤ vec_capacity store.old }
     ensures items { store.new.items ≡ store.old.items ++ slice_words (le_bytes words.now) }

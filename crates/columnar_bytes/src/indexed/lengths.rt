@@ -1,4 +1,4 @@
-//! How long the encoding of a column is.
+//! The length of a column's encoding.
 ghost use Rattle.std.specs.Prelude.{◌≡◌, ◌+◌, ◌/◌, IsTrue};
 ghost use Rattle.columnar_core.specs.Format.{representable, slices_of};
 ghost use Rattle.columnar_core.specs.Words.{word_count, byte_count};
@@ -6,18 +6,21 @@ ghost use Rattle.columnar_core.specs.Words.{word_count, byte_count};
 use super::slices::{byte_slice, slice_count};
 use columnar_core::bytes::AsBytes;
 
-// The most words whose bytes can be counted
+// The greatest number of words whose bytes a `usize` can count.
 const MAX_WORDS: usize = usize::MAX / 8;
 
-/// How many words hold `len` bytes.
+/// Returns the number of words that hold `len` bytes.
 pub fn words_for(len: usize) -> usize
     ensures { result ≡ (len + 7) / 8 }
 {
     if len % 8 == 0 { len / 8 } else { len / 8 + 1 }
 }
 
-/// The length of the column's encoding in words of 64 bits; `None` exactly where its bytes would pass 2^64 - 1. Asks
-/// that the type is representable.
+/// Returns the length of the column's encoding in 64-bit words, or `None` if and only if its bytes would exceed 2^64 -
+/// 1.
+///
+/// # Requires
+/// A representable type.
 pub fn length_in_words<'a, S: AsBytes<'a>>(item: &S) -> Option<usize>
     requires { IsTrue (representable S.format) }
     ensures { result ≡ word_count (slices_of (S.content item.now)) }
@@ -37,8 +40,10 @@ pub fn length_in_words<'a, S: AsBytes<'a>>(item: &S) -> Option<usize>
     Some(total)
 }
 
-/// The length of the column's encoding in bytes; `None` exactly where it would pass 2^64 - 1. Asks that the type is
-/// representable.
+/// Returns the length of the column's encoding in bytes, or `None` if and only if it would exceed 2^64 - 1.
+///
+/// # Requires
+/// A representable type.
 pub fn length_in_bytes<'a, S: AsBytes<'a>>(item: &S) -> Option<usize>
     requires { IsTrue (representable S.format) }
     ensures { result ≡ byte_count (slices_of (S.content item.now)) }

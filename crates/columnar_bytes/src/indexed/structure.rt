@@ -7,8 +7,10 @@ use columnar_core::fault::StoreFault;
 use columnar_core::store::{round_up, word_in_bytes};
 use columnar_core::tally::Tally;
 
-/// Tests that the bytes are whole words that frame `expected` slices. A fault names the first rule that is broken, and
-/// the slice at which it is: the rules of the whole store first, then those of the slices in order. Takes no memory.
+/// Accepts the bytes if and only if they are whole words that frame `expected` slices; allocates nothing.
+///
+/// # Errors
+/// The first broken rule and its slice: the rules of the whole store, then those of the slices in order.
 pub fn validate_structure(bytes: &[u8], expected: usize) -> Result<(), StoreFault>
     ensures exact { IsOk result ↔ IsLegal bytes.now expected }
     ensures fault { IfErr result (IsFirstBroken bytes.now expected) }
@@ -18,8 +20,11 @@ pub fn validate_structure(bytes: &[u8], expected: usize) -> Result<(), StoreFaul
     validate_structure_tallied(bytes, expected, &mut Tally::new())
 }
 
-/// As `validate_structure`; the turns that it takes are added to the tally: at most one for each slice that is expected,
-/// at most one for each that the table is for, and at most one for each word of the bytes, accepted or refused.
+/// Does what `validate_structure` does, and counts its steps in the tally. Accepted or refused, it takes at most one
+/// step for each expected slice, at most one for each slice of the table, and at most one for each word of the bytes.
+///
+/// # Errors
+/// As `validate_structure`.
 #[tactic(auto, using(crate::specs::FaultLaws::broken_refused))]
 pub fn validate_structure_tallied<L>(
     bytes: &[u8],

@@ -1,4 +1,4 @@
-//! Whether a store holds a column of a type.
+//! Validating that a store holds a column of a type.
 ghost use Rattle.std.specs.Prelude.{◌≡◌, ◌+◌, ◌*◌, ◌/◌, ◌≤◌, ◌↔◌, length, IsTrue, IsOk, IfErr, OnOk};
 ghost use Rattle.columnar_core.specs.Format.{bytes_of_all, representable};
 ghost use Rattle.columnar_core.specs.Frame.{IsLegal, framed_slices, slice_count};
@@ -10,9 +10,14 @@ use columnar_core::fault::StoreFault;
 use columnar_core::store::DecodedStore;
 use columnar_core::tally::{Plain, Tally};
 
-/// Do the bytes frame a well-formed column of type `T`, a view or a container? Ok exactly where they do; else the
-/// fault is the first broken rule, at its slice: the structure's, then the parts' in slice order, then the column's
-/// own. Asks that the type is representable. Needs no memory.
+/// Accepts the bytes if and only if they frame a well-formed column of type `T`, a view or a container; allocates
+/// nothing.
+///
+/// # Requires
+/// A representable type.
+///
+/// # Errors
+/// The first broken rule and its slice: those of the structure, of the parts in slice order, then the column's own.
 pub fn validate<T: Stored>(bytes: &[u8]) -> Result<(), StoreFault>
     requires { IsTrue (representable T.format) }
     ensures exact { IsOk result ↔ Accepts T.format bytes.now }
@@ -22,9 +27,15 @@ pub fn validate<T: Stored>(bytes: &[u8]) -> Result<(), StoreFault>
     validate_tallied::<T, Plain>(bytes, &mut Tally::new())
 }
 
-/// As `validate`; the turns that it takes are added to the tally: at most one for each slice that the table is for, or
-/// that the type has, and 16 for each byte of the slices, accepted or refused; where the structure is refused, the slices
-/// add none.
+/// Does what `validate` does, and counts its steps in the tally. Accepted or refused, it takes at most 16 steps for
+/// each byte of the slices, and one for each slice of the table or of the type, whichever has fewer. If the structure
+/// is refused, the bytes of the slices add none.
+///
+/// # Requires
+/// A representable type.
+///
+/// # Errors
+/// As `validate`.
 pub fn validate_tallied<T: Stored, L>(bytes: &[u8], tally: &mut Tally<L>) -> Result<(), StoreFault>
     requires { IsTrue (representable T.format) }
     ensures exact { IsOk result ↔ Accepts T.format bytes.now }

@@ -1,4 +1,4 @@
-//! A column as bytes.
+//! Writing a column as bytes.
 ghost use Rattle.std.specs.Prelude.{◌<◌, ◌*◌, ◌^◌, length, replicate, IsTrue, IfErr, OnOk, OnErr};
 ghost use Rattle.std.specs.List.{flat_map};
 ghost use Rattle.std.specs.Io.KnownBytes.{Appends};
@@ -19,9 +19,14 @@ use columnar_core::writer::WriteBytes;
 
 static ZEROS: [u8; 8] = [0, 0, 0, 0, 0, 0, 0, 0];
 
-/// Writes the bytes of the column's encoding, each word lowest byte first, and nothing else. Refused with `Length`
-/// exactly where they would pass 2^64 - 1, before any byte; ended with `Writer` where the writer failed, after a
-/// beginning of the bytes that is not all of them. Asks that the type is representable.
+/// Writes the bytes of the column's encoding, lowest byte first within a word, and nothing else.
+///
+/// # Requires
+/// A representable type.
+///
+/// # Errors
+/// `Length` if and only if the encoding would exceed 2^64 - 1 bytes; then nothing was written. `Writer` if the writer
+/// failed; then a beginning of the bytes was written, but not all.
 pub fn write<'a, W: WriteBytes, S: AsBytes<'a>>(
     writer: &mut W,
     item: &S,

@@ -1,4 +1,4 @@
-//! How a stash is copied.
+//! Copying a stash.
 ghost use Rattle.std.specs.Prelude.{◌≡◌, IfOk, IfErr};
 
 use super::{ByteStore, Checked, Stash};
@@ -40,8 +40,11 @@ impl<C: Stored + Clone, B: ByteStore> Clone for Stash<C, B> {
 impl<C: Stored + Storage, B: ByteStore> Stash<C, B> {
     ghost use Rattle.columnar_bytes.specs.Stashes.{stash_content, variant_of, written_bytes};
 
-    /// A stash of the same variant, with the same rows and slices, that writes the same bytes; want of memory alone
-    /// refuses it. What a clone keeps of a column is what the column's `clone` says.
+    /// Copies the stash: the copy has the same variant, rows and slices, and writes the same bytes. In contrast, what
+    /// `clone` copies of a column is up to the column's `clone`.
+    ///
+    /// # Errors
+    /// `Memory`, and no other error.
     pub fn duplicate(&self, alloc: Global) -> Result<Self, GrowError>
         ensures variant { IfOk result (λ s. variant_of s ≡ variant_of self.now) }
         ensures content { IfOk result (λ s. stash_content s ≡ stash_content self.now) }

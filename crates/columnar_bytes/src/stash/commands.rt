@@ -15,19 +15,19 @@ use std::alloc::Global;
 /// A command on a stash.
 #[derive(Drop)]
 pub enum Command<T> {
-    /// Adds a row.
+    /// Appends a row.
     Push(T),
-    /// Takes all rows away.
+    /// Removes all rows.
     Clear,
-    /// Adds the rows of a range of the source.
+    /// Appends the rows of a range of the source.
     Copy(usize, usize),
     /// Keeps the first rows.
     Truncate(usize),
-    /// Makes a column of the bytes.
+    /// Converts the bytes to a column.
     MakeTyped,
-    /// Makes the bytes of the encoding.
+    /// Converts the stash to the bytes of its encoding.
     MakeAligned,
-    /// Writes to new bytes, and opens them.
+    /// Writes the stash to new bytes and opens them.
     Reopen,
 }
 
@@ -36,23 +36,23 @@ pub enum Command<T> {
 pub enum Refusal {
     /// The column did not grow.
     Grow(GrowError),
-    /// The range of the copy is out of order or past the source, or the cut past the rows.
+    /// The range of the copy is reversed or not within the source, or there are fewer rows than the cut keeps.
     Range,
     /// Nothing was encoded.
     Encode(EncodeError),
 }
 
-/// What came of a command.
+/// The result of a command.
 #[derive(Clone, Copy, Debug, PartialEq, Eq)]
 pub enum Reply {
-    /// It was done.
+    /// The command was carried out.
     Done,
-    /// It was refused; no row changed.
+    /// The command was refused; no row changed.
     Refused(Refusal),
 }
 
 impl<T> Command<T> {
-    // Is the command in range, for a source and a stash of so many rows?
+    // Returns whether the command is in range, for a source of `source` rows and a stash of `rows` rows.
     fn is_in_range(&self, source: usize, rows: usize) -> bool
         ensures { (meaning : T → Row) → result ≡ in_range source rows (order_of meaning self.now) }
     {
@@ -69,7 +69,7 @@ impl<T> Command<T> {
 }
 
 impl<C: ContainerBytes + Storage> Stash<C, Vec<u8>> {
-    // One command; the range is tested first.
+    // Applies one command, after testing its range.
     fn apply<T: Item, V: Len + Copy>(
         &mut self,
         alloc: Global,
@@ -93,7 +93,7 @@ impl<C: ContainerBytes + Storage> Stash<C, Vec<u8>> {
         }
     }
 
-    // One command that is in range.
+    // Applies one command that is in range.
     fn act<T: Item, V: Len + Copy>(
         &mut self,
         alloc: Global,
@@ -143,10 +143,15 @@ impl<C: ContainerBytes + Storage> Stash<C, Vec<u8>> {
     }
 }
 
-/// Runs the commands in turn, and gives the stash back with one reply for each, in order. Each reply is true of the
-/// column that was held then. The memory for the replies is taken first; where it is refused, the stash comes back as it
-/// was.
-pub fn run<T: Item, V: Len + Copy, C: ContainerBytes + PushRef<T> + ExtendFrom<V>>(
+/// Runs the commands in order, and returns the stash with one reply for each command. Each reply is true of the column
+/// at that time.
+///
+/// # Requires
+/// A representable type; a well-formed stash and source; valid items.
+///
+/// # Errors
+/// `Memory` if the replies cannot be allocated, before any command; the stash is then unchanged.
+pub fn run<T: Item, V: Len + Copy, C: ContainerBytes + Storage + PushRef<T> + ExtendFrom<V>>(
     alloc: Global,
     mut stash: Stash<C, Vec<u8>>,
     source: V,

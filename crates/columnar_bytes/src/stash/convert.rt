@@ -1,4 +1,4 @@
-//! How a stash changes its variant, and keeps its rows.
+//! Converting a stash to another variant, with the same rows.
 ghost use Rattle.std.specs.Prelude.{◌≡◌, ◌≢◌, ◌↔◌, ◌*◌, ◌^◌, ◌<◌, ◌≤◌, length, Err, IsTrue, IfOk, IfErr, OnOk, OnErr, MatchResult};
 ghost use Rattle.columnar_core.specs.Format.{IsSound, representable, slices_of};
 ghost use Rattle.columnar_core.specs.Frame.{framed_slices};
@@ -18,7 +18,7 @@ use std::marker::PhantomData;
 impl<C: ContainerBytes, B: ByteStore> Checked<C, B> {
     ghost use Rattle.columnar_bytes.specs.Stashes.{checked_bytes};
 
-    // The column in the bytes.
+    // Loads the column from the bytes.
     pub(super) fn load(&self, alloc: Global) -> Result<C, GrowError>
         ensures content { IfOk result (λ c. C.content c ≡ C.format.build (framed_slices (checked_bytes self.now))) }
         ensures sound { IfOk result (λ c. IsSound C.format (C.content c)) }
@@ -31,7 +31,7 @@ impl<C: ContainerBytes, B: ByteStore> Checked<C, B> {
 impl<C: ContainerBytes, B: ByteStore> Stash<C, B> {
     ghost use Rattle.columnar_bytes.specs.Stashes.{stash_content, variant_of, typed};
 
-    // The column in the bytes, loaded aside.
+    // Loads the column from the bytes, and leaves the stash as it is.
     pub(super) fn aside(&self) -> Result<C, GrowError>
         requires bytes { variant_of self.now ≢ typed }
         ensures content { IfOk result (λ c. C.content c ≡ stash_content self.now) }
@@ -49,7 +49,7 @@ impl<C: ContainerBytes, B: ByteStore> Stash<C, B> {
 impl<C: Stored, B: ByteStore> Checked<C, B> {
     ghost use Rattle.columnar_bytes.specs.Stashes.{checked_bytes};
 
-    // Bytes that are accepted.
+    // Wraps bytes that are accepted.
     pub(super) fn accept(alloc: Global, store: B) -> Self
         requires accepted { Accepted C.format (B.bytes store) }
         requires representable { IsTrue (representable C.format) }
@@ -63,7 +63,7 @@ impl<C: Stored, B: ByteStore> Checked<C, B> {
     }
 }
 
-// The bytes of the item's words.
+// Returns the bytes of the item's encoding.
 fn encoding<'a, S: AsBytes<'a>>(alloc: Global, item: &S) -> Result<Vec<u8>, EncodeError>
     requires { IsTrue (representable S.format) }
     ensures bytes { IfOk result (λ v. v.items ≡ store_bytes (slices_of (S.content item.now))) }
@@ -86,7 +86,10 @@ fn encoding<'a, S: AsBytes<'a>>(alloc: Global, item: &S) -> Result<Vec<u8>, Enco
 impl<C: ContainerBytes + Storage, B: ByteStore> Stash<C, B> {
     ghost use Rattle.columnar_bytes.specs.Stashes.{stash_content, variant_of, typed};
 
-    /// A stash of a column with the same rows and slices; want of memory alone refuses it.
+    /// Makes a stash of a column with the same rows and slices.
+    ///
+    /// # Errors
+    /// `Memory`, and no other error.
     pub fn to_typed(&self, alloc: Global) -> Result<Self, GrowError>
         ensures variant { IfOk result (λ s. variant_of s ≡ typed) }
         ensures content { IfOk result (λ s. stash_content s ≡ stash_content self.now) }
@@ -96,7 +99,7 @@ impl<C: ContainerBytes + Storage, B: ByteStore> Stash<C, B> {
         Ok(Stash::Typed(column))
     }
 
-    // A column with the same rows and slices.
+    // Returns a column with the same rows and slices.
     fn loaded(&self, alloc: Global) -> Result<C, GrowError>
         ensures content { IfOk result (λ c. C.content c ≡ stash_content self.now) }
         ensures memory { IfErr result (λ e. e ≡ GrowError.Memory) }
@@ -114,8 +117,11 @@ impl<C: ContainerBytes + Drop, B: ByteStore> Stash<C, B> {
     ghost use Rattle.columnar_bytes.specs.Stashes.{stash_content, variant_of, typed};
     ghost use Rattle.columnar_bytes.specs.StashLends.{lends_typed};
 
-    /// The column, for writing: bytes are loaded into a column first, with the same rows and slices. What the caller
-    /// leaves there is what the stash holds. Want of memory alone refuses it, and leaves the stash as it was.
+    /// Lends the column for writing; bytes are first loaded into a column with the same rows and slices. The stash
+    /// keeps what the caller leaves there.
+    ///
+    /// # Errors
+    /// `Memory`, and no other error; the stash stays.
     pub fn make_typed(&mut self) -> Result<&mut C, GrowError>
         ensures* writes_back { sem 𝓛 (lends_typed C.row B.row C.Column B.ByteStore self.entry result) }
         ensures content { IfOk result (λ c. C.content c.now ≡ stash_content self.old) }
@@ -129,7 +135,7 @@ impl<C: ContainerBytes + Drop, B: ByteStore> Stash<C, B> {
         }
     }
 
-    // Loads bytes into a column.
+    // Converts bytes to a column.
     pub(super) fn load_in_place(&mut self) -> Result<(), GrowError>
         ensures variant { OnOk result (variant_of self.new ≡ typed) }
         ensures content { stash_content self.new ≡ stash_content self.old }
@@ -149,7 +155,7 @@ impl<C: ContainerBytes + Drop, B: ByteStore> Stash<C, B> {
 impl<C: ContainerBytes, B: ByteStore> Stash<C, B> {
     ghost use Rattle.columnar_bytes.specs.Stashes.{stash_content, variant_of, aligned, HoldsBytes, checked_bytes};
 
-    // The bytes of the words of the view.
+    // Returns the bytes of the view's encoding.
     fn encoded(&self, alloc: Global) -> Result<Vec<u8>, EncodeError>
         requires { IsTrue (representable C.format) }
         ensures bytes { IfOk result (λ v. v.items ≡ store_bytes (slices_of (stash_content self.now))) }
@@ -163,8 +169,14 @@ impl<C: ContainerBytes, B: ByteStore> Stash<C, B> {
         }
     }
 
-    /// A stash of the bytes of the encoding, with zeros between the slices and nothing after them, of the same rows.
-    /// Refused with `Length` exactly where these bytes would pass 2^64 - 1.
+    /// Makes a stash of the bytes of the encoding, with the same rows. They have zeros between the slices and nothing
+    /// after them.
+    ///
+    /// # Requires
+    /// A representable type, and a well-formed stash.
+    ///
+    /// # Errors
+    /// `Length` if and only if the encoding would exceed 2^64 - 1 bytes, or `Memory`.
     pub fn to_aligned(&self, alloc: Global) -> Result<Self, EncodeError>
         requires representable { IsTrue (representable C.format) }
         requires sound { IsSound C.format (stash_content self.now) }
@@ -177,7 +189,7 @@ impl<C: ContainerBytes, B: ByteStore> Stash<C, B> {
         Ok(Stash::Align(checked))
     }
 
-    // The bytes of the encoding, shared.
+    // Returns the bytes of the encoding, shared.
     fn aligned(&self, alloc: Global) -> Result<Checked<C, AlignedBytes>, EncodeError>
         requires representable { IsTrue (representable C.format) }
         requires sound { IsSound C.format (stash_content self.now) }
@@ -200,9 +212,14 @@ impl<C: ContainerBytes + Drop, B: ByteStore> Stash<C, B> {
     ghost use Rattle.columnar_bytes.specs.StashLends.{ends_as};
     ghost use Rattle.columnar_bytes.specs.declared.stash.Stash.TheVariants.{Align};
 
-    /// The bytes of the encoding, with zeros between the slices and nothing after them, which the stash then holds: bytes
-    /// of the same rows. Where it is of the variant `Align` it holds them already, and is never refused. Refused with
-    /// `Length` exactly where these bytes would pass 2^64 - 1; a refusal leaves the stash as it was.
+    /// Converts the stash to the bytes of its encoding, with the same rows, and lends them. They have zeros between the
+    /// slices and nothing after them. If the variant is `Align`, it keeps them and never fails.
+    ///
+    /// # Requires
+    /// A representable type, and a well-formed stash.
+    ///
+    /// # Errors
+    /// `Length` if and only if the encoding would exceed 2^64 - 1 bytes, or `Memory`. The stash stays.
     pub fn make_aligned(&mut self, alloc: Global) -> Result<&Checked<C, AlignedBytes>, EncodeError>
         requires representable { IsTrue (representable C.format) }
         requires sound { IsSound C.format (stash_content self.old) }
@@ -221,7 +238,7 @@ impl<C: ContainerBytes + Drop, B: ByteStore> Stash<C, B> {
         }
     }
 
-    // Leaves the bytes of the encoding in the stash, or aligned bytes as they are.
+    // Converts the stash to the bytes of its encoding, and keeps aligned bytes.
     pub(super) fn align_in_place(&mut self, alloc: Global) -> Result<(), EncodeError>
         requires representable { IsTrue (representable C.format) }
         requires sound { IsSound C.format (stash_content self.old) }
@@ -246,7 +263,7 @@ impl<C: ContainerBytes + Drop, B: ByteStore> Stash<C, B> {
 impl<C: ContainerBytes + Drop> Stash<C, Vec<u8>> {
     ghost use Rattle.columnar_bytes.specs.Stashes.{stash_content, variant_of, bytes, HoldsBytes};
 
-    // The stash, written to new bytes and opened.
+    // Writes the stash to new bytes and opens them.
     pub(super) fn reopen(&mut self, alloc: Global) -> Result<(), EncodeError>
         requires representable { IsTrue (representable C.format) }
         requires sound { IsSound C.format (stash_content self.old) }

@@ -1,4 +1,4 @@
-//! The slices of accepted bytes, as a column's.
+//! The slices of accepted bytes, as a column's slices.
 ghost use Rattle.std.specs.Prelude.{◌≡◌, ℕ, ◌+◌, ◌*◌, ◌<◌, ◌≤◌, ◌++◌, IsTrue, OnOk, OnErr, IfErr, length, drop};
 ghost use Rattle.columnar_core.specs.Format.{Fits, IsSound, bytes_held, first, moved, representable};
 ghost use Rattle.columnar_core.specs.Faults.{verdict};
@@ -14,7 +14,7 @@ use columnar_core::tally::Tally;
 use columnar_core::traits::Column;
 use std::marker::PhantomData;
 
-// The slices of a store that was accepted for columns of type `C`
+// The slices of a store that was accepted for columns of type `C`.
 #[derive(Drop)]
 pub struct Framed<'a, C: Stored> {
     store: DecodedStore<'a>,
@@ -27,7 +27,7 @@ impl<C: Stored, B: ByteStore> Checked<C, B> {
     ghost use Rattle.columnar_bytes.specs.Stashes.{checked_bytes};
     ghost use Rattle.columnar_bytes.specs.FramedContent.{framed_content};
 
-    // Its slices, as a column's.
+    // Returns the slices of the bytes, as a column's slices.
     pub(super) fn framed(&self) -> Framed<'_, C>
         ensures { framed_content result ≡ C.format.build (framed_slices (checked_bytes self.now)) }
     {

@@ -1,4 +1,4 @@
-//! How a stash grows and is cut. On bytes a column is loaded aside first, so that a refusal leaves the variant too.
+//! Growing and cutting a stash. Bytes are first loaded into a separate column, so that a refusal keeps the variant too.
 ghost use Rattle.std.specs.Prelude.{◌≡◌, ◌≢◌, ◌-◌, ◌≤◌, List, length, map, [], ◌∷◌, take, drop, All, IfOk, IfErr, OnOk, OnErr};
 ghost use Rattle.std.specs.Iterator.{IsFinite, HoldsAlong, Drains, Yields};
 ghost use Rattle.columnar_core.specs.Format.{IsSound};
@@ -15,7 +15,7 @@ use std::ops::Range;
 impl<C: Stored + Storage, B: ByteStore> Clear for Stash<C, B> {
     ghost use Rattle.columnar_bytes.specs.Stashes.{stash_content, variant_of, typed};
 
-    /// Takes all rows away: bytes become a column. Takes no memory.
+    /// Removes all rows, and leaves a column; allocates nothing.
     fn clear(&mut self)
         ensures sound { IsSound C.format (stash_content self.new) }
         ensures rows { C.format.rows (stash_content self.new) ≡ [] }
@@ -38,8 +38,13 @@ impl<C: Stored + Storage, B: ByteStore> Clear for Stash<C, B> {
 impl<T: Item + Drop, C: ContainerBytes + Drop + Push<T>, B: ByteStore> Push<T> for Stash<C, B> {
     ghost use Rattle.columnar_bytes.specs.Stashes.{stash_content, variant_of, typed};
 
-    /// Pushes into the column; want of memory for the loaded column refuses too. A refusal leaves the variant, and bytes
-    /// as they were.
+    /// Pushes to the column; bytes are first loaded.
+    ///
+    /// # Requires
+    /// A well-formed stash, and a valid item.
+    ///
+    /// # Errors
+    /// As `Push::push`, or `Memory` if the bytes cannot be loaded. The variant stays, and bytes stay.
     fn push(&mut self, item: T) -> Result<(), GrowError>
         requires sound { IsSound C.format (stash_content self.old) }
         requires valid { T.valid item }
@@ -62,7 +67,13 @@ impl<T: Item + Drop, C: ContainerBytes + Drop + Push<T>, B: ByteStore> Push<T> f
 impl<T: Item, C: ContainerBytes + Drop + PushRef<T>, B: ByteStore> PushRef<T> for Stash<C, B> {
     ghost use Rattle.columnar_bytes.specs.Stashes.{stash_content, variant_of, typed};
 
-    /// As a push of `&T`.
+    /// Pushes by reference, as a push of `&T` does.
+    ///
+    /// # Requires
+    /// A well-formed stash, and a valid item.
+    ///
+    /// # Errors
+    /// As `Push::push`, or `Memory` if the bytes cannot be loaded. The variant stays, and bytes stay.
     fn push_ref(&mut self, item: &T) -> Result<(), GrowError>
         requires sound { IsSound C.format (stash_content self.old) }
         requires valid { T.valid item.now }
@@ -82,16 +93,22 @@ impl<T: Item, C: ContainerBytes + Drop + PushRef<T>, B: ByteStore> PushRef<T> fo
     }
 }
 
-impl<C: ContainerBytes, B: ByteStore> Stash<C, B> {
+impl<C: ContainerBytes + Drop, B: ByteStore> Stash<C, B> {
     ghost use Rattle.columnar_bytes.specs.Stashes.{stash_content, variant_of, typed};
 
-    /// A stash of a column without rows, with room for the rows of the views; want of memory alone refuses it.
+    /// Makes a stash of a column without rows, with capacity for the rows of all views.
+    ///
+    /// # Requires
+    /// A finite iterator that can be called.
+    ///
+    /// # Errors
+    /// `Memory`, and no other error.
     pub fn with_capacity_for<V: Column + Copy, I: Iterator<Item = V> + Drop>(
         alloc: Global,
         views: I,
     ) -> Result<Self, GrowError>
     where
-        C: ExtendFrom<V>,
+        C: Storage + ExtendFrom<V>,
         requires callable { I.can_next views }
         requires finite { IsFinite (I.remaining views) }
         ensures variant { IfOk result (λ s. variant_of s ≡ typed) }
@@ -103,8 +120,13 @@ impl<C: ContainerBytes, B: ByteStore> Stash<C, B> {
         Ok(Stash::Typed(column))
     }
 
-    /// Makes room for the rows of the views in the column; the rows stay. Want of memory alone refuses it, and leaves
-    /// the variant, and bytes as they were.
+    /// Reserves capacity in the column for the rows of all views; bytes are first loaded. The rows stay.
+    ///
+    /// # Requires
+    /// A well-formed stash; a finite iterator that can be called.
+    ///
+    /// # Errors
+    /// `Memory`, and no other error. The variant stays, and bytes stay.
     pub fn reserve_for<V: Column + Copy, I: Iterator<Item = V> + Drop>(
         &mut self,
         views: I,
@@ -129,8 +151,13 @@ impl<C: ContainerBytes, B: ByteStore> Stash<C, B> {
         Ok(())
     }
 
-    /// Adds rows that are alike to the rows of the range, or none of them, as the column's own call; a refusal leaves
-    /// the variant, and bytes as they were.
+    /// Appends rows that represent those of the range, or none, as the column's own call; bytes are first loaded.
+    ///
+    /// # Requires
+    /// A well-formed stash and view, and a range of the view's rows.
+    ///
+    /// # Errors
+    /// As `ExtendFrom::extend_from_self`. The variant stays, and bytes stay.
     pub fn extend_from_self<V: Column + Copy>(
         &mut self,
         view: V,
@@ -161,8 +188,15 @@ impl<C: ContainerBytes, B: ByteStore> Stash<C, B> {
 impl<C: ContainerBytes + Drop, B: ByteStore> Stash<C, B> {
     ghost use Rattle.columnar_bytes.specs.Stashes.{stash_content, variant_of, typed};
 
-    /// Pushes the items in turn, up to the first refusal; the items before it stay. A refusal of the first item leaves the
-    /// variant, and bytes as they were, and so does a list without items; once an item was taken it is a column.
+    /// Pushes the items in order. Once an item is taken, the stash is a column. Without items the variant stays, and
+    /// bytes stay.
+    ///
+    /// # Requires
+    /// A well-formed stash; a finite iterator of valid items that can be called.
+    ///
+    /// # Errors
+    /// The first error of a push. The items before the refused one stay in the stash. If the first item is refused, the
+    /// variant stays, and bytes stay.
     pub fn extend<T: Item + Drop, I: Iterator<Item = T> + Drop>(
         &mut self,
         items: I,
@@ -189,8 +223,13 @@ impl<C: ContainerBytes + Drop, B: ByteStore> Stash<C, B> {
 impl<C: ContainerBytes + Truncate + Drop, B: ByteStore> Stash<C, B> {
     ghost use Rattle.columnar_bytes.specs.Stashes.{stash_content, variant_of, typed};
 
-    /// Adds rows that are alike to the items, one for one and in their order, or none of them; a refusal leaves the
-    /// variant, and bytes as they were.
+    /// Appends rows that represent the items, one each and in order, or none.
+    ///
+    /// # Requires
+    /// A well-formed stash, and valid items.
+    ///
+    /// # Errors
+    /// As `PushRef::push_slice`. The variant stays, and bytes stay.
     pub fn push_slice<T: Item>(&mut self, items: &[T]) -> Result<(), GrowError>
     where
         C: PushRef<T>,
@@ -211,8 +250,13 @@ impl<C: ContainerBytes + Truncate + Drop, B: ByteStore> Stash<C, B> {
         Ok(())
     }
 
-    /// Keeps the first `n` rows. On a column it never fails; on bytes want of memory alone refuses it, and leaves the
-    /// rows and the variant.
+    /// Keeps the first `n` rows; bytes are first loaded.
+    ///
+    /// # Requires
+    /// A well-formed stash of at least `n` rows.
+    ///
+    /// # Errors
+    /// `Memory`, and only for bytes; the stash stays.
     pub fn truncate(&mut self, n: usize) -> Result<(), GrowError>
         requires sound { IsSound C.format (stash_content self.old) }
         requires in_range { n ≤ length (C.format.rows (stash_content self.old)) }

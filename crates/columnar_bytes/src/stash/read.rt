@@ -1,4 +1,4 @@
-//! How a stash is opened, read and written.
+//! Opening, reading and writing a stash.
 ghost use Rattle.std.specs.Prelude.{◌≡◌, ◌≢◌, ◌↔◌, ◌*◌, ◌^◌, ◌<◌, ◌≤◌, length, IsTrue, IsNone, IsOk, IfOk, IfSome, IfErr, OnOk, []};
 ghost use Rattle.std.specs.Io.KnownBytes.{Appends};
 ghost use Rattle.columnar_core.specs.Format.{IsSound, representable, slices_of};
@@ -21,7 +21,7 @@ use std::marker::PhantomData;
 impl<C: Stored, B: ByteStore> Checked<C, B> {
     ghost use Rattle.columnar_bytes.specs.Stashes.{checked_bytes};
 
-    // The view of the bytes.
+    // Returns a view of the bytes.
     fn view<'a>(&'a self) -> <C as Borrow<'a>>::Borrowed
     where
         C: Borrow<'a, Borrowed: FromBytes<'a>>,
@@ -35,7 +35,7 @@ impl<C: Stored, B: ByteStore> Checked<C, B> {
 impl<C: Stored + Storage, B: ByteStore> Stash<C, B> {
     ghost use Rattle.columnar_bytes.specs.Stashes.{stash_content, variant_of, typed};
 
-    /// A stash of a column without rows.
+    /// Makes a stash of a column without rows.
     pub fn empty(alloc: Global) -> Self
         ensures variant { variant_of result ≡ typed }
         ensures sound { IsSound C.format (stash_content result) }
@@ -48,8 +48,13 @@ impl<C: Stored + Storage, B: ByteStore> Stash<C, B> {
 impl<C: Stored, B: ByteStore> Stash<C, B> {
     ghost use Rattle.columnar_bytes.specs.Stashes.{stash_content, variant_of, bytes, HoldsBytes};
 
-    /// The bytes, where they are accepted for columns of type `C`; else the first broken rule, at its slice, and the
-    /// bytes are given up. Takes no memory.
+    /// Opens the bytes if and only if they are accepted for columns of type `C`; allocates nothing.
+    ///
+    /// # Requires
+    /// A representable type.
+    ///
+    /// # Errors
+    /// The first broken rule and its slice. The bytes are dropped.
     pub fn try_from_bytes(alloc: Global, store: B) -> Result<Self, StoreFault>
         requires { IsTrue (representable C.format) }
         ensures exact { IsOk result ↔ Accepts C.format (B.bytes store) }
@@ -66,7 +71,7 @@ impl<C: Stored, B: ByteStore> Stash<C, B> {
         }))
     }
 
-    /// The view of the column, or of the bytes. It never fails, and takes no memory.
+    /// Returns a view of the column, or of the bytes. It never fails, and allocates nothing.
     pub fn borrow<'a>(&'a self) -> <C as Borrow<'a>>::Borrowed
     where
         C: Borrow<'a, Borrowed: FromBytes<'a>>,
@@ -81,7 +86,7 @@ impl<C: Stored, B: ByteStore> Stash<C, B> {
     }
 }
 
-// Writes the bytes as they are.
+// Writes the bytes unchanged.
 fn send<W: WriteBytes>(writer: &mut W, bytes: &[u8]) -> Result<(), WriteFault<W::Error>>
 where
     W::Error: Drop,
@@ -98,7 +103,10 @@ where
 impl<C: ContainerBytes, B: ByteStore> Stash<C, B> {
     ghost use Rattle.columnar_bytes.specs.Stashes.{stash_content, variant_of, bytes, written_bytes};
 
-    /// How many bytes the encoding of the view takes; None where they pass 64 bits.
+    /// Returns the length of the view's encoding in bytes, or `None` if and only if it exceeds 2^64 - 1.
+    ///
+    /// # Requires
+    /// A representable type.
     pub fn length_in_bytes(&self) -> Option<usize>
         requires { IsTrue (representable C.format) }
         ensures value { IfSome result (λ n. n ≡ 8 * length (words (slices_of (stash_content self.now)))) }
@@ -111,9 +119,14 @@ impl<C: ContainerBytes, B: ByteStore> Stash<C, B> {
         }
     }
 
-    /// Writes the column's encoding, or the bytes as they are. Refused with `Length` exactly where the encoding's bytes
-    /// would pass 2^64 - 1, before any byte; ended with `Writer` where the writer failed, after a beginning of the
-    /// bytes that is not all of them.
+    /// Writes the column's encoding, or the bytes unchanged.
+    ///
+    /// # Requires
+    /// A representable type.
+    ///
+    /// # Errors
+    /// `Length` if and only if the encoding would exceed 2^64 - 1 bytes; then nothing was written. `Writer` if the
+    /// writer failed; then a beginning of the bytes was written, but not all.
     pub fn write_bytes<W: WriteBytes>(&self, writer: &mut W) -> Result<(), WriteFault<W::Error>>
     where
         W::Error: Drop,

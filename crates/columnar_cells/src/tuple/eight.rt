@@ -1,5 +1,5 @@
 // Made by .ci/widths.py: change .ci/widths/cells.template, and not this file.
-//! Tuples of eight columns: a row is written in each part.
+//! In-place writes of tuples of eight columns: each part writes its field.
 ghost use Rattle.columnar_base.specs.Row.{first_of, second_of, tuple};
 ghost use Rattle.std.specs.Prelude.{◌≡◌};
 
@@ -9,7 +9,7 @@ use crate::row_mut::RowMut;
 use crate::set::{SetAny, SetRow};
 use columnar_core::traits::{Item, Len};
 
-/// Each part writes its own of the item.
+/// Each part writes its field of the item.
 impl<
     P: Item,
     Q: Item,
@@ -75,7 +75,7 @@ impl<
     ghost any = { λ r p. (A.any (first_of r) p.0, (B.any (first_of (second_of r)) p.1, (C.any (first_of (second_of (second_of r))) p.2, (D.any (first_of (second_of (second_of (second_of r)))) p.3, (E.any (first_of (second_of (second_of (second_of (second_of r))))) p.4, (F.any (first_of (second_of (second_of (second_of (second_of (second_of r)))))) p.5, (G.any (first_of (second_of (second_of (second_of (second_of (second_of (second_of r))))))) p.6, H.any (second_of (second_of (second_of (second_of (second_of (second_of (second_of r))))))) p.7))))))) };
 }
 
-/// Lends a row with its column.
+/// Gives a row as its column and its number.
 impl<'a, A: Len, B: Len, C: Len, D: Len, E: Len, F: Len, G: Len, H: Len> IndexMut<'a>
     for (A, B, C, D, E, F, G, H)
 where
@@ -106,7 +106,7 @@ where
     }
 }
 
-/// One field of the row.
+/// Writes one field of the row.
 impl<Z: Item, A: SetRow<Z>, B: Len, C: Len, D: Len, E: Len, F: Len, G: Len, H: Len> SetItem<
     Field<0>,
     Z,
@@ -124,7 +124,7 @@ impl<Z: Item, A: SetRow<Z>, B: Len, C: Len, D: Len, E: Len, F: Len, G: Len, H: L
     }
 }
 
-/// One field of the row.
+/// Writes one field of the row.
 impl<Z: Item, A: Len, B: SetRow<Z>, C: Len, D: Len, E: Len, F: Len, G: Len, H: Len> SetItem<
     Field<1>,
     Z,
@@ -142,7 +142,7 @@ impl<Z: Item, A: Len, B: SetRow<Z>, C: Len, D: Len, E: Len, F: Len, G: Len, H: L
     }
 }
 
-/// One field of the row.
+/// Writes one field of the row.
 impl<Z: Item, A: Len, B: Len, C: SetRow<Z>, D: Len, E: Len, F: Len, G: Len, H: Len> SetItem<
     Field<2>,
     Z,
@@ -160,7 +160,7 @@ impl<Z: Item, A: Len, B: Len, C: SetRow<Z>, D: Len, E: Len, F: Len, G: Len, H: L
     }
 }
 
-/// One field of the row.
+/// Writes one field of the row.
 impl<Z: Item, A: Len, B: Len, C: Len, D: SetRow<Z>, E: Len, F: Len, G: Len, H: Len> SetItem<
     Field<3>,
     Z,
@@ -178,7 +178,7 @@ impl<Z: Item, A: Len, B: Len, C: Len, D: SetRow<Z>, E: Len, F: Len, G: Len, H: L
     }
 }
 
-/// One field of the row.
+/// Writes one field of the row.
 impl<Z: Item, A: Len, B: Len, C: Len, D: Len, E: SetRow<Z>, F: Len, G: Len, H: Len> SetItem<
     Field<4>,
     Z,
@@ -196,7 +196,7 @@ impl<Z: Item, A: Len, B: Len, C: Len, D: Len, E: SetRow<Z>, F: Len, G: Len, H: L
     }
 }
 
-/// One field of the row.
+/// Writes one field of the row.
 impl<Z: Item, A: Len, B: Len, C: Len, D: Len, E: Len, F: SetRow<Z>, G: Len, H: Len> SetItem<
     Field<5>,
     Z,
@@ -214,7 +214,7 @@ impl<Z: Item, A: Len, B: Len, C: Len, D: Len, E: Len, F: SetRow<Z>, G: Len, H: L
     }
 }
 
-/// One field of the row.
+/// Writes one field of the row.
 impl<Z: Item, A: Len, B: Len, C: Len, D: Len, E: Len, F: Len, G: SetRow<Z>, H: Len> SetItem<
     Field<6>,
     Z,
@@ -232,7 +232,7 @@ impl<Z: Item, A: Len, B: Len, C: Len, D: Len, E: Len, F: Len, G: SetRow<Z>, H: L
     }
 }
 
-/// One field of the row.
+/// Writes one field of the row.
 impl<Z: Item, A: Len, B: Len, C: Len, D: Len, E: Len, F: Len, G: Len, H: SetRow<Z>> SetItem<
     Field<7>,
     Z,

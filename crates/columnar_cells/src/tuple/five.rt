@@ -1,5 +1,5 @@
 // Made by .ci/widths.py: change .ci/widths/cells.template, and not this file.
-//! Tuples of five columns: a row is written in each part.
+//! In-place writes of tuples of five columns: each part writes its field.
 ghost use Rattle.columnar_base.specs.Row.{first_of, second_of, tuple};
 ghost use Rattle.std.specs.Prelude.{◌≡◌};
 
@@ -9,7 +9,7 @@ use crate::row_mut::RowMut;
 use crate::set::{SetAny, SetRow};
 use columnar_core::traits::{Item, Len};
 
-/// Each part writes its own of the item.
+/// Each part writes its field of the item.
 impl<
     P: Item,
     Q: Item,
@@ -57,7 +57,7 @@ impl<
     ghost any = { λ r p. (A.any (first_of r) p.0, (B.any (first_of (second_of r)) p.1, (C.any (first_of (second_of (second_of r))) p.2, (D.any (first_of (second_of (second_of (second_of r)))) p.3, E.any (second_of (second_of (second_of (second_of r)))) p.4)))) };
 }
 
-/// Lends a row with its column.
+/// Gives a row as its column and its number.
 impl<'a, A: Len, B: Len, C: Len, D: Len, E: Len> IndexMut<'a> for (A, B, C, D, E)
 where
     A: 'a,
@@ -84,7 +84,7 @@ where
     }
 }
 
-/// One field of the row.
+/// Writes one field of the row.
 impl<Z: Item, A: SetRow<Z>, B: Len, C: Len, D: Len, E: Len> SetItem<Field<0>, Z>
     for (A, B, C, D, E) {
     ghost fits = { λ r at item. A.fits (first_of r) item };
@@ -100,7 +100,7 @@ impl<Z: Item, A: SetRow<Z>, B: Len, C: Len, D: Len, E: Len> SetItem<Field<0>, Z>
     }
 }
 
-/// One field of the row.
+/// Writes one field of the row.
 impl<Z: Item, A: Len, B: SetRow<Z>, C: Len, D: Len, E: Len> SetItem<Field<1>, Z>
     for (A, B, C, D, E) {
     ghost fits = { λ r at item. B.fits (first_of (second_of r)) item };
@@ -116,7 +116,7 @@ impl<Z: Item, A: Len, B: SetRow<Z>, C: Len, D: Len, E: Len> SetItem<Field<1>, Z>
     }
 }
 
-/// One field of the row.
+/// Writes one field of the row.
 impl<Z: Item, A: Len, B: Len, C: SetRow<Z>, D: Len, E: Len> SetItem<Field<2>, Z>
     for (A, B, C, D, E) {
     ghost fits = { λ r at item. C.fits (first_of (second_of (second_of r))) item };
@@ -132,7 +132,7 @@ impl<Z: Item, A: Len, B: Len, C: SetRow<Z>, D: Len, E: Len> SetItem<Field<2>, Z>
     }
 }
 
-/// One field of the row.
+/// Writes one field of the row.
 impl<Z: Item, A: Len, B: Len, C: Len, D: SetRow<Z>, E: Len> SetItem<Field<3>, Z>
     for (A, B, C, D, E) {
     ghost fits = { λ r at item. D.fits (first_of (second_of (second_of (second_of r)))) item };
@@ -148,7 +148,7 @@ impl<Z: Item, A: Len, B: Len, C: Len, D: SetRow<Z>, E: Len> SetItem<Field<3>, Z>
     }
 }
 
-/// One field of the row.
+/// Writes one field of the row.
 impl<Z: Item, A: Len, B: Len, C: Len, D: Len, E: SetRow<Z>> SetItem<Field<4>, Z>
     for (A, B, C, D, E) {
     ghost fits = { λ r at item. E.fits (second_of (second_of (second_of (second_of r)))) item };

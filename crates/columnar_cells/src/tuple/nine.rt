@@ -1,5 +1,5 @@
 // Made by .ci/widths.py: change .ci/widths/cells.template, and not this file.
-//! Tuples of nine columns: a row is written in each part.
+//! In-place writes of tuples of nine columns: each part writes its field.
 ghost use Rattle.columnar_base.specs.Row.{first_of, second_of, tuple};
 ghost use Rattle.std.specs.Prelude.{◌≡◌};
 
@@ -9,7 +9,7 @@ use crate::row_mut::RowMut;
 use crate::set::{SetAny, SetRow};
 use columnar_core::traits::{Item, Len};
 
-/// Each part writes its own of the item.
+/// Each part writes its field of the item.
 impl<
     P: Item,
     Q: Item,
@@ -81,7 +81,7 @@ impl<
     ghost any = { λ r p. (A.any (first_of r) p.0, (B.any (first_of (second_of r)) p.1, (C.any (first_of (second_of (second_of r))) p.2, (D.any (first_of (second_of (second_of (second_of r)))) p.3, (E.any (first_of (second_of (second_of (second_of (second_of r))))) p.4, (F.any (first_of (second_of (second_of (second_of (second_of (second_of r)))))) p.5, (G.any (first_of (second_of (second_of (second_of (second_of (second_of (second_of r))))))) p.6, (H.any (first_of (second_of (second_of (second_of (second_of (second_of (second_of (second_of r)))))))) p.7, I.any (second_of (second_of (second_of (second_of (second_of (second_of (second_of (second_of r)))))))) p.8)))))))) };
 }
 
-/// Lends a row with its column.
+/// Gives a row as its column and its number.
 impl<'a, A: Len, B: Len, C: Len, D: Len, E: Len, F: Len, G: Len, H: Len, I: Len> IndexMut<'a>
     for (A, B, C, D, E, F, G, H, I)
 where
@@ -113,7 +113,7 @@ where
     }
 }
 
-/// One field of the row.
+/// Writes one field of the row.
 impl<Z: Item, A: SetRow<Z>, B: Len, C: Len, D: Len, E: Len, F: Len, G: Len, H: Len, I: Len> SetItem<
     Field<0>,
     Z,
@@ -131,7 +131,7 @@ impl<Z: Item, A: SetRow<Z>, B: Len, C: Len, D: Len, E: Len, F: Len, G: Len, H: L
     }
 }
 
-/// One field of the row.
+/// Writes one field of the row.
 impl<Z: Item, A: Len, B: SetRow<Z>, C: Len, D: Len, E: Len, F: Len, G: Len, H: Len, I: Len> SetItem<
     Field<1>,
     Z,
@@ -149,7 +149,7 @@ impl<Z: Item, A: Len, B: SetRow<Z>, C: Len, D: Len, E: Len, F: Len, G: Len, H: L
     }
 }
 
-/// One field of the row.
+/// Writes one field of the row.
 impl<Z: Item, A: Len, B: Len, C: SetRow<Z>, D: Len, E: Len, F: Len, G: Len, H: Len, I: Len> SetItem<
     Field<2>,
     Z,
@@ -167,7 +167,7 @@ impl<Z: Item, A: Len, B: Len, C: SetRow<Z>, D: Len, E: Len, F: Len, G: Len, H: L
     }
 }
 
-/// One field of the row.
+/// Writes one field of the row.
 impl<Z: Item, A: Len, B: Len, C: Len, D: SetRow<Z>, E: Len, F: Len, G: Len, H: Len, I: Len> SetItem<
     Field<3>,
     Z,
@@ -185,7 +185,7 @@ impl<Z: Item, A: Len, B: Len, C: Len, D: SetRow<Z>, E: Len, F: Len, G: Len, H: L
     }
 }
 
-/// One field of the row.
+/// Writes one field of the row.
 impl<Z: Item, A: Len, B: Len, C: Len, D: Len, E: SetRow<Z>, F: Len, G: Len, H: Len, I: Len> SetItem<
     Field<4>,
     Z,
@@ -203,7 +203,7 @@ impl<Z: Item, A: Len, B: Len, C: Len, D: Len, E: SetRow<Z>, F: Len, G: Len, H: L
     }
 }
 
-/// One field of the row.
+/// Writes one field of the row.
 impl<Z: Item, A: Len, B: Len, C: Len, D: Len, E: Len, F: SetRow<Z>, G: Len, H: Len, I: Len> SetItem<
     Field<5>,
     Z,
@@ -221,7 +221,7 @@ impl<Z: Item, A: Len, B: Len, C: Len, D: Len, E: Len, F: SetRow<Z>, G: Len, H: L
     }
 }
 
-/// One field of the row.
+/// Writes one field of the row.
 impl<Z: Item, A: Len, B: Len, C: Len, D: Len, E: Len, F: Len, G: SetRow<Z>, H: Len, I: Len> SetItem<
     Field<6>,
     Z,
@@ -239,7 +239,7 @@ impl<Z: Item, A: Len, B: Len, C: Len, D: Len, E: Len, F: Len, G: SetRow<Z>, H: L
     }
 }
 
-/// One field of the row.
+/// Writes one field of the row.
 impl<Z: Item, A: Len, B: Len, C: Len, D: Len, E: Len, F: Len, G: Len, H: SetRow<Z>, I: Len> SetItem<
     Field<7>,
     Z,
@@ -257,7 +257,7 @@ impl<Z: Item, A: Len, B: Len, C: Len, D: Len, E: Len, F: Len, G: Len, H: SetRow<
     }
 }
 
-/// One field of the row.
+/// Writes one field of the row.
 impl<Z: Item, A: Len, B: Len, C: Len, D: Len, E: Len, F: Len, G: Len, H: Len, I: SetRow<Z>> SetItem<
     Field<8>,
     Z,

@@ -1,5 +1,5 @@
 // Made by .ci/widths.py: change .ci/widths/cells.template, and not this file.
-//! Tuples of six columns: a row is written in each part.
+//! In-place writes of tuples of six columns: each part writes its field.
 ghost use Rattle.columnar_base.specs.Row.{first_of, second_of, tuple};
 ghost use Rattle.std.specs.Prelude.{◌≡◌};
 
@@ -9,7 +9,7 @@ use crate::row_mut::RowMut;
 use crate::set::{SetAny, SetRow};
 use columnar_core::traits::{Item, Len};
 
-/// Each part writes its own of the item.
+/// Each part writes its field of the item.
 impl<
     P: Item,
     Q: Item,
@@ -63,7 +63,7 @@ impl<
     ghost any = { λ r p. (A.any (first_of r) p.0, (B.any (first_of (second_of r)) p.1, (C.any (first_of (second_of (second_of r))) p.2, (D.any (first_of (second_of (second_of (second_of r)))) p.3, (E.any (first_of (second_of (second_of (second_of (second_of r))))) p.4, F.any (second_of (second_of (second_of (second_of (second_of r))))) p.5))))) };
 }
 
-/// Lends a row with its column.
+/// Gives a row as its column and its number.
 impl<'a, A: Len, B: Len, C: Len, D: Len, E: Len, F: Len> IndexMut<'a> for (A, B, C, D, E, F)
 where
     A: 'a,
@@ -91,7 +91,7 @@ where
     }
 }
 
-/// One field of the row.
+/// Writes one field of the row.
 impl<Z: Item, A: SetRow<Z>, B: Len, C: Len, D: Len, E: Len, F: Len> SetItem<Field<0>, Z>
     for (A, B, C, D, E, F) {
     ghost fits = { λ r at item. A.fits (first_of r) item };
@@ -107,7 +107,7 @@ impl<Z: Item, A: SetRow<Z>, B: Len, C: Len, D: Len, E: Len, F: Len> SetItem<Fiel
     }
 }
 
-/// One field of the row.
+/// Writes one field of the row.
 impl<Z: Item, A: Len, B: SetRow<Z>, C: Len, D: Len, E: Len, F: Len> SetItem<Field<1>, Z>
     for (A, B, C, D, E, F) {
     ghost fits = { λ r at item. B.fits (first_of (second_of r)) item };
@@ -123,7 +123,7 @@ impl<Z: Item, A: Len, B: SetRow<Z>, C: Len, D: Len, E: Len, F: Len> SetItem<Fiel
     }
 }
 
-/// One field of the row.
+/// Writes one field of the row.
 impl<Z: Item, A: Len, B: Len, C: SetRow<Z>, D: Len, E: Len, F: Len> SetItem<Field<2>, Z>
     for (A, B, C, D, E, F) {
     ghost fits = { λ r at item. C.fits (first_of (second_of (second_of r))) item };
@@ -139,7 +139,7 @@ impl<Z: Item, A: Len, B: Len, C: SetRow<Z>, D: Len, E: Len, F: Len> SetItem<Fiel
     }
 }
 
-/// One field of the row.
+/// Writes one field of the row.
 impl<Z: Item, A: Len, B: Len, C: Len, D: SetRow<Z>, E: Len, F: Len> SetItem<Field<3>, Z>
     for (A, B, C, D, E, F) {
     ghost fits = { λ r at item. D.fits (first_of (second_of (second_of (second_of r)))) item };
@@ -155,7 +155,7 @@ impl<Z: Item, A: Len, B: Len, C: Len, D: SetRow<Z>, E: Len, F: Len> SetItem<Fiel
     }
 }
 
-/// One field of the row.
+/// Writes one field of the row.
 impl<Z: Item, A: Len, B: Len, C: Len, D: Len, E: SetRow<Z>, F: Len> SetItem<Field<4>, Z>
     for (A, B, C, D, E, F) {
     ghost fits = { λ r at item. E.fits (first_of (second_of (second_of (second_of (second_of r))))) item };
@@ -171,7 +171,7 @@ impl<Z: Item, A: Len, B: Len, C: Len, D: Len, E: SetRow<Z>, F: Len> SetItem<Fiel
     }
 }
 
-/// One field of the row.
+/// Writes one field of the row.
 impl<Z: Item, A: Len, B: Len, C: Len, D: Len, E: Len, F: SetRow<Z>> SetItem<Field<5>, Z>
     for (A, B, C, D, E, F) {
     ghost fits = { λ r at item. F.fits (second_of (second_of (second_of (second_of (second_of r))))) item };

@@ -1,5 +1,5 @@
 // Made by .ci/widths.py: change .ci/widths/cells.template, and not this file.
-//! Tuples of ten columns: a row is written in each part.
+//! In-place writes of tuples of ten columns: each part writes its field.
 ghost use Rattle.columnar_base.specs.Row.{first_of, second_of, tuple};
 ghost use Rattle.std.specs.Prelude.{◌≡◌};
 
@@ -9,7 +9,7 @@ use crate::row_mut::RowMut;
 use crate::set::{SetAny, SetRow};
 use columnar_core::traits::{Item, Len};
 
-/// Each part writes its own of the item.
+/// Each part writes its field of the item.
 impl<
     P: Item,
     Q: Item,
@@ -89,7 +89,7 @@ impl<
     ghost any = { λ r p. (A.any (first_of r) p.0, (B.any (first_of (second_of r)) p.1, (C.any (first_of (second_of (second_of r))) p.2, (D.any (first_of (second_of (second_of (second_of r)))) p.3, (E.any (first_of (second_of (second_of (second_of (second_of r))))) p.4, (F.any (first_of (second_of (second_of (second_of (second_of (second_of r)))))) p.5, (G.any (first_of (second_of (second_of (second_of (second_of (second_of (second_of r))))))) p.6, (H.any (first_of (second_of (second_of (second_of (second_of (second_of (second_of (second_of r)))))))) p.7, (I.any (first_of (second_of (second_of (second_of (second_of (second_of (second_of (second_of (second_of r))))))))) p.8, J.any (second_of (second_of (second_of (second_of (second_of (second_of (second_of (second_of (second_of r))))))))) p.9))))))))) };
 }
 
-/// Lends a row with its column.
+/// Gives a row as its column and its number.
 impl<'a, A: Len, B: Len, C: Len, D: Len, E: Len, F: Len, G: Len, H: Len, I: Len, J: Len> IndexMut<
     'a,
 > for (A, B, C, D, E, F, G, H, I, J)
@@ -123,7 +123,7 @@ where
     }
 }
 
-/// One field of the row.
+/// Writes one field of the row.
 impl<
     Z: Item,
     A: SetRow<Z>,
@@ -150,7 +150,7 @@ impl<
     }
 }
 
-/// One field of the row.
+/// Writes one field of the row.
 impl<
     Z: Item,
     A: Len,
@@ -177,7 +177,7 @@ impl<
     }
 }
 
-/// One field of the row.
+/// Writes one field of the row.
 impl<
     Z: Item,
     A: Len,
@@ -204,7 +204,7 @@ impl<
     }
 }
 
-/// One field of the row.
+/// Writes one field of the row.
 impl<
     Z: Item,
     A: Len,
@@ -231,7 +231,7 @@ impl<
     }
 }
 
-/// One field of the row.
+/// Writes one field of the row.
 impl<
     Z: Item,
     A: Len,
@@ -258,7 +258,7 @@ impl<
     }
 }
 
-/// One field of the row.
+/// Writes one field of the row.
 impl<
     Z: Item,
     A: Len,
@@ -285,7 +285,7 @@ impl<
     }
 }
 
-/// One field of the row.
+/// Writes one field of the row.
 impl<
     Z: Item,
     A: Len,
@@ -312,7 +312,7 @@ impl<
     }
 }
 
-/// One field of the row.
+/// Writes one field of the row.
 impl<
     Z: Item,
     A: Len,
@@ -339,7 +339,7 @@ impl<
     }
 }
 
-/// One field of the row.
+/// Writes one field of the row.
 impl<
     Z: Item,
     A: Len,
@@ -366,7 +366,7 @@ impl<
     }
 }
 
-/// One field of the row.
+/// Writes one field of the row.
 impl<
     Z: Item,
     A: Len,

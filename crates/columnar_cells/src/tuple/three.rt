@@ -1,5 +1,5 @@
 // Made by .ci/widths.py: change .ci/widths/cells.template, and not this file.
-//! Tuples of three columns: a row is written in each part.
+//! In-place writes of tuples of three columns: each part writes its field.
 ghost use Rattle.columnar_base.specs.Row.{first_of, second_of, tuple};
 ghost use Rattle.std.specs.Prelude.{◌≡◌};
 
@@ -9,7 +9,7 @@ use crate::row_mut::RowMut;
 use crate::set::{SetAny, SetRow};
 use columnar_core::traits::{Item, Len};
 
-/// Each part writes its own of the item.
+/// Each part writes its field of the item.
 impl<P: Item, Q: Item, R: Item, A: SetRow<P>, B: SetRow<Q>, C: SetRow<R>> SetRow<(P, Q, R)>
     for (A, B, C) {
     ghost fits = { λ r p. A.fits (first_of r) p.0 × (B.fits (first_of (second_of r)) p.1 × C.fits (second_of (second_of r)) p.2) };
@@ -33,7 +33,7 @@ impl<P: Item, Q: Item, R: Item, A: SetAny<P>, B: SetAny<Q>, C: SetAny<R>> SetAny
     ghost any = { λ r p. (A.any (first_of r) p.0, (B.any (first_of (second_of r)) p.1, C.any (second_of (second_of r)) p.2)) };
 }
 
-/// Lends a row with its column.
+/// Gives a row as its column and its number.
 impl<'a, A: Len, B: Len, C: Len> IndexMut<'a> for (A, B, C)
 where
     A: 'a,
@@ -58,7 +58,7 @@ where
     }
 }
 
-/// One field of the row.
+/// Writes one field of the row.
 impl<Z: Item, A: SetRow<Z>, B: Len, C: Len> SetItem<Field<0>, Z> for (A, B, C) {
     ghost fits = { λ r at item. A.fits (first_of r) item };
 
@@ -73,7 +73,7 @@ impl<Z: Item, A: SetRow<Z>, B: Len, C: Len> SetItem<Field<0>, Z> for (A, B, C) {
     }
 }
 
-/// One field of the row.
+/// Writes one field of the row.
 impl<Z: Item, A: Len, B: SetRow<Z>, C: Len> SetItem<Field<1>, Z> for (A, B, C) {
     ghost fits = { λ r at item. B.fits (first_of (second_of r)) item };
 
@@ -88,7 +88,7 @@ impl<Z: Item, A: Len, B: SetRow<Z>, C: Len> SetItem<Field<1>, Z> for (A, B, C) {
     }
 }
 
-/// One field of the row.
+/// Writes one field of the row.
 impl<Z: Item, A: Len, B: Len, C: SetRow<Z>> SetItem<Field<2>, Z> for (A, B, C) {
     ghost fits = { λ r at item. C.fits (second_of (second_of r)) item };
 

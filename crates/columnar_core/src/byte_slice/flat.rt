@@ -1,4 +1,4 @@
-//! Arrays whose slices can go out as bytes.
+//! Arrays whose slices can be written as bytes.
 ghost use Rattle.std.specs.Prelude.{ℕ, ◌≡◌, length};
 ghost use Rattle.columnar_core.specs.ArraySlices.{AreArrays};
 ghost use Rattle.std.specs.List.{flat_map};
@@ -8,9 +8,9 @@ use super::sliced::Sliced;
 use columnar_base::element::Primitive;
 use std::num::Wrapping;
 
-/// A number whose arrays stand in a slice one after the other.
+/// A number whose arrays are contiguous in a slice.
 pub trait SlicedArray<const N: usize>: Sliced + Primitive {
-    /// The numbers of the arrays.
+    /// Returns the numbers of the arrays as one slice.
     fn flat(arrays: &[[Self; N]]) -> &[Self]
         ensures { result.now ≡ flat_map (λ x. x) arrays.now };
 }
@@ -26,7 +26,7 @@ impl<T: SlicedArray<N>, const N: usize> Sliced for [T; N] {
     }
 }
 
-// Changes nothing; its contract says that each array has N items.
+// Changes nothing; its contract states that each array has N items.
 fn are_arrays<T, const N: usize>(arrays: &[[T; N]])
     ensures { AreArrays N arrays.now (length arrays.now) }
 {

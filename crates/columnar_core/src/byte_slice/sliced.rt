@@ -1,4 +1,4 @@
-//! Elements whose slices can go out as bytes.
+//! Elements whose slices can be written as bytes.
 ghost use Rattle.std.specs.Prelude.{ℕ, ◌≡◌, ◌<◌, ◌^◌, IsTrue};
 ghost use Rattle.std.specs.List.{flat_map};
 ghost use Rattle.columnar_core.specs.Slices.{bytes_in, alignment, has_words};
@@ -8,13 +8,16 @@ use super::{ByteSlice, Elements};
 use columnar_base::element::Element;
 use std::num::Wrapping;
 
-/// An element whose slices can go out as bytes.
+/// An element whose slices can be written as bytes.
 pub trait Sliced: Element {
-    /// The alignment of its slices, in bytes.
+    /// Returns the alignment of its slices, in bytes.
     fn align() -> u64
         ensures { result ≡ Self.align };
 
-    /// The bytes of the elements. Asks that an element is at most 2^63 - 1 bytes.
+    /// Returns the bytes of the elements as a slice.
+    ///
+    /// # Requires
+    /// An element of at most 2^63 - 1 bytes.
     fn byte_slice(items: &[Self]) -> ByteSlice<'_>
         requires { Self.size < 2 ^ 63 }
         ensures bytes { bytes_in result ≡ flat_map Self.le_bytes items.now }

@@ -1,5 +1,5 @@
 // Made by .ci/widths.py: change .ci/widths/earlier.template, and not this file.
-//! Tuples of three columns and more are made of an earlier form as their nested pairs are.
+//! Tuples of three or more columns are built from an earlier form like their nested pairs.
 ghost use Rattle.std.specs.Prelude.{◌≡◌, List, [], ◌∷◌};
 ghost use Rattle.columnar_core.specs.EarlierLaws.{no_more, one_more, earlier_tuple};
 
@@ -7,7 +7,7 @@ use crate::earlier::Earlier;
 use columnar_base::fault::GrowError;
 use std::alloc::Global;
 
-/// The earlier form is the tuple of those of the parts.
+/// The earlier form is the tuple of the parts' earlier forms.
 impl<A: Earlier + Drop, B: Earlier + Drop, C: Earlier> Earlier for (A, B, C) {
     type Old = (A::Old, B::Old, C::Old);
 
@@ -23,7 +23,7 @@ impl<A: Earlier + Drop, B: Earlier + Drop, C: Earlier> Earlier for (A, B, C) {
     }
 }
 
-/// The earlier form is the tuple of those of the parts.
+/// The earlier form is the tuple of the parts' earlier forms.
 impl<A: Earlier + Drop, B: Earlier + Drop, C: Earlier + Drop, D: Earlier> Earlier for (A, B, C, D) {
     type Old = (A::Old, B::Old, C::Old, D::Old);
 
@@ -39,7 +39,7 @@ impl<A: Earlier + Drop, B: Earlier + Drop, C: Earlier + Drop, D: Earlier> Earlie
     }
 }
 
-/// The earlier form is the tuple of those of the parts.
+/// The earlier form is the tuple of the parts' earlier forms.
 impl<A: Earlier + Drop, B: Earlier + Drop, C: Earlier + Drop, D: Earlier + Drop, E: Earlier> Earlier
     for (A, B, C, D, E) {
     type Old = (A::Old, B::Old, C::Old, D::Old, E::Old);
@@ -59,7 +59,7 @@ impl<A: Earlier + Drop, B: Earlier + Drop, C: Earlier + Drop, D: Earlier + Drop,
     }
 }
 
-/// The earlier form is the tuple of those of the parts.
+/// The earlier form is the tuple of the parts' earlier forms.
 impl<
     A: Earlier + Drop,
     B: Earlier + Drop,
@@ -85,7 +85,7 @@ impl<
     }
 }
 
-/// The earlier form is the tuple of those of the parts.
+/// The earlier form is the tuple of the parts' earlier forms.
 impl<
     A: Earlier + Drop,
     B: Earlier + Drop,
@@ -118,7 +118,7 @@ impl<
     }
 }
 
-/// The earlier form is the tuple of those of the parts.
+/// The earlier form is the tuple of the parts' earlier forms.
 impl<
     A: Earlier + Drop,
     B: Earlier + Drop,
@@ -173,7 +173,7 @@ impl<
     }
 }
 
-/// The earlier form is the tuple of those of the parts.
+/// The earlier form is the tuple of the parts' earlier forms.
 impl<
     A: Earlier + Drop,
     B: Earlier + Drop,
@@ -236,7 +236,7 @@ impl<
     }
 }
 
-/// The earlier form is the tuple of those of the parts.
+/// The earlier form is the tuple of the parts' earlier forms.
 impl<
     A: Earlier + Drop,
     B: Earlier + Drop,

@@ -22,7 +22,7 @@ use columnar_base::tuple::five::enter_five;
 use std::alloc::Global;
 use std::ops::Range;
 
-/// Each part copies the range out of its own view. Where one of them is refused, none has taken any row.
+/// Each part copies the range from its own view. If one part refuses, none changes.
 impl<
     P: Column + Copy,
     Q: Column + Copy,
@@ -68,7 +68,7 @@ impl<
     }
 }
 
-/// The view is the tuple of the views.
+/// The view is the tuple of the parts' views.
 impl<'a, A: Borrow<'a>, B: Borrow<'a>, C: Borrow<'a>, D: Borrow<'a>, E: Borrow<'a>> Borrow<'a>
     for (A, B, C, D, E) {
     type Ref = (A::Ref, B::Ref, C::Ref, D::Ref, E::Ref);
@@ -172,7 +172,7 @@ impl<
     }
 }
 
-/// The rules of the parts in their order, then that they have as many rows: `Parts`, at the first slice.
+/// The rules of the parts in order, then that all have equally many rows: `Parts`, at the first slice.
 impl<A: Stored, B: Stored, C: Stored, D: Stored, E: Stored> Stored for (A, B, C, D, E) {
     ghost storable = { tuple_storable A.format B.format (C.format ∷ D.format ∷ E.format ∷ []) (pair_storable A.format (nested B.format (C.format ∷ D.format ∷ E.format ∷ [])) A.storable (pair_storable B.format (nested C.format (D.format ∷ E.format ∷ [])) B.storable (pair_storable C.format (nested D.format (E.format ∷ [])) C.storable (pair_storable D.format (nested E.format ([])) D.storable E.storable)))) };
 
@@ -233,7 +233,7 @@ impl<'s, A: AsBytes<'s>, B: AsBytes<'s>, C: AsBytes<'s>, D: AsBytes<'s>, E: AsBy
     }
 }
 
-/// Where memory is refused for a part, those already loaded are dropped.
+/// If a part cannot be loaded, those already loaded are dropped.
 impl<
     A: ContainerBytes + Drop,
     B: ContainerBytes + Drop,

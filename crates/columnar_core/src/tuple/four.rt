@@ -22,7 +22,7 @@ use columnar_base::tuple::four::enter_four;
 use std::alloc::Global;
 use std::ops::Range;
 
-/// Each part copies the range out of its own view. Where one of them is refused, none has taken any row.
+/// Each part copies the range from its own view. If one part refuses, none changes.
 impl<
     P: Column + Copy,
     Q: Column + Copy,
@@ -63,7 +63,7 @@ impl<
     }
 }
 
-/// The view is the tuple of the views.
+/// The view is the tuple of the parts' views.
 impl<'a, A: Borrow<'a>, B: Borrow<'a>, C: Borrow<'a>, D: Borrow<'a>> Borrow<'a> for (A, B, C, D) {
     type Ref = (A::Ref, B::Ref, C::Ref, D::Ref);
 
@@ -122,7 +122,7 @@ impl<
     }
 }
 
-/// The rules of the parts in their order, then that they have as many rows: `Parts`, at the first slice.
+/// The rules of the parts in order, then that all have equally many rows: `Parts`, at the first slice.
 impl<A: Stored, B: Stored, C: Stored, D: Stored> Stored for (A, B, C, D) {
     ghost storable = { tuple_storable A.format B.format (C.format ∷ D.format ∷ []) (pair_storable A.format (nested B.format (C.format ∷ D.format ∷ [])) A.storable (pair_storable B.format (nested C.format (D.format ∷ [])) B.storable (pair_storable C.format (nested D.format ([])) C.storable D.storable))) };
 
@@ -170,7 +170,7 @@ impl<'s, A: AsBytes<'s>, B: AsBytes<'s>, C: AsBytes<'s>, D: AsBytes<'s>> AsBytes
     }
 }
 
-/// Where memory is refused for a part, those already loaded are dropped.
+/// If a part cannot be loaded, those already loaded are dropped.
 impl<
     A: ContainerBytes + Drop,
     B: ContainerBytes + Drop,

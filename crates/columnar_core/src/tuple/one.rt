@@ -11,7 +11,7 @@ use columnar_base::traits::Column;
 use std::alloc::Global;
 use std::ops::Range;
 
-/// The part copies the range out of its own view.
+/// The part copies the range from its own view.
 impl<P: Column + Copy, A: ExtendFrom<P>> ExtendFrom<(P,)> for (A,) {
     fn add_room(room: (A::Room,), view: (P,)) -> (A::Room,) {
         (A::add_room(room.0, view.0),)
@@ -22,7 +22,7 @@ impl<P: Column + Copy, A: ExtendFrom<P>> ExtendFrom<(P,)> for (A,) {
     }
 }
 
-/// The view is the tuple of the view.
+/// The view is the tuple of the part's view.
 impl<'a, A: Borrow<'a>> Borrow<'a> for (A,) {
     type Ref = (A::Ref,);
 

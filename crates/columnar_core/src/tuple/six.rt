@@ -22,7 +22,7 @@ use columnar_base::tuple::six::enter_six;
 use std::alloc::Global;
 use std::ops::Range;
 
-/// Each part copies the range out of its own view. Where one of them is refused, none has taken any row.
+/// Each part copies the range from its own view. If one part refuses, none changes.
 impl<
     P: Column + Copy,
     Q: Column + Copy,
@@ -73,7 +73,7 @@ impl<
     }
 }
 
-/// The view is the tuple of the views.
+/// The view is the tuple of the parts' views.
 impl<
     'a,
     A: Borrow<'a>,
@@ -194,7 +194,7 @@ impl<
     }
 }
 
-/// The rules of the parts in their order, then that they have as many rows: `Parts`, at the first slice.
+/// The rules of the parts in order, then that all have equally many rows: `Parts`, at the first slice.
 impl<A: Stored, B: Stored, C: Stored, D: Stored, E: Stored, F: Stored> Stored
     for (A, B, C, D, E, F) {
     ghost storable = { tuple_storable A.format B.format (C.format ∷ D.format ∷ E.format ∷ F.format ∷ []) (pair_storable A.format (nested B.format (C.format ∷ D.format ∷ E.format ∷ F.format ∷ [])) A.storable (pair_storable B.format (nested C.format (D.format ∷ E.format ∷ F.format ∷ [])) B.storable (pair_storable C.format (nested D.format (E.format ∷ F.format ∷ [])) C.storable (pair_storable D.format (nested E.format (F.format ∷ [])) D.storable (pair_storable E.format (nested F.format ([])) E.storable F.storable))))) };
@@ -274,7 +274,7 @@ impl<
     }
 }
 
-/// Where memory is refused for a part, those already loaded are dropped.
+/// If a part cannot be loaded, those already loaded are dropped.
 impl<
     A: ContainerBytes + Drop,
     B: ContainerBytes + Drop,

@@ -22,7 +22,7 @@ use columnar_base::tuple::ten::enter_ten;
 use std::alloc::Global;
 use std::ops::Range;
 
-/// Each part copies the range out of its own view. Where one of them is refused, none has taken any row.
+/// Each part copies the range from its own view. If one part refuses, none changes.
 impl<
     P: Column + Copy,
     Q: Column + Copy,
@@ -115,7 +115,7 @@ impl<
     }
 }
 
-/// The view is the tuple of the views.
+/// The view is the tuple of the parts' views.
 impl<
     'a,
     A: Borrow<'a>,
@@ -328,7 +328,7 @@ impl<
     }
 }
 
-/// The rules of the parts in their order, then that they have as many rows: `Parts`, at the first slice.
+/// The rules of the parts in order, then that all have equally many rows: `Parts`, at the first slice.
 impl<
     A: Stored,
     B: Stored,
@@ -429,7 +429,7 @@ impl<
     }
 }
 
-/// Where memory is refused for a part, those already loaded are dropped.
+/// If a part cannot be loaded, those already loaded are dropped.
 impl<
     A: ContainerBytes + Drop,
     B: ContainerBytes + Drop,

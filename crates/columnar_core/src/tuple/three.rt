@@ -22,7 +22,7 @@ use columnar_base::tuple::three::enter_three;
 use std::alloc::Global;
 use std::ops::Range;
 
-/// Each part copies the range out of its own view. Where one of them is refused, none has taken any row.
+/// Each part copies the range from its own view. If one part refuses, none changes.
 impl<
     P: Column + Copy,
     Q: Column + Copy,
@@ -51,7 +51,7 @@ impl<
     }
 }
 
-/// The view is the tuple of the views.
+/// The view is the tuple of the parts' views.
 impl<'a, A: Borrow<'a>, B: Borrow<'a>, C: Borrow<'a>> Borrow<'a> for (A, B, C) {
     type Ref = (A::Ref, B::Ref, C::Ref);
 
@@ -95,7 +95,7 @@ impl<'b, P: ReborrowRef<'b>, Q: ReborrowRef<'b>, R: ReborrowRef<'b>> ReborrowRef
     }
 }
 
-/// The rules of the parts in their order, then that they have as many rows: `Parts`, at the first slice.
+/// The rules of the parts in order, then that all have equally many rows: `Parts`, at the first slice.
 impl<A: Stored, B: Stored, C: Stored> Stored for (A, B, C) {
     ghost storable = { tuple_storable A.format B.format (C.format ∷ []) (pair_storable A.format (nested B.format (C.format ∷ [])) A.storable (pair_storable B.format (nested C.format ([])) B.storable C.storable)) };
 
@@ -141,7 +141,7 @@ impl<'s, A: AsBytes<'s>, B: AsBytes<'s>, C: AsBytes<'s>> AsBytes<'s> for (A, B, 
     }
 }
 
-/// Where memory is refused for a part, those already loaded are dropped.
+/// If a part cannot be loaded, those already loaded are dropped.
 impl<A: ContainerBytes + Drop, B: ContainerBytes + Drop, C: ContainerBytes> ContainerBytes
     for (A, B, C) {
     fn byte_slice(&self, index: usize) -> ByteSlice<'_> {

@@ -1,4 +1,4 @@
-//! Lists that are made of an earlier form of their bounds and values.
+//! Lists that are built from an earlier form of their bounds and values.
 ghost use Rattle.columnar_lists.specs.EarlierListLaws.{earlier_lists};
 
 use super::Vecs;
@@ -7,8 +7,8 @@ use columnar_core::earlier::Earlier;
 use columnar_core::offsets::StoredOffsets;
 use std::alloc::Global;
 
-/// The earlier form is that of the lists over those of both parts. Offset is answered only where the bounds' own `from_old`
-/// answers it of bounds that rise, which none of this library's does.
+/// The earlier form is the lists over the parts' earlier forms. `Offset` is returned only if the bounds' own `from_old`
+/// returns it for bounds that never decrease; none in this library does.
 impl<TC: Earlier, BC: Earlier<Old: StoredOffsets> + Drop> Earlier for Vecs<TC, BC> {
     type Old = Vecs<TC::Old, BC::Old>;
 

@@ -7,8 +7,8 @@ ghost use Rattle.columnar_base.specs.Change.{Took, Refused, IsTrueOf};
 ghost use Rattle.columnar_lists.specs.Lists.{lists_format};
 
 use super::Vecs;
+use crate::arrays::AlwaysValid;
 use crate::parts::{end_list, push_list};
-use columnar_base::element::Element;
 use columnar_base::fault::GrowError;
 use columnar_base::traits::{Column, Index, Item, Push, PushInto, PushRef};
 use columnar_core::container::{ExtendFrom, Truncate};
@@ -16,7 +16,7 @@ use columnar_core::offsets::{Offsets, PushAfter};
 use columnar_core::slice::Slice;
 use smallvec::SmallVec;
 
-// Takes rows alike to all that comes of `items`, or none of them.
+// Appends rows that represent all items of the iterator, or none.
 fn take_items<I: Iterator<Item: Item> + Drop, TC: Truncate + Push<I::Item>>(
     values: &mut TC,
     items: I,
@@ -39,9 +39,14 @@ fn take_items<I: Iterator<Item: Item> + Drop, TC: Truncate + Push<I::Item>>(
 }
 
 impl<TC: Column, BC: Column> Vecs<TC, BC> {
-    /// Adds one list, of rows alike to all that comes of `items`, or is refused and leaves the rows and the lengths of
-    /// all parts: where the values can't hold what came up to the refused item, or where the bounds can't take the end of
-    /// the whole list. Asks that the items come to an end.
+    /// Appends one list, of rows that represent all items of the iterator.
+    ///
+    /// # Requires
+    /// A well-formed column; a finite iterator of valid items that can be called.
+    ///
+    /// # Errors
+    /// That of the values for the items up to the refused one, or of the bounds for the end of the whole list. The rows
+    /// and the lengths of all parts stay.
     pub fn push_iter<I: Iterator<Item: Item> + Drop>(&mut self, items: I) -> Result<(), GrowError>
     where
         TC: Truncate + Push<I::Item>,
@@ -60,15 +65,15 @@ impl<TC: Column, BC: Column> Vecs<TC, BC> {
     }
 }
 
-/// A column of lists takes what can be pushed into it: ranges of a view, slices, arrays and vectors.
+/// Takes every item with `PushInto`: ranges of a view, slices, arrays and vectors.
 impl<P: PushInto<Vecs<TC, BC>>, TC: Column, BC: Column> Push<P> for Vecs<TC, BC> {
     fn push(&mut self, item: P) -> Result<(), GrowError> {
         item.push_into(self)
     }
 }
 
-/// The rows of the range are copied at once.
-impl<V: Index + Copy, TC: ExtendFrom<V>, BC: Offsets + PushAfter> PushInto<Vecs<TC, BC>>
+/// Copies the rows of the range at once.
+impl<V: Column + Copy, TC: ExtendFrom<V>, BC: Offsets + PushAfter> PushInto<Vecs<TC, BC>>
     for Slice<V> {
     fn push_into(self, column: &mut Vecs<TC, BC>) -> Result<(), GrowError> {
         let before = column.values.len();
@@ -79,7 +84,7 @@ impl<V: Index + Copy, TC: ExtendFrom<V>, BC: Offsets + PushAfter> PushInto<Vecs<
     }
 }
 
-/// The items are pushed by reference.
+/// Pushes the items by reference.
 impl<'x, T: Item, TC: Truncate + PushRef<T>, BC: Offsets + PushAfter> PushInto<Vecs<TC, BC>>
     for &'x [T] {
     fn push_into(self, column: &mut Vecs<TC, BC>) -> Result<(), GrowError> {
@@ -87,7 +92,7 @@ impl<'x, T: Item, TC: Truncate + PushRef<T>, BC: Offsets + PushAfter> PushInto<V
     }
 }
 
-/// The items are pushed by reference.
+/// Pushes the items by reference.
 impl<'x, T: Item, TC: Truncate + PushRef<T>, BC: Offsets + PushAfter> PushInto<Vecs<TC, BC>>
     for &'x Vec<T> {
     fn push_into(self, column: &mut Vecs<TC, BC>) -> Result<(), GrowError> {
@@ -95,7 +100,7 @@ impl<'x, T: Item, TC: Truncate + PushRef<T>, BC: Offsets + PushAfter> PushInto<V
     }
 }
 
-/// The items are pushed by reference, and then let go.
+/// Pushes the items by reference, then drops them.
 impl<T: Item + Drop, TC: Truncate + PushRef<T>, BC: Offsets + PushAfter> PushInto<Vecs<TC, BC>>
     for Vec<T> {
     fn push_into(self, column: &mut Vecs<TC, BC>) -> Result<(), GrowError> {
@@ -103,25 +108,32 @@ impl<T: Item + Drop, TC: Truncate + PushRef<T>, BC: Offsets + PushAfter> PushInt
     }
 }
 
-/// The elements are pushed by reference.
-impl<'x, T: Element, const N: usize, TC: Truncate + PushRef<T>, BC: Offsets + PushAfter> PushInto<
-    Vecs<TC, BC>,
-> for &'x [T; N] {
+/// Pushes the elements by reference.
+impl<
+    'x,
+    T: AlwaysValid,
+    const N: usize,
+    TC: Truncate + PushRef<T>,
+    BC: Offsets + PushAfter,
+> PushInto<Vecs<TC, BC>> for &'x [T; N] {
     fn push_into(self, column: &mut Vecs<TC, BC>) -> Result<(), GrowError> {
         column.push_ref(self)
     }
 }
 
-/// The elements are pushed by reference.
-impl<T: Element, const N: usize, TC: Truncate + PushRef<T>, BC: Offsets + PushAfter> PushInto<
-    Vecs<TC, BC>,
-> for [T; N] {
+/// Pushes the elements by reference.
+impl<
+    T: AlwaysValid + Copy,
+    const N: usize,
+    TC: Truncate + PushRef<T>,
+    BC: Offsets + PushAfter,
+> PushInto<Vecs<TC, BC>> for [T; N] {
     fn push_into(self, column: &mut Vecs<TC, BC>) -> Result<(), GrowError> {
         column.push_ref(&self)
     }
 }
 
-/// The items are pushed by reference.
+/// Pushes the items by reference.
 impl<'x, T: Item, const N: usize, TC: Truncate + PushRef<T>, BC: Offsets + PushAfter> PushInto<
     Vecs<TC, BC>,
 > for &'x SmallVec<T, N> {
@@ -130,7 +142,7 @@ impl<'x, T: Item, const N: usize, TC: Truncate + PushRef<T>, BC: Offsets + PushA
     }
 }
 
-/// The items are pushed by reference, and then let go.
+/// Pushes the items by reference, then drops them.
 impl<T: Item + Drop, const N: usize, TC: Truncate + PushRef<T>, BC: Offsets + PushAfter> PushInto<
     Vecs<TC, BC>,
 > for SmallVec<T, N> {
@@ -152,8 +164,9 @@ impl<T: Item, TC: Truncate + PushRef<T>, BC: Offsets + PushAfter> PushRef<Vec<T>
     }
 }
 
-impl<T: Element, const N: usize, TC: Truncate + PushRef<T>, BC: Offsets + PushAfter> PushRef<[T; N]>
-    for Vecs<TC, BC> {
+impl<T: AlwaysValid, const N: usize, TC: Truncate + PushRef<T>, BC: Offsets + PushAfter> PushRef<
+    [T; N],
+> for Vecs<TC, BC> {
     fn push_ref(&mut self, item: &[T; N]) -> Result<(), GrowError> {
         push_list(&mut self.bounds, &mut self.values, item.as_slice())
     }
@@ -167,7 +180,7 @@ impl<T: Item, const N: usize, TC: Truncate + PushRef<T>, BC: Offsets + PushAfter
     }
 }
 
-impl<V: Index + Copy, TC: ExtendFrom<V>, BC: Offsets + PushAfter> PushRef<Slice<V>>
+impl<V: Column + Copy, TC: ExtendFrom<V>, BC: Offsets + PushAfter> PushRef<Slice<V>>
     for Vecs<TC, BC> {
     fn push_ref(&mut self, item: &Slice<V>) -> Result<(), GrowError> {
         (*item).push_into(self)

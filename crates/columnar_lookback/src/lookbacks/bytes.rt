@@ -1,4 +1,4 @@
-//! Columns that refer back to one of the last values, in slices of bytes.
+//! The slices of columns of lookbacks, and their validation.
 ghost use Rattle.std.specs.Prelude.{◌≡◌, ◌+◌, ◌≤◌, ◌++◌, [], List, length, refl};
 ghost use Rattle.columnar_base.specs.Row.{Row};
 ghost use Rattle.columnar_base.specs.Format.{IsSound, slices_of};
@@ -26,7 +26,7 @@ use columnar_sums::result::Results;
 use columnar_sums::result::bytes::{check_results, judge_results};
 use std::alloc::Global;
 
-// Does each row reach a value? One turn for each row.
+// Tests whether each distance reaches a value. Takes one step for each row.
 fn all_reach<E: IndexAs<u8>, CC: Words, RC: Words, WC: Words, L>(
     bits: &RankSelect<CC, RC, WC>,
     errs: &E,
@@ -51,8 +51,8 @@ fn all_reach<E: IndexAs<u8>, CC: Words, RC: Words, WC: Words, L>(
     true
 }
 
-/// The rules of the results, and then that each distance is below the number of values before it: `Lookback`, at the
-/// first slice.
+/// Checks the rules of the results, then that each distance is less than the number of values before it. The last rule
+/// is reported as `Lookback`, at the first slice.
 impl<TC: Stored, VC: Distances, CC: Words, RC: Words, WC: Words, const N: u8> Stored
     for Lookbacks<TC, N, VC, CC, RC, WC> {
     ghost storable = { lookbacks_storable TC.format VC.format TC.storable VC.storable };

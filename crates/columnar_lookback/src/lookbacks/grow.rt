@@ -1,4 +1,4 @@
-//! Columns that refer back to one of the last values, as they grow and are cut.
+//! Growth and truncation of columns of lookbacks.
 ghost use Rattle.std.specs.Prelude.{◌≡◌, ◌≢◌, ◌≤◌, ◌+◌, ◌-◌, ◌++◌, [], ◌∷◌, length, take, drop, cond, is_none, None, OnOk, IfErr, IfSome};
 ghost use Rattle.columnar_lookback.specs.LookbackLaws.{lookbacks_lawful, same_lookbacks};
 ghost use Rattle.std.specs.Int.{to_le_bytes, w8};
@@ -66,11 +66,13 @@ impl<TC: Reserve, const N: u8> Reserve for Lookbacks<TC, N, Vec<u8>, Vec<u64>, V
     }
 }
 
-/// An item that is the same as one of the last `N` values is kept as its least distance, any other as a value.
+/// An item that is the same as one of the last `N` values is stored as its least distance, any other as a value.
 impl<T: Item + Drop, TC: Truncate + Push<T> + SameAs<T>, const N: u8> Push<T>
     for Lookbacks<TC, N, Vec<u8>, Vec<u64>, Vec<u64>, [u64; 2]> {
-    /// Stores the least distance at which a value is the same as the item; where there is none, the item as one value
-    /// more.
+    /// Stores the least distance at which a value is the same as the item; if there is none, the item as a new value.
+    ///
+    /// # Requires
+    /// The column is well-formed, and `item` is valid.
     fn push(&mut self, item: T) -> Result<(), GrowError>
         requires sound { IsSound (lookbacks_format TC.format bytes_format) (owned_lookbacks TC.content self.old.inner) }
         requires valid { T.valid item }
@@ -90,8 +92,10 @@ impl<T: Item + Drop, TC: Truncate + Push<T> + SameAs<T>, const N: u8> Push<T>
 
 impl<T: Item, TC: Truncate + PushRef<T> + SameAs<T>, const N: u8> PushRef<T>
     for Lookbacks<TC, N, Vec<u8>, Vec<u64>, Vec<u64>, [u64; 2]> {
-    /// Stores the least distance at which a value is the same as the item; where there is none, the item as one value
-    /// more.
+    /// Stores the least distance at which a value is the same as the item; if there is none, the item as a new value.
+    ///
+    /// # Requires
+    /// The column is well-formed, and `item` is valid.
     fn push_ref(&mut self, item: &T) -> Result<(), GrowError>
         requires sound { IsSound (lookbacks_format TC.format bytes_format) (owned_lookbacks TC.content self.old.inner) }
         requires valid { T.valid item.now }
@@ -109,8 +113,8 @@ impl<T: Item, TC: Truncate + PushRef<T> + SameAs<T>, const N: u8> PushRef<T>
     }
 }
 
-/// A front that is copied into a column without rows is copied as it stands; of any other range each row is kept as if it
-/// were pushed.
+/// A range that starts at row 0 is copied unchanged into a column without rows. The rows of any other range are pushed
+/// one by one.
 impl<
     'x,
     V: Index + Copy,
@@ -125,8 +129,11 @@ impl<
         <Inner<TC> as ExtendFrom<ViewedInner<'x, V>>>::add_room(room, view.inner)
     }
 
-    /// Stores of each row in turn the least distance at which one of the last `N` values is the same, or one value more
-    /// where there is none; but a front that is copied into a column without rows is stored as it was.
+    /// Stores for each row the least distance at which one of the last `N` values is the same; if there is none, a new
+    /// value. A range that starts at row 0 is stored unchanged in a column without rows.
+    ///
+    /// # Requires
+    /// Both columns are well-formed, and the range is within the view.
     fn extend_from_self(
         &mut self,
         view: Lookbacks<V, N, &'x [u8], View<'x, u64>, View<'x, u64>, View<'x, u64>>,

@@ -1,4 +1,4 @@
-//! Columns that keep a run of rows once, in slices of bytes.
+//! The slices of columns of repeats, and their validation.
 ghost use Rattle.std.specs.Prelude.{◌≡◌, drop, refl};
 ghost use Rattle.columnar_base.specs.Format.{Fits, IsSound, slices_of};
 ghost use Rattle.columnar_base.specs.TwoPartsLaws.{two_counted};
@@ -22,7 +22,7 @@ use columnar_sums::option::Options;
 use columnar_sums::rank_select::RankSelect;
 use std::alloc::Global;
 
-// Is the first bit set, if there is one, in slices that were accepted?
+// Tests in slices that were accepted whether the first bit, if any, is set.
 fn starts_in(store: &DecodedStore<'_>, offset: usize) -> bool
     requires { Fits ranks_format offset (slices_in store.now) }
     ensures { result ≡ starts_set (ranks_bits (ranks_format.build (drop offset (slices_in store.now)))) }
@@ -34,7 +34,7 @@ fn starts_in(store: &DecodedStore<'_>, offset: usize) -> bool
     is_started(&bits)
 }
 
-// Is the first bit set, if there is one?
+// Tests whether the first bit, if any, is set.
 fn is_started<CC: Words, VC: Words, WC: Words>(bits: &RankSelect<CC, VC, WC>) -> bool
     requires { IsSound ranks_format (ranks_content CC.bytes VC.bytes WC.bytes bits.now) }
     ensures { result ≡ starts_set (ranks_bits (ranks_content CC.bytes VC.bytes WC.bytes bits.now)) }
@@ -42,7 +42,8 @@ fn is_started<CC: Words, VC: Words, WC: Words>(bits: &RankSelect<CC, VC, WC>) ->
     bits.len() == 0 || bits.get(0)
 }
 
-/// The rules of the options, and then that the first row, if there is one, is a value: `Lookback`, at the first slice.
+/// Checks the rules of the options, then that the first row, if any, is a value. The last rule is reported as
+/// `Lookback`, at the first slice.
 impl<TC: Stored, CC: Words, VC: Words, WC: Words> Stored for Repeats<TC, CC, VC, WC> {
     ghost storable = { repeats_storable TC.format TC.storable };
 

@@ -1,4 +1,4 @@
-//! Columns that keep a run of rows once, as they grow and are cut.
+//! Growth and truncation of columns of repeats.
 ghost use Rattle.std.specs.Prelude.{◌≡◌, ◌≢◌, ◌<◌, ◌≤◌, ◌+◌, ◌-◌, [], ◌∷◌, length, take, drop, slice_get, Some, cond, false, OnOk, IfErr};
 ghost use Rattle.columnar_base.specs.Row.{Row};
 ghost use Rattle.columnar_base.specs.Format.{IsSound};
@@ -64,10 +64,13 @@ impl<TC: Reserve> Reserve for Repeats<TC, Vec<u64>, Vec<u64>, [u64; 2]> {
     }
 }
 
-/// An item that is the same as the last row is kept as None, any other as a value.
+/// An item that is the same as the last row is stored as `None`, any other as a value.
 impl<T: Item + Drop, TC: Truncate + Push<T> + SameAs<T>> Push<T>
     for Repeats<TC, Vec<u64>, Vec<u64>, [u64; 2]> {
-    /// Stores the item as one value more, but no value where the item is the same as the last row.
+    /// Stores the item as a new value, or no value if the item is the same as the last row.
+    ///
+    /// # Requires
+    /// The column is well-formed, and `item` is valid.
     fn push(&mut self, item: T) -> Result<(), GrowError>
         requires sound { IsSound (repeats_format TC.format) (owned_repeats TC.content self.old.inner) }
         requires valid { T.valid item }
@@ -86,7 +89,10 @@ impl<T: Item + Drop, TC: Truncate + Push<T> + SameAs<T>> Push<T>
 
 impl<T: Item, TC: Truncate + PushRef<T> + SameAs<T>> PushRef<T>
     for Repeats<TC, Vec<u64>, Vec<u64>, [u64; 2]> {
-    /// Stores the item as one value more, but no value where the item is the same as the last row.
+    /// Stores the item as a new value, or no value if the item is the same as the last row.
+    ///
+    /// # Requires
+    /// The column is well-formed, and `item` is valid.
     fn push_ref(&mut self, item: &T) -> Result<(), GrowError>
         requires sound { IsSound (repeats_format TC.format) (owned_repeats TC.content self.old.inner) }
         requires valid { T.valid item.now }
@@ -103,8 +109,8 @@ impl<T: Item, TC: Truncate + PushRef<T> + SameAs<T>> PushRef<T>
     }
 }
 
-/// A front that is copied into a column without rows is copied as it stands. Of any other range the first row is
-/// pushed, and the inner rows after it are copied, so that it stores at most one value more than the range does.
+/// A range that starts at row 0 is copied unchanged into a column without rows. For any other range, the first row is
+/// pushed and the inner rows after it are copied; it stores at most one value more than the range has.
 impl<'x, V: Index + Copy, TC: ExtendFrom<V> + Push<V::Ref> + SameAs<V::Ref>> ExtendFrom<
     Repeats<V, View<'x, u64>, View<'x, u64>, View<'x, u64>>,
 > for Repeats<TC, Vec<u64>, Vec<u64>, [u64; 2]> {
@@ -115,8 +121,11 @@ impl<'x, V: Index + Copy, TC: ExtendFrom<V> + Push<V::Ref> + SameAs<V::Ref>> Ext
         <Inner<TC> as ExtendFrom<ViewedInner<'x, V>>>::add_room(room, view.inner)
     }
 
-    /// Stores the first row of the range as a value where it is not the same as the last row, and the values that stand
-    /// after it in the range of the view; of a front that is copied into a column without rows the values of that range.
+    /// Stores the first row of the range as a value unless it is the same as the last row, and then the range's values
+    /// after it. A range that starts at row 0 is stored unchanged in a column without rows.
+    ///
+    /// # Requires
+    /// Both columns are well-formed, and the range is within the view.
     fn extend_from_self(
         &mut self,
         view: Viewed<'x, V>,

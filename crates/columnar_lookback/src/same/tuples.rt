@@ -1,5 +1,5 @@
 // Made by .ci/widths.py: change .ci/widths/same.template, and not this file.
-//! Tuples of three columns and more tell whether a row is the same as an item: the first part, and then the others.
+//! Tuples of three to ten columns test whether a row equals an item: first the first part, then the others.
 ghost use Rattle.std.specs.Prelude.{◌≡◌, ◌<◌, List, [], ◌∷◌, length, slice_get, Some};
 ghost use Rattle.columnar_base.specs.Row.{Row, tuple};
 ghost use Rattle.columnar_base.specs.Format.{both, IsSound};
@@ -8,7 +8,7 @@ ghost use Rattle.columnar_base.specs.LongTuples.{nested};
 use super::{SameAs, same_two};
 use columnar_base::traits::Item;
 
-// The same in each part.
+// Tests each field in its part.
 pub(super) fn same_three<P: Item, Q: Item, R: Item, A: SameAs<P>, B: SameAs<Q>, C: SameAs<R>>(
     first: &A,
     second: &B,
@@ -28,7 +28,7 @@ pub(super) fn same_three<P: Item, Q: Item, R: Item, A: SameAs<P>, B: SameAs<Q>, 
     first.same(at, p) && same_two(second, third, at, q, r)
 }
 
-/// The same in each part.
+/// Tests each field in its part.
 impl<P: Item, Q: Item, R: Item, A: SameAs<P>, B: SameAs<Q>, C: SameAs<R>> SameAs<(P, Q, R)>
     for (A, B, C) {
     fn same(&self, at: usize, item: &(P, Q, R)) -> bool {
@@ -43,7 +43,7 @@ impl<'x, P: Item, Q: Item, R: Item, A: SameAs<P>, B: SameAs<Q>, C: SameAs<R>> Sa
     }
 }
 
-// The same in each part.
+// Tests each field in its part.
 pub(super) fn same_four<
     P: Item,
     Q: Item,
@@ -65,7 +65,7 @@ pub(super) fn same_four<
     first.same(at, p) && same_three(second, third, fourth, at, q, r, s)
 }
 
-/// The same in each part.
+/// Tests each field in its part.
 impl<
     P: Item,
     Q: Item,
@@ -98,7 +98,7 @@ impl<
     }
 }
 
-// The same in each part.
+// Tests each field in its part.
 pub(super) fn same_five<
     P: Item,
     Q: Item,
@@ -135,7 +135,7 @@ pub(super) fn same_five<
     first.same(at, p) && same_four(second, third, fourth, fifth, at, q, r, s, t)
 }
 
-/// The same in each part.
+/// Tests each field in its part.
 impl<
     P: Item,
     Q: Item,
@@ -174,7 +174,7 @@ impl<
     }
 }
 
-// The same in each part.
+// Tests each field in its part.
 pub(super) fn same_six<
     P: Item,
     Q: Item,
@@ -216,7 +216,7 @@ pub(super) fn same_six<
     first.same(at, p) && same_five(second, third, fourth, fifth, sixth, at, q, r, s, t, u)
 }
 
-/// The same in each part.
+/// Tests each field in its part.
 impl<
     P: Item,
     Q: Item,
@@ -260,7 +260,7 @@ impl<
     }
 }
 
-// The same in each part.
+// Tests each field in its part.
 pub(super) fn same_seven<
     P: Item,
     Q: Item,
@@ -310,7 +310,7 @@ pub(super) fn same_seven<
         )
 }
 
-/// The same in each part.
+/// Tests each field in its part.
 impl<
     P: Item,
     Q: Item,
@@ -358,7 +358,7 @@ impl<
     }
 }
 
-// The same in each part.
+// Tests each field in its part.
 pub(super) fn same_eight<
     P: Item,
     Q: Item,
@@ -413,7 +413,7 @@ pub(super) fn same_eight<
         )
 }
 
-/// The same in each part.
+/// Tests each field in its part.
 impl<
     P: Item,
     Q: Item,
@@ -465,7 +465,7 @@ impl<
     }
 }
 
-// The same in each part.
+// Tests each field in its part.
 pub(super) fn same_nine<
     P: Item,
     Q: Item,
@@ -525,7 +525,7 @@ pub(super) fn same_nine<
         )
 }
 
-/// The same in each part.
+/// Tests each field in its part.
 impl<
     P: Item,
     Q: Item,
@@ -581,7 +581,7 @@ impl<
     }
 }
 
-/// The same in each part.
+/// Tests each field in its part.
 impl<
     P: Item,
     Q: Item,

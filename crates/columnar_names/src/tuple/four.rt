@@ -1,5 +1,5 @@
 // Made by .ci/widths.py: change .ci/widths/names.template, and not this file.
-//! Tuples of four.
+//! Names of the slices of tuples of four columns.
 use crate::names::{NamedParts, Numbered, PartNames, SliceNames, push_field};
 use columnar_base::fault::GrowError;
 use std::alloc::Global;

@@ -1,5 +1,5 @@
 // Made by .ci/widths.py: change .ci/widths/names.template, and not this file.
-//! Tuples of nine.
+//! Names of the slices of tuples of nine columns.
 use crate::names::{NamedParts, Numbered, PartNames, SliceNames, push_field};
 use columnar_base::fault::GrowError;
 use std::alloc::Global;

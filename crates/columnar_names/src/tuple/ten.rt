@@ -1,5 +1,5 @@
 // Made by .ci/widths.py: change .ci/widths/names.template, and not this file.
-//! Tuples of ten.
+//! Names of the slices of tuples of ten columns.
 use crate::names::{NamedParts, Numbered, PartNames, SliceNames, push_field};
 use columnar_base::fault::GrowError;
 use std::alloc::Global;

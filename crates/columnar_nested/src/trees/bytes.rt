@@ -1,4 +1,4 @@
-//! Trees in slices of bytes.
+//! Trees in byte slices.
 ghost use Rattle.std.specs.Prelude.{◌≡◌, ◌+◌, ◌^◌, ◌<◌, ◌≤◌, length};
 ghost use Rattle.columnar_base.specs.Elements.{words_format};
 ghost use Rattle.columnar_base.specs.Faults.{verdict};
@@ -21,7 +21,7 @@ use columnar_core::store::DecodedStore;
 use columnar_core::words::{byte_count, word_at, word_count};
 use std::alloc::Global;
 
-// Are groups and bounds whole words? Slices are counted from `from` on.
+// Validates groups and bounds as whole words, with slices counted from `from` on.
 fn judged_words(groups: View<'_, u64>, bounds: View<'_, u64>, from: usize) -> Result<(), StoreFault>
     requires { from + 1 < 2 ^ 64 }
     ensures { verdict result ≡ first (both_broken words_format words_format (slice (view_bytes groups.entry)) (slice (view_bytes bounds.entry)) from) }
@@ -35,7 +35,7 @@ fn judged_words(groups: View<'_, u64>, bounds: View<'_, u64>, from: usize) -> Re
     Ok(())
 }
 
-// Do groups and bounds keep the rule of trees that have `nodes` nodes together? A turn for each bound.
+// Returns whether groups and bounds satisfy the rule of trees with `nodes` nodes in all. Takes a step for each bound.
 fn keep_rule<L>(
     groups: View<'_, u64>,
     bounds: View<'_, u64>,
@@ -153,7 +153,7 @@ impl<'s, TC: AsBytes<'s>> AsBytes<'s> for Trees<TC, View<'s, u64>> {
     }
 }
 
-/// Where memory is refused for the bounds or the values, the parts already loaded are dropped.
+/// If the bounds or the values cannot be loaded, the loaded parts are dropped.
 impl<TC: ContainerBytes> ContainerBytes for Trees<TC, Vec<u64>> {
     fn byte_slice(&self, index: usize) -> ByteSlice<'_> {
         if index == 0 {

@@ -1,4 +1,4 @@
-//! Columns of trees that grow.
+//! Growth of columns of trees.
 ghost use Rattle.std.specs.Prelude.{◌≡◌, ◌+◌, ◌^◌, ◌≤◌, ◌++◌, [], ◌∷◌, List, All, length, take, OnOk, OnErr, IfOk, IfErr, IfSome, IfNone};
 ghost use Rattle.columnar_base.specs.Row.{Row};
 ghost use Rattle.columnar_base.specs.Change.{Took, Refused, IsTrueOf};
@@ -15,7 +15,8 @@ use columnar_base::traits::{Clear, Item, PushRef};
 use std::alloc::Global;
 use std::collections::VecDeque;
 
-// Where the kids of the next node end, if that number has 64 bits: after it, the pending ones, and its kids.
+// Returns where the children of the next node end, if 64 bits can hold it: after the node, the pending nodes and its
+// children.
 fn bound_of(start: usize, pending: usize, kids: usize) -> Option<u64>
     ensures some { IfSome result (λ b. b ≡ (start + pending + 1) + kids) }
     ensures none { IfNone result (2 ^ 64 ≤ (start + pending + 1) + kids) }
@@ -28,8 +29,8 @@ fn bound_of(start: usize, pending: usize, kids: usize) -> Option<u64>
     )
 }
 
-// Appends the nodes of a tree, level by level. Where it fails, the bounds that were there stay in front, and the values
-// have taken no more than some.
+// Appends the nodes of a tree, level by level. If it fails, the old bounds stay in front, and the values may have taken
+// some of the nodes' values.
 fn lay<T: Item + Drop, TC: PushRef<T> + Truncate>(
     bounds: &mut Vec<u64>,
     values: &mut TC,
@@ -59,7 +60,10 @@ fn lay<T: Item + Drop, TC: PushRef<T> + Truncate>(
 }
 
 impl<TC: Storage> Trees<TC, Vec<u64>> {
-    /// A column without trees; its groups and its bounds are one 0 each. Want of memory alone refuses it.
+    /// Returns a column without trees, whose groups and bounds are a single 0 each.
+    ///
+    /// # Errors
+    /// `Memory`, and no other error.
     pub fn new(alloc: Global) -> Result<Self, GrowError>
         ensures groups { IfOk result (λ t. t.groups.items ≡ 0 ∷ []) }
         ensures bounds { IfOk result (λ t. t.bounds.items ≡ 0 ∷ []) }
@@ -81,7 +85,10 @@ impl<TC: Storage> Trees<TC, Vec<u64>> {
 }
 
 impl<TC: Clear> Trees<TC, Vec<u64>> {
-    /// Takes all trees away; its groups and its bounds are one 0 each then. Needs no memory.
+    /// Removes all trees; the groups and the bounds are then a single 0 each. Allocates nothing.
+    ///
+    /// # Requires
+    /// A well-formed column.
     pub fn clear(&mut self)
         requires { IsSound (trees_format TC.format) (owned_trees TC.content self.old) }
         ensures groups { self.new.groups.items ≡ 0 ∷ [] }
@@ -98,9 +105,15 @@ impl<TC: Clear> Trees<TC, Vec<u64>> {
 }
 
 impl<TC: Truncate> Trees<TC, Vec<u64>> {
-    /// Adds a tree that is alike to this one: of the same shape, its values alike. The tree is given up, also where it is
-    /// refused; the rows and the lengths of all parts are then as before, and Length is answered only where its values,
-    /// pushed level by level, may not be held.
+    /// Appends a tree of the same shape, whose values represent those of `tree`. Consumes the tree, even if it refuses
+    /// it.
+    ///
+    /// # Requires
+    /// A well-formed column, and a valid tree.
+    ///
+    /// # Errors
+    /// `Memory`; `Length` or `Offset` only if the column cannot hold the values, pushed level by level. The rows and
+    /// the lengths of all parts stay.
     pub fn push_tree<T: Item + Drop>(&mut self, tree: Tree<T>) -> Result<(), GrowError>
     where
         TC: PushRef<T>,

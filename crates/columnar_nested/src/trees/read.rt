@@ -1,4 +1,4 @@
-//! Trees that are read in place, node by node.
+//! Stored trees that are read in place, node by node.
 ghost use Rattle.std.specs.Prelude.{◌≡◌, ◌<◌, length, slice_get, Some};
 ghost use Rattle.columnar_base.specs.Format.{both, slice, IsSound};
 ghost use Rattle.columnar_nested.specs.NodeRefs.{node_number, ref_row, ref_valid};
@@ -12,8 +12,8 @@ use columnar_base::view::View;
 use columnar_core::container::{Borrow, Named, Reborrow, ReborrowRef};
 use columnar_core::words::word_count;
 
-/// A node of stored trees, with all that is below it. Its calls ask that it is valid, which it is where it came of a
-/// well-formed column of trees, or of a valid node's `child`.
+/// A node of stored trees, with all nodes below it. Its calls require that it is valid: a node of a well-formed column
+/// of trees, or a `child` of a valid node.
 #[derive(Clone, Copy)]
 pub struct TreesRef<V, B> {
     index: usize,
@@ -30,7 +30,10 @@ impl<V: Column, B: NodeBounds> Item for TreesRef<V, B> {
 }
 
 impl<V: Column, B: NodeBounds> TreesRef<V, B> {
-    /// The number of kids.
+    /// Returns the number of children.
+    ///
+    /// # Requires
+    /// A valid node.
     pub fn kids(&self) -> usize
         requires { ⟦<TreesRef<V, B> as Item>⟧.valid self.now }
         ensures { result ≡ length (kids_of (⟦<TreesRef<V, B> as Item>⟧.meaning self.now)) }
@@ -40,7 +43,10 @@ impl<V: Column, B: NodeBounds> TreesRef<V, B> {
 }
 
 impl<V: Index, B: NodeBounds> TreesRef<V, B> {
-    /// The row of the node's own value.
+    /// Returns the row of the node's own value.
+    ///
+    /// # Requires
+    /// A valid node.
     pub fn value(&self) -> V::Ref
         requires { ⟦<TreesRef<V, B> as Item>⟧.valid self.now }
         ensures row { V.Ref.meaning result ≡ tree_value (⟦<TreesRef<V, B> as Item>⟧.meaning self.now) }
@@ -51,8 +57,10 @@ impl<V: Index, B: NodeBounds> TreesRef<V, B> {
 }
 
 impl<V: Column + Copy, B: NodeBounds + Copy> TreesRef<V, B> {
-    /// Kid `index`. Asks that it is below the number of kids. The kid is valid too, and its number is greater than this
-    /// node's.
+    /// Returns child `index`. The child is valid too, and its number is greater than this node's.
+    ///
+    /// # Requires
+    /// A valid node, and `index` below its number of children.
     pub fn child(&self, index: usize) -> Self
         requires valid { ⟦<TreesRef<V, B> as Item>⟧.valid self.now }
         requires in_range { index < length (kids_of (⟦<TreesRef<V, B> as Item>⟧.meaning self.now)) }
@@ -71,7 +79,7 @@ impl<V: Column + Copy, B: NodeBounds + Copy> TreesRef<V, B> {
     }
 }
 
-// The root of tree `index` of well-formed trees.
+// Returns the root of tree `index` of well-formed trees.
 fn root_of<G: NodeBounds, V: Column, B: NodeBounds>(
     groups: &G,
     bounds: B,
@@ -83,7 +91,7 @@ fn root_of<G: NodeBounds, V: Column, B: NodeBounds>(
     ensures tree { slice_get ((trees_format V.format).rows (both (slice (G.bytes groups.now)) (both (slice (B.bytes bounds)) (V.content values)))) index ≡ Some (⟦<TreesRef<V, B> as Item>⟧.meaning result) }
     ensures valid { ⟦<TreesRef<V, B> as Item>⟧.valid result }
 {
-    // There are fewer than 2^61 bounds, so the number after a node's is one of 64 bits.
+    // There are fewer than 2^61 bounds, so 64 bits can hold the number after a node's.
     let _count = word_count(bounds.words());
     let root = groups.bound(index) as usize;
     TreesRef {

@@ -1,4 +1,4 @@
-//! Offsets that are the multiples of a constant, of which the count alone is kept.
+//! Offsets that are the multiples of a constant, stored as their number.
 ghost use Rattle.std.specs.Prelude.{◌≡◌, ℕ, ◌+◌, ◌-◌, ◌*◌, ◌<◌, ◌≤◌, ◌^◌, ◌∷◌, [], List, length, take, drop, slice_get, Some, OnOk, OnErr, IfOk, IfErr, IsTrue, IsFalse, Err, ◌↔◌, true, false, refl};
 ghost use Rattle.columnar_core.specs.Row.{Row, number};
 ghost use Rattle.columnar_core.specs.Format.{slice, first, moved, IsSound};
@@ -29,11 +29,11 @@ use columnar_core::words::Words;
 use std::alloc::Global;
 use std::ops::Range;
 
-/// The offsets `K`, `2 * K`, .., of which only the count is kept: the bounds of lists of `K` items each. A count of its
-/// own is a `u64`, a view's is a `View` of one entry.
+/// The offsets `K`, `2 * K`, .., stored as their number: the bounds of lists of `K` items each. The count of an owned
+/// column is a `u64`, that of a view a `View` of one element.
 #[derive(Clone, Copy, Drop, PartialEq)]
 pub struct Fixeds<const K: u64, CC = u64> {
-    /// How many offsets there are.
+    /// The number of offsets.
     pub count: CC,
 }
 
@@ -101,7 +101,8 @@ impl<const K: u64> Reserve for Fixeds<K, u64> {
     }
 }
 
-// The count with `added` offsets more, of which `item` is the first: where that one comes next, all of them do.
+// Returns the count with `added` more offsets, the first of which is `item`. If `item` is the next multiple, so are the
+// others in their turn.
 fn count_with<const K: u64>(count: u64, added: u64, item: u64) -> Result<u64, GrowError>
     requires { 0 < added }
     ensures ok { IfOk result (λ n. (n ≡ count + added) × (item ≡ K * (count + 1))) }
@@ -126,8 +127,14 @@ fn count_with<const K: u64>(count: u64, added: u64, item: u64) -> Result<u64, Gr
 }
 
 impl<const K: u64> Push<u64> for Fixeds<K, u64> {
-    /// Adds the offset. Length is answered where one more offset passes 2^64 - 1, in number or in size, and else Offset
-    /// where the item is not the next multiple. It takes no memory, and wants none.
+    /// Appends the offset; allocates nothing.
+    ///
+    /// # Requires
+    /// A well-formed column.
+    ///
+    /// # Errors
+    /// `Length` if and only if one more offset would exceed 2^64 - 1, in number or in size; otherwise `Offset` if and
+    /// only if `item` is not the next multiple. Never `Memory`.
     fn push(&mut self, item: u64) -> Result<(), GrowError>
         requires sound { IsSound (fixed_format K) (counted self.old.count) }
         ensures ok { OnOk result (Took (fixed_format K) (counted self.old.count) (counted self.new.count) (word_row item ∷ [])) }
@@ -142,6 +149,12 @@ impl<const K: u64> Push<u64> for Fixeds<K, u64> {
 }
 
 impl<'x, const K: u64> Push<&'x u64> for Fixeds<K, u64> {
+    /// Appends the offset, as the push of a `u64` does.
+    ///
+    /// # Requires
+    /// A well-formed column.
+    ///
+    /// # Errors
     /// As the push of a `u64`.
     fn push(&mut self, item: &'x u64) -> Result<(), GrowError>
         requires sound { IsSound (fixed_format K) (counted self.old.count) }
@@ -156,6 +169,12 @@ impl<'x, const K: u64> Push<&'x u64> for Fixeds<K, u64> {
 }
 
 impl<const K: u64> PushRef<u64> for Fixeds<K, u64> {
+    /// Appends the offset, as the push of a `u64` does.
+    ///
+    /// # Requires
+    /// A well-formed column.
+    ///
+    /// # Errors
     /// As the push of a `u64`.
     fn push_ref(&mut self, item: &u64) -> Result<(), GrowError>
         requires sound { IsSound (fixed_format K) (counted self.old.count) }
@@ -174,9 +193,14 @@ impl<'x, const K: u64> ExtendFrom<Fixeds<K, View<'x, u64>>> for Fixeds<K, u64> {
         ()
     }
 
-    /// Adds the offsets of the range where each comes to its place, or none of them. Length is answered where with them
-    /// there would be more than 2^64 - 1 offsets, or the last would pass that, and else Offset where one of them is not
-    /// the next multiple. It takes no memory, and wants none.
+    /// Appends the offsets of the range, or none; allocates nothing.
+    ///
+    /// # Requires
+    /// A well-formed column and view, and a range of the view's rows.
+    ///
+    /// # Errors
+    /// `Length` if and only if the number of offsets or the last one would exceed 2^64 - 1; otherwise `Offset` if and
+    /// only if one of them is not the next multiple. Never `Memory`.
     fn extend_from_self(
         &mut self,
         view: Fixeds<K, View<'x, u64>>,
@@ -235,7 +259,7 @@ where
     }
 }
 
-// Which rule does a count break?
+// Validates a count.
 fn fault_in<CC: Words>(stride: u64, count: &CC, from: usize) -> Result<(), StoreFault>
     ensures { verdict result ≡ first (moved from (fixed_broken stride (slice (CC.bytes count.now)))) }
 {
@@ -326,6 +350,12 @@ impl<const K: u64, CC: Words> Offsets for Fixeds<K, CC> {
 }
 
 impl<const K: u64> PushAfter for Fixeds<K, u64> {
+    /// Appends the offset, as the push of a `u64` does.
+    ///
+    /// # Requires
+    /// A well-formed column.
+    ///
+    /// # Errors
     /// As the push of a `u64`.
     fn push_after(&mut self, _last: u64, offset: u64) -> Result<(), GrowError>
         requires sound { IsSound (fixed_format K) (counted self.old.count) }
@@ -340,7 +370,13 @@ impl<const K: u64> PushAfter for Fixeds<K, u64> {
 }
 
 impl<const K: u64, W: Offsets> ExtendShifted<W> for Fixeds<K, u64> {
-    /// Pushes the moved offsets in turn, or none of them. It takes no memory, and wants none.
+    /// Pushes the shifted offsets in order, or none; allocates nothing.
+    ///
+    /// # Requires
+    /// As the trait's method.
+    ///
+    /// # Errors
+    /// `Length` or `Offset`, as a push; never `Memory`.
     fn extend_shifted_tallied<L>(
         &mut self,
         view: &W,
@@ -391,7 +427,7 @@ impl<const K: u64, CC: Words> StoredOffsets for Fixeds<K, CC> {
     }
 }
 
-// Does no bound stand after the multiples of a head, and is its stride this one?
+// Returns whether there are no bounds after the multiples of a head, and its stride is `stride`.
 fn all_follow<HC: Words, BC: Words>(head: &HC, bounds: &BC, stride: u64) -> bool
     ensures yes { result ≡ true → (length (HC.bytes head.now) ≡ 16) × ((length (BC.bytes bounds.now) ≡ 0) × (word (HC.bytes head.now) 0 ≡ stride)) }
     ensures no { result ≡ false → length (HC.bytes head.now) ≡ 16 → length (BC.bytes bounds.now) ≡ 0 → word (HC.bytes head.now) 0 ≡ stride → ⊥ }
@@ -402,8 +438,8 @@ fn all_follow<HC: Words, BC: Words>(head: &HC, bounds: &BC, stride: u64) -> bool
     head.word(0) == stride
 }
 
-/// Ok exactly where `strided` answers `Some(K)`: no bound stands after the multiples, and the stride is `K`, which is 0
-/// where no offset came yet. Else the column is given back as it is.
+/// Converts the column if and only if `strided` returns `Some(K)`: there are no bounds after the multiples, and the
+/// stride is `K`. The stride is 0 if no offset was ever pushed. Otherwise returns the column unchanged.
 impl<const K: u64> TryFrom<Strides<Vec<u64>, [u64; 2]>> for Fixeds<K, u64> {
     type Error = Strides<Vec<u64>, [u64; 2]>;
 
@@ -420,9 +456,9 @@ impl<const K: u64> TryFrom<Strides<Vec<u64>, [u64; 2]>> for Fixeds<K, u64> {
     }
 }
 
-/// Ok exactly where `strided` answers `Some(K)`, of a well-formed view: no bound stands after the multiples, and the
-/// stride is `K`. Else the view is given back as it is, well formed or not. A view that is not well formed may become one
-/// that is not either, of the same rows.
+/// Converts a well-formed view if and only if `strided` returns `Some(K)`: there are no bounds after the multiples, and
+/// the stride is `K`. Otherwise returns the view unchanged, well-formed or not. A malformed view may convert to a
+/// malformed one with the same rows.
 impl<'v, const K: u64> TryFrom<Strides<View<'v, u64>, View<'v, u64>>> for Fixeds<K, View<'v, u64>> {
     type Error = Strides<View<'v, u64>, View<'v, u64>>;
 

@@ -1,4 +1,4 @@
-//! Offsets that follow a stride as far as they go, and then stand as they are.
+//! Offsets that follow a stride as long as they can, then explicit offsets.
 ghost use Rattle.std.specs.Prelude.{◌≡◌, ℕ, ◌+◌, ◌-◌, ◌*◌, ◌/◌, ◌%◌, ◌^◌, ◌<◌, ◌≤◌, ◌∷◌, [], length, take, drop, slice_get, Some, Err, OnOk, OnErr, IfErr, IsOk, IsTrue, refl};
 ghost use Rattle.std.specs.Iterator.{IsFinite};
 ghost use Rattle.columnar_core.specs.Row.{number};
@@ -26,11 +26,11 @@ use columnar_core::words::Words;
 use std::alloc::{AllocError, Global};
 use std::ops::Range;
 
-/// Offsets: as many of the multiples of a stride as the head says, and then those of the bounds as they stand. A column
-/// of its own has an array and a `Vec`, a view has a `View` for each.
+/// Offsets: first the multiples of a stride, as many as the head says, then explicit bounds. An owned column has an
+/// array and a `Vec`, a view has a `View` for each.
 #[derive(Clone, Copy, Drop, PartialEq)]
 pub struct Strides<BC = Vec<u64>, HC = [u64; 2]> {
-    /// The stride, and how many offsets follow it.
+    /// The stride, and the number of offsets that follow it.
     pub head: HC,
     /// The offsets after these.
     pub bounds: BC,
@@ -63,7 +63,11 @@ impl<BC: Words, HC: Words> Index for Strides<BC, HC> {
 }
 
 impl<BC: Words, HC: Words> Strides<BC, HC> {
-    /// Where list `index` starts and ends: the offset before offset `index`, 0 for the first, and that offset.
+    /// Returns where list `index` starts and ends: the offset before offset `index` (0 for the first), and offset
+    /// `index`.
+    ///
+    /// # Requires
+    /// A well-formed column, and `index` below its length.
     pub fn bounds(&self, index: usize) -> (usize, usize)
         requires sound { IsSound strides_format (⟦<Strides<BC, HC> as Column>⟧.content self.now) }
         requires in_range { index < length (strides_rows (⟦<Strides<BC, HC> as Column>⟧.content self.now)) }
@@ -74,8 +78,11 @@ impl<BC: Words, HC: Words> Strides<BC, HC> {
         (lower as usize, self.get(index) as usize)
     }
 
-    /// The stride, where no bound stands after the multiples. Where there is no offset that is what the head has: the stride
-    /// that offsets had before they were cut, 0 where none came.
+    /// Returns the stride if there are no bounds after the multiples, otherwise `None`. Without offsets it returns the
+    /// stride in the head: that of the offsets before they were cut, or 0 if there never were any.
+    ///
+    /// # Requires
+    /// A well-formed column.
     pub fn strided(&self) -> Option<u64>
         requires { IsSound strides_format (⟦<Strides<BC, HC> as Column>⟧.content self.now) }
         ensures { result ≡ strided (⟦<Strides<BC, HC> as Column>⟧.content self.now) }
@@ -89,7 +96,10 @@ impl<BC: Words, HC: Words> Strides<BC, HC> {
 }
 
 impl Strides<Vec<u64>, [u64; 2]> {
-    /// The first `length` multiples of `stride`. Asks that the last of them fits a `u64`.
+    /// Returns the column of the first `length` multiples of `stride`.
+    ///
+    /// # Requires
+    /// `stride * length` below 2^64.
     pub fn new(alloc: Global, stride: u64, length: u64) -> Self
         requires { stride * length < 2 ^ 64 }
         ensures sound { IsSound strides_format (head_and_bounds result.head result.bounds.items) }
@@ -102,9 +112,14 @@ impl Strides<Vec<u64>, [u64; 2]> {
         }
     }
 
-    /// Adds an offset. Where no bound stands after the multiples, it joins them if it is the next, or the first, which
-    /// is then the stride; else it goes to the bounds. An offset that joins the multiples takes no memory. Length is
-    /// answered where there are 2^64 - 1 offsets. After a refusal nothing has changed.
+    /// Appends an offset. It joins the multiples if there are no bounds and it is the next multiple, or the first
+    /// offset, which then is the stride; otherwise it joins the bounds. Joining the multiples allocates nothing.
+    ///
+    /// # Requires
+    /// A well-formed column.
+    ///
+    /// # Errors
+    /// `Length` if there are 2^64 - 1 offsets, or `Memory`. The head and the bounds stay.
     pub fn push(&mut self, item: u64) -> Result<(), GrowError>
         requires { IsSound strides_format (head_and_bounds self.old.head self.old.bounds.items) }
         ensures ok { OnOk result (Took strides_format (head_and_bounds self.old.head self.old.bounds.items) (head_and_bounds self.new.head self.new.bounds.items) (word_row item ∷ [])) }
@@ -130,7 +145,10 @@ impl Strides<Vec<u64>, [u64; 2]> {
         Ok(())
     }
 
-    /// Takes the last offset away: off the bounds, and where there are none off the multiples. Asks that there is one.
+    /// Removes the last offset: from the bounds, or from the multiples if there are no bounds.
+    ///
+    /// # Requires
+    /// A well-formed column with an offset.
     pub fn pop(&mut self)
         requires sound { IsSound strides_format (head_and_bounds self.old.head self.old.bounds.items) }
         requires some { 0 < length (strides_rows (head_and_bounds self.old.head self.old.bounds.items)) }
@@ -142,7 +160,7 @@ impl Strides<Vec<u64>, [u64; 2]> {
         self.truncate(rows - 1);
     }
 
-    /// Takes all offsets away, and the stride.
+    /// Removes all offsets and the stride.
     pub fn clear(&mut self)
         ensures sound { IsSound strides_format (head_and_bounds self.new.head self.new.bounds.items) }
         ensures head { self.new.head ≡ 0 ∷ 0 ∷ [] }
@@ -152,7 +170,10 @@ impl Strides<Vec<u64>, [u64; 2]> {
         self.bounds.clear();
     }
 
-    /// Keeps the first `n` offsets: bounds go first, and then multiples; the stride stays. Asks that there are so many.
+    /// Keeps the first `n` offsets. Removes bounds first, then multiples; the stride stays.
+    ///
+    /// # Requires
+    /// A well-formed column of at least `n` offsets.
     pub fn truncate(&mut self, n: usize)
         requires sound { IsSound strides_format (head_and_bounds self.old.head self.old.bounds.items) }
         requires in_range { n ≤ length (strides_rows (head_and_bounds self.old.head self.old.bounds.items)) }
@@ -170,7 +191,13 @@ impl Strides<Vec<u64>, [u64; 2]> {
         }
     }
 
-    /// Makes room for the bounds of the views; the head and the bounds stay. Want of memory alone refuses it.
+    /// Reserves capacity for the bounds of the views. The head and the bounds stay.
+    ///
+    /// # Requires
+    /// A well-formed column; a finite iterator that can be called.
+    ///
+    /// # Errors
+    /// `Memory`, and no other error.
     pub fn reserve_for<'x, I: Iterator<Item = Strides<View<'x, u64>, View<'x, u64>>> + Drop>(
         &mut self,
         views: I,
@@ -191,7 +218,7 @@ impl Strides<Vec<u64>, [u64; 2]> {
     }
 }
 
-// Is an offset after `length` multiples the next of them, or the first?
+// Returns whether `item` is the next multiple after `length` of them, or the first offset.
 fn follows(stride: u64, length: u64, item: u64) -> bool
     requires { length < 2 ^ 64 - 1 }
     ensures { result ≡ follows stride length item }
@@ -205,7 +232,7 @@ fn follows(stride: u64, length: u64, item: u64) -> bool
     }
 }
 
-// The head with one offset more, which follows.
+// Returns the head with one more offset, which follows the stride.
 fn grown(stride: u64, length: u64, item: u64) -> [u64; 2]
     requires { length < 2 ^ 64 - 1 }
     ensures { result ≡ grown stride length item }
@@ -218,7 +245,7 @@ fn grown(stride: u64, length: u64, item: u64) -> [u64; 2]
 }
 
 impl Clear for Strides<Vec<u64>, [u64; 2]> {
-    /// As `Strides::clear`.
+    /// Removes all offsets, as `Strides::clear`.
     fn clear(&mut self)
         ensures sound { IsSound strides_format (head_and_bounds self.new.head self.new.bounds.items) }
         ensures rows { strides_rows (head_and_bounds self.new.head self.new.bounds.items) ≡ [] }
@@ -232,7 +259,10 @@ impl Clear for Strides<Vec<u64>, [u64; 2]> {
 impl Truncate for Strides<Vec<u64>, [u64; 2]> {
     ghost lawful = { strides_lawful };
 
-    /// As `Strides::truncate`.
+    /// Keeps the first `n` offsets, as `Strides::truncate`.
+    ///
+    /// # Requires
+    /// A well-formed column of at least `n` offsets.
     fn truncate(&mut self, n: usize)
         requires sound { IsSound strides_format (head_and_bounds self.old.head self.old.bounds.items) }
         requires in_range { n ≤ length (strides_rows (head_and_bounds self.old.head self.old.bounds.items)) }
@@ -245,7 +275,7 @@ impl Truncate for Strides<Vec<u64>, [u64; 2]> {
 }
 
 impl Storage for Strides<Vec<u64>, [u64; 2]> {
-    /// No offsets, and no stride yet.
+    /// Returns a column without offsets and without a stride.
     fn empty(alloc: Global) -> Self
         ensures sound { IsSound strides_format (head_and_bounds result.head result.bounds.items) }
         ensures rows { strides_rows (head_and_bounds result.head result.bounds.items) ≡ [] }
@@ -271,7 +301,13 @@ impl Reserve for Strides<Vec<u64>, [u64; 2]> {
         0
     }
 
-    /// Makes room for bounds; the head and the bounds stay.
+    /// Reserves capacity for bounds. The head and the bounds stay.
+    ///
+    /// # Requires
+    /// A well-formed column.
+    ///
+    /// # Errors
+    /// `Memory`, and no other error.
     fn reserve_room(&mut self, room: usize) -> Result<(), GrowError>
         requires { IsSound strides_format (head_and_bounds self.old.head self.old.bounds.items) }
         ensures stayed { Stayed strides_format (head_and_bounds self.old.head self.old.bounds.items) (head_and_bounds self.new.head self.new.bounds.items) }
@@ -285,6 +321,12 @@ impl Reserve for Strides<Vec<u64>, [u64; 2]> {
 }
 
 impl Push<u64> for Strides<Vec<u64>, [u64; 2]> {
+    /// Appends an offset, as `Strides::push`.
+    ///
+    /// # Requires
+    /// A well-formed column.
+    ///
+    /// # Errors
     /// As `Strides::push`.
     fn push(&mut self, item: u64) -> Result<(), GrowError>
         requires sound { IsSound strides_format (head_and_bounds self.old.head self.old.bounds.items) }
@@ -302,6 +344,12 @@ impl Push<u64> for Strides<Vec<u64>, [u64; 2]> {
 }
 
 impl<'x> Push<&'x u64> for Strides<Vec<u64>, [u64; 2]> {
+    /// Appends an offset, as `Strides::push`.
+    ///
+    /// # Requires
+    /// A well-formed column.
+    ///
+    /// # Errors
     /// As `Strides::push`.
     fn push(&mut self, item: &'x u64) -> Result<(), GrowError>
         requires sound { IsSound strides_format (head_and_bounds self.old.head self.old.bounds.items) }
@@ -319,6 +367,12 @@ impl<'x> Push<&'x u64> for Strides<Vec<u64>, [u64; 2]> {
 }
 
 impl PushRef<u64> for Strides<Vec<u64>, [u64; 2]> {
+    /// Appends an offset, as `Strides::push`.
+    ///
+    /// # Requires
+    /// A well-formed column.
+    ///
+    /// # Errors
     /// As `Strides::push`.
     fn push_ref(&mut self, item: &u64) -> Result<(), GrowError>
         requires sound { IsSound strides_format (head_and_bounds self.old.head self.old.bounds.items) }
@@ -340,9 +394,14 @@ impl<'x> ExtendFrom<Strides<View<'x, u64>, View<'x, u64>>> for Strides<Vec<u64>,
         room.saturating_add(view.bounds.size() / 8)
     }
 
-    /// Pushes the offsets of the range in turn, or none of them. Where each of them joins the multiples that takes no
-    /// memory, and Length is answered where there would be more than 2^64 - 1 offsets. After a refusal nothing has
-    /// changed.
+    /// Pushes the offsets of the range in order, or none. If all of them join the multiples, it allocates nothing, and
+    /// returns `Length` if and only if there would be more than 2^64 - 1 offsets.
+    ///
+    /// # Requires
+    /// A well-formed column and view, and a range of the view's rows.
+    ///
+    /// # Errors
+    /// As `ExtendFrom::extend_from_self`. The head and the bounds stay.
     fn extend_from_self(
         &mut self,
         view: Strides<View<'x, u64>, View<'x, u64>>,
@@ -409,7 +468,7 @@ where
     }
 }
 
-// Which rule do a head and bounds break first? What the head claims is reckoned, and not walked.
+// Validates a head and bounds. It computes with the length that the head claims, and does not loop over it.
 fn fault_in<HC: Words, BC: Words>(head: &HC, bounds: &BC, from: usize) -> Result<(), StoreFault>
     requires { from + 2 < 2 ^ 64 }
     ensures { verdict result ≡ first (moved from (strides_broken (both (slice (HC.bytes head.now)) (slice (BC.bytes bounds.now))))) }
@@ -509,7 +568,7 @@ impl ContainerBytes for Strides<Vec<u64>, [u64; 2]> {
     }
 }
 
-// Do the words, from `first` on, never fall, and is the last one `end`? A turn for each.
+// Returns whether the words, from `first` on, never decrease and end at `end`. Takes a step for each word.
 fn rise<BC: Words, L>(bounds: &BC, first: u64, end: u64, tally: &mut Tally<L>) -> bool
     requires { length (BC.bytes bounds.now) % 8 ≡ 0 }
     ensures value { result ≡ rises first (numbers (bounds_rows (slice (BC.bytes bounds.now)))) end }
@@ -543,6 +602,12 @@ impl<BC: Words, HC: Words> Offsets for Strides<BC, HC> {
 }
 
 impl PushAfter for Strides<Vec<u64>, [u64; 2]> {
+    /// Appends an offset, as `Strides::push`.
+    ///
+    /// # Requires
+    /// A well-formed column.
+    ///
+    /// # Errors
     /// As `Strides::push`.
     fn push_after(&mut self, _last: u64, offset: u64) -> Result<(), GrowError>
         requires sound { IsSound strides_format (head_and_bounds self.old.head self.old.bounds.items) }
@@ -560,8 +625,14 @@ impl PushAfter for Strides<Vec<u64>, [u64; 2]> {
 }
 
 impl<W: Offsets> ExtendShifted<W> for Strides<Vec<u64>, [u64; 2]> {
-    /// Pushes the moved offsets in turn, or none of them. Where each of them joins the multiples that takes no memory,
-    /// and Length is answered where there would be more than 2^64 - 1 offsets. After a refusal nothing has changed.
+    /// Pushes the shifted offsets in order, or none. If all of them join the multiples, it allocates nothing, and
+    /// returns `Length` if and only if there would be more than 2^64 - 1 offsets.
+    ///
+    /// # Requires
+    /// As the trait's method.
+    ///
+    /// # Errors
+    /// As the trait's method. The head and the bounds stay.
     fn extend_shifted_tallied<L>(
         &mut self,
         view: &W,

@@ -1,4 +1,4 @@
-//! Numbers as rows that are compared and hashed.
+//! Comparing and hashing numbers as rows.
 ghost use Rattle.std.specs.Prelude.{ℕ, ◌≡◌};
 ghost use Rattle.std.specs.Hash as fed;
 ghost use Rattle.columnar_base.specs.Row.{number_of};

@@ -1,4 +1,4 @@
-//! Truth values, characters, units, durations, references, tuples, options and results as rows that are compared and hashed.
+//! Comparing and hashing booleans, characters, units, durations, references, tuples, options and results as rows.
 ghost use Rattle.std.specs.Prelude.{ℕ, [], ◌++◌, ◌≡◌};
 ghost use Rattle.std.specs.Hash as fed;
 ghost use Rattle.columnar_base.specs.Row.{first_of, second_of};
@@ -175,7 +175,7 @@ impl<A: OrderedRow> OrderedRow for (A,) {
     }
 }
 
-/// Its whole seconds, and then the nanoseconds besides.
+/// Orders by whole seconds, then by the remaining nanoseconds.
 impl OrderedRow for Duration {
     ghost row_input = { λ r. fed.u64 (seconds_of r) ++ fed.u32 (nanos_of r) };
 

@@ -1,5 +1,5 @@
 // Made by .ci/widths.py: change .ci/widths/ordered.template, and not this file.
-//! Tuples of three to ten fields as rows that are compared and hashed.
+//! Comparing and hashing tuples of three to ten fields as rows.
 ghost use Rattle.std.specs.Prelude.{◌++◌};
 ghost use Rattle.columnar_base.specs.Row.{first_of, second_of};
 
@@ -7,7 +7,7 @@ use super::OrderedRow;
 use std::cmp::Ordering;
 use std::hash::Hasher;
 
-/// By the first field in which two differ; a hasher is fed the fields in turn.
+/// Compares by the first unequal field; a hasher receives the fields in order.
 impl<P: OrderedRow, Q: OrderedRow, R: OrderedRow> OrderedRow for (P, Q, R) {
     ghost row_input = { λ r. P.row_input (first_of r) ++ (Q.row_input (first_of (second_of r)) ++ (R.row_input (second_of (second_of r)))) };
 
@@ -28,7 +28,7 @@ impl<P: OrderedRow, Q: OrderedRow, R: OrderedRow> OrderedRow for (P, Q, R) {
     }
 }
 
-/// By the first field in which two differ; a hasher is fed the fields in turn.
+/// Compares by the first unequal field; a hasher receives the fields in order.
 impl<P: OrderedRow, Q: OrderedRow, R: OrderedRow, S: OrderedRow> OrderedRow for (P, Q, R, S) {
     ghost row_input = { λ r. P.row_input (first_of r) ++ (Q.row_input (first_of (second_of r)) ++ (R.row_input (first_of (second_of (second_of r))) ++ (S.row_input (second_of (second_of (second_of r)))))) };
 
@@ -54,7 +54,7 @@ impl<P: OrderedRow, Q: OrderedRow, R: OrderedRow, S: OrderedRow> OrderedRow for 
     }
 }
 
-/// By the first field in which two differ; a hasher is fed the fields in turn.
+/// Compares by the first unequal field; a hasher receives the fields in order.
 impl<P: OrderedRow, Q: OrderedRow, R: OrderedRow, S: OrderedRow, T: OrderedRow> OrderedRow
     for (P, Q, R, S, T) {
     ghost row_input = { λ r. P.row_input (first_of r) ++ (Q.row_input (first_of (second_of r)) ++ (R.row_input (first_of (second_of (second_of r))) ++ (S.row_input (first_of (second_of (second_of (second_of r)))) ++ (T.row_input (second_of (second_of (second_of (second_of r)))))))) };
@@ -84,7 +84,7 @@ impl<P: OrderedRow, Q: OrderedRow, R: OrderedRow, S: OrderedRow, T: OrderedRow> 
     }
 }
 
-/// By the first field in which two differ; a hasher is fed the fields in turn.
+/// Compares by the first unequal field; a hasher receives the fields in order.
 impl<
     P: OrderedRow,
     Q: OrderedRow,
@@ -123,7 +123,7 @@ impl<
     }
 }
 
-/// By the first field in which two differ; a hasher is fed the fields in turn.
+/// Compares by the first unequal field; a hasher receives the fields in order.
 impl<
     P: OrderedRow,
     Q: OrderedRow,
@@ -168,7 +168,7 @@ impl<
     }
 }
 
-/// By the first field in which two differ; a hasher is fed the fields in turn.
+/// Compares by the first unequal field; a hasher receives the fields in order.
 impl<
     P: OrderedRow,
     Q: OrderedRow,
@@ -217,7 +217,7 @@ impl<
     }
 }
 
-/// By the first field in which two differ; a hasher is fed the fields in turn.
+/// Compares by the first unequal field; a hasher receives the fields in order.
 impl<
     P: OrderedRow,
     Q: OrderedRow,
@@ -270,7 +270,7 @@ impl<
     }
 }
 
-/// By the first field in which two differ; a hasher is fed the fields in turn.
+/// Compares by the first unequal field; a hasher receives the fields in order.
 impl<
     P: OrderedRow,
     Q: OrderedRow,

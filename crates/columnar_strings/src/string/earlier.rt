@@ -1,4 +1,4 @@
-//! Strings that are made of an earlier form of their bounds and bytes.
+//! Strings that are built from an earlier form of their bounds and bytes.
 ghost use Rattle.columnar_lists.specs.EarlierListLaws.{earlier_lists};
 
 use super::Strings;
@@ -7,8 +7,8 @@ use columnar_core::earlier::Earlier;
 use columnar_core::offsets::StoredOffsets;
 use std::alloc::Global;
 
-/// The earlier form is that of the strings over those of both parts. Offset is answered only where the bounds' own `from_old`
-/// answers it of bounds that rise, which none of this library's does.
+/// The earlier form is the strings over the parts' earlier forms. `Offset` is returned only if the bounds' own
+/// `from_old` returns it for bounds that never decrease; none in this library does.
 impl<BC: Earlier<Old: StoredOffsets> + Drop, VC: Earlier> Earlier for Strings<BC, VC> {
     type Old = Strings<BC::Old, VC::Old>;
 

@@ -12,7 +12,7 @@ use std::boxed::BoxedStr;
 
 /// An item that is a string: the list of its bytes.
 pub trait Text: Item {
-    /// Its bytes.
+    /// Returns the bytes of the string.
     fn text_bytes(&self) -> &[u8]
         ensures { Self.meaning self.now ≡ text_row result.now };
 }
@@ -59,7 +59,7 @@ impl<'x, T: Text> Text for &'x T {
     }
 }
 
-/// The bytes are copied, all at once.
+/// Copies all bytes at once.
 impl<T: Text + Drop, BC: Offsets + PushAfter, VC: Truncate + PushRef<u8>> Push<T>
     for Strings<BC, VC> {
     #[inline(always)]
@@ -68,7 +68,7 @@ impl<T: Text + Drop, BC: Offsets + PushAfter, VC: Truncate + PushRef<u8>> Push<T
     }
 }
 
-/// The bytes are copied, all at once.
+/// Copies all bytes at once.
 impl<T: Text, BC: Offsets + PushAfter, VC: Truncate + PushRef<u8>> PushRef<T> for Strings<BC, VC> {
     #[inline(always)]
     fn push_ref(&mut self, item: &T) -> Result<(), GrowError> {

@@ -1,4 +1,4 @@
-//! The text that a value shows, as a string.
+//! The displayed text of a value, as a string.
 ghost use Rattle.std.specs.Prelude.{◌≡◌, ◌++◌, IfOk, IfErr, OnOk, IfSome};
 ghost use Rattle.columnar_base.specs.Format.{both, IsSound};
 ghost use Rattle.columnar_strings.specs.Strings.{AddsShown, IsUnshown, RefusesShown, Shows, strings_format};
@@ -11,14 +11,14 @@ use columnar_lists::parts::push_list;
 use std::alloc::Global;
 use std::fmt::{self, Display, Write};
 
-// What a value has shown, and whether memory was refused for it.
+// What a value has displayed, and whether an allocation failed meanwhile.
 #[derive(Drop)]
-struct Shown {
+struct ShownText {
     text: Vec<u8>,
     refused: bool,
 }
 
-impl Write for Shown {
+impl Write for ShownText {
     ghost write_str_gives = { λ s bs t. t.text.items ≡ s.text.items ++ bs };
 
     fn write_str(&mut self, s: &str) -> fmt::Result {
@@ -32,12 +32,13 @@ impl Write for Shown {
     }
 }
 
-// The text that a value shows; Memory where memory was refused for it, and else Format where the value failed.
+// Returns the displayed text of a value. Fails with `Memory` if an allocation failed, otherwise with `Format` if the
+// value failed.
 fn text_of<D: Display>(alloc: Global, value: &D) -> Result<Vec<u8>, GrowError>
     ensures ok { IfOk result (λ v. Shows (D.output value.now) v.items) }
     ensures err { IfErr result IsUnshown }
 {
-    let mut shown = Shown {
+    let mut shown = ShownText {
         text: Vec::new(alloc),
         refused: false,
     };
@@ -52,9 +53,14 @@ fn text_of<D: Display>(alloc: Global, value: &D) -> Result<Vec<u8>, GrowError>
 }
 
 impl<BC: Offsets + PushAfter> Strings<BC, Vec<u8>> {
-    /// Adds the text that the value shows, as one string. It is refused as a push of this text, and by Format where the
-    /// value itself failed; nothing is then left of it, and the rows and the lengths of both parts are as before. Takes
-    /// memory for the text besides.
+    /// Appends the displayed text of `value` as one string. Allocates memory for the text too.
+    ///
+    /// # Requires
+    /// A well-formed column.
+    ///
+    /// # Errors
+    /// `Format` if the value failed to display; otherwise as a push of the text. The rows and the lengths of both parts
+    /// stay.
     pub fn push_display<D: Display>(&mut self, value: &D) -> Result<(), GrowError>
         requires sound { IsSound (strings_format BC.format) (⟦<Strings<BC, Vec<u8>> as Column>⟧.content self.old) }
         ensures ok { OnOk result (AddsShown (strings_format BC.format) (⟦<Strings<BC, Vec<u8>> as Column>⟧.content self.old) (⟦<Strings<BC, Vec<u8>> as Column>⟧.content self.new) (D.output value.now)) }

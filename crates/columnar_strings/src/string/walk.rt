@@ -1,4 +1,4 @@
-//! Strings one after another.
+//! Iterating over strings.
 ghost use Rattle.std.specs.Prelude.{◌≡◌, ⊤, length, Some, IfSome};
 ghost use Rattle.std.specs.Int.{to_le_bytes, w8};
 ghost use Rattle.columnar_base.specs.Format.{both, IsSound};
@@ -13,7 +13,7 @@ use columnar_core::offsets::Offsets;
 use columnar_core::vector::elements_between;
 use columnar_lists::walk::Ranges;
 
-/// Gives strings in their order, each as its bytes where they stand; each is found from where the one before it ends.
+/// Iterates over strings in order, each as its bytes in place. It finds each string from the end of the one before.
 #[derive(Drop)]
 pub struct StringIter<'a, W: Column> {
     values: &'a [u8],
@@ -26,7 +26,7 @@ pub struct StringIter<'a, W: Column> {
 impl<'a, W: Offsets> StringIter<'a, W> {
     ghost use Rattle.columnar_strings.specs.StringWalks.{strings_left};
 
-    // All strings of a column.
+    // Iterates over all strings of a column.
     fn new(bounds: W, values: &'a [u8]) -> Self
         requires { IsSound (strings_format W.format) (both (W.content bounds) (elements (to_le_bytes w8) values.now)) }
         ensures { strings_left result ≡ (strings_format W.format).rows (both (W.content bounds) (elements (to_le_bytes w8) values.now)) }
@@ -52,7 +52,7 @@ impl<'a, W: Offsets + Drop> Iterator for StringIter<'a, W> {
 
     ghost remaining = { item_count strings_left };
 
-    /// The next string; `None` once all were given, and from then on.
+    /// Returns the next string, or `None` after the last one, at every further call.
     fn next(&mut self) -> Option<&'a [u8]> {
         let Some((lower, upper)) = self.ranges.next(&self.bounds) else {
             return None;
@@ -60,7 +60,7 @@ impl<'a, W: Offsets + Drop> Iterator for StringIter<'a, W> {
         Some(elements_between(self.values, lower, upper))
     }
 
-    /// How many are left, twice.
+    /// Returns the number of remaining strings as both bounds.
     fn size_hint(&self) -> (usize, Option<usize>)
         ensures lower { IsWithinCount result.0 (item_count strings_left self.now) }
         ensures upper { IfSome result.1 (UpTo (item_count strings_left self.now)) }
@@ -72,7 +72,7 @@ impl<'a, W: Offsets + Drop> Iterator for StringIter<'a, W> {
 }
 
 impl<'a, W: Offsets + Drop> ExactSizeIterator for StringIter<'a, W> {
-    /// How many are left.
+    /// Returns the number of remaining strings.
     fn len(&self) -> usize {
         self.ranges.left()
     }
@@ -81,7 +81,10 @@ impl<'a, W: Offsets + Drop> ExactSizeIterator for StringIter<'a, W> {
 impl<'a, BC: Offsets> Strings<BC, &'a [u8]> {
     ghost use Rattle.columnar_strings.specs.StringWalks.{strings_left};
 
-    /// The strings in their order, read through a reference.
+    /// Iterates over the strings in order, through a reference.
+    ///
+    /// # Requires
+    /// A well-formed column.
     pub fn index_iter<'x>(&'x self) -> StringIter<'a, &'x BC>
         requires { IsSound (strings_format BC.format) (⟦<Strings<BC, &'a [u8]> as Column>⟧.content self.now) }
         ensures { strings_left result ≡ (strings_format BC.format).rows (⟦<Strings<BC, &'a [u8]> as Column>⟧.content self.now) }
@@ -89,7 +92,10 @@ impl<'a, BC: Offsets> Strings<BC, &'a [u8]> {
         StringIter::new(&self.bounds, self.values)
     }
 
-    /// The strings in their order.
+    /// Iterates over the strings in order.
+    ///
+    /// # Requires
+    /// A well-formed column.
     pub fn into_index_iter(self) -> StringIter<'a, BC>
         requires { IsSound (strings_format BC.format) (⟦<Strings<BC, &'a [u8]> as Column>⟧.content self) }
         ensures { strings_left result ≡ (strings_format BC.format).rows (⟦<Strings<BC, &'a [u8]> as Column>⟧.content self.entry) }
@@ -102,7 +108,10 @@ impl<'a, BC: Offsets> Strings<BC, &'a [u8]> {
 impl<BC: Offsets> Strings<BC, Vec<u8>> {
     ghost use Rattle.columnar_strings.specs.StringWalks.{strings_left};
 
-    /// The strings in their order, read through a reference.
+    /// Iterates over the strings in order, through a reference.
+    ///
+    /// # Requires
+    /// A well-formed column.
     pub fn index_iter<'x>(&'x self) -> StringIter<'x, &'x BC>
         requires { IsSound (strings_format BC.format) (⟦<Strings<BC, Vec<u8>> as Column>⟧.content self.now) }
         ensures { strings_left result ≡ (strings_format BC.format).rows (⟦<Strings<BC, Vec<u8>> as Column>⟧.content self.now) }

@@ -1,4 +1,4 @@
-//! Columns of variants in slices of bytes.
+//! The slices of columns of variants, and their validation.
 ghost use Rattle.std.specs.Prelude.{◌≡◌, ◌+◌, ◌-◌, ◌*◌, ◌^◌, ◌<◌, ◌≤◌, ◌&&◌, [], length, refl, slice_index, slice_set};
 ghost use Rattle.columnar_sums.specs.Agree.{numbers_eq};
 ghost use Rattle.columnar_core.specs.Format.{slice, both, first, moved};
@@ -18,7 +18,7 @@ use columnar_core::view::View;
 use columnar_core::words::{Words, byte_count, word_at, word_count};
 use std::alloc::Global;
 
-// Variant number `index`.
+// Reads variant `index`.
 pub(super) fn variant_at(variants: &[u8], index: usize) -> u8
     requires { index < length variants.now }
     ensures { result ≡ slice_index variants.now index }
@@ -26,14 +26,14 @@ pub(super) fn variant_at(variants: &[u8], index: usize) -> u8
     variants[index]
 }
 
-// How many rows of a variant were counted.
+// Reads how many rows of a variant were counted so far.
 fn count_of(counts: &[u64; 256], variant: u8) -> u64
     ensures { result ≡ slice_index counts.now variant }
 {
     counts[variant as usize]
 }
 
-// Of a variant, `before` rows were counted, and now one more was.
+// Counts one more row of a variant that had `before` rows.
 fn count_one(counts: &mut [u64; 256], variant: u8, before: u64)
     requires { before < 2 ^ 64 - 1 }
     ensures { counts.new ≡ slice_set counts.old variant (before + 1) }
@@ -41,14 +41,15 @@ fn count_one(counts: &mut [u64; 256], variant: u8, before: u64)
     counts[variant as usize] = before + 1;
 }
 
-// Do one more than a variant and a number of rows stand for all rows?
+// Tests whether two words describe all rows: a variant plus one, and a number of rows.
 fn is_common(tag: u64, count: u64) -> bool
     ensures { result ≡ is_common tag count }
 {
     tag >= 1 && tag <= 256 && count >= 1
 }
 
-// Has each row the number of earlier rows of its variant, and are there two different variants? A turn for each row.
+// Tests that each offset is the number of earlier rows of its variant, and that two variants differ. Takes one step for
+// each row.
 fn are_numbered<L>(variants: &[u8], offsets: View<'_, u64>, tally: &mut Tally<L>) -> bool
     requires some { 0 < length variants.now }
     requires level { length variants.now ≡ length (view_words offsets) }
@@ -64,13 +65,13 @@ fn are_numbered<L>(variants: &[u8], offsets: View<'_, u64>, tally: &mut Tally<L>
         if offset != count_of(&counts, variant) {
             return false;
         }
-        // The count is set by the word that was read, so that no row waits for the count of the one before it.
+        // The new count is computed from the word just read, so no row waits for the previous row's count.
         count_one(&mut counts, variant, offset);
     }
     count_of(&counts, variant_at(variants, 0)) < rows as u64
 }
 
-// Have variants and offsets one of the three forms? At most a turn for each variant.
+// Tests whether variants and offsets have one of the three forms. Takes at most one step for each variant.
 fn have_form<L>(variants: &[u8], offsets: View<'_, u64>, tally: &mut Tally<L>) -> bool
     ensures value { result ≡ has_form variants.now (view_words offsets.entry) }
     ensures turns { tally.new.turns ≤ tally.old.turns + length variants.now }
@@ -83,7 +84,7 @@ fn have_form<L>(variants: &[u8], offsets: View<'_, u64>, tally: &mut Tally<L>) -
     words == 0 || words == 2 && is_common(word_at(offsets, 0), word_at(offsets, 1))
 }
 
-// Which rule do variants and offsets break first? Slices are counted from `from` on.
+// Returns the first broken rule, with slices numbered from `from`.
 fn judged_forms<L>(
     variants: &[u8],
     offsets: View<'_, u64>,
@@ -161,7 +162,7 @@ impl<'s> AsBytes<'s> for Discriminant<&'s [u8], View<'s, u64>> {
     }
 }
 
-/// Where memory is refused for the offsets, the variants, already loaded, are dropped.
+/// If the allocation for the offsets fails, the variants already copied are dropped.
 impl ContainerBytes for Discriminant<Vec<u8>, Vec<u64>> {
     fn byte_slice(&self, index: usize) -> ByteSlice<'_> {
         if index == 0 {

@@ -1,4 +1,4 @@
-//! Columns of variants that grow and are cut.
+//! Growth and truncation of columns of variants.
 ghost use Rattle.std.specs.Prelude.{◌≡◌, ℕ, ◌+◌, ◌-◌, ◌^◌, ◌<◌, ◌≤◌, [], ◌∷◌, ◌++◌, length, take, replicate, Err, Some, IfSome, IsOk, OnOk, OnErr, IfErr, refl};
 ghost use Rattle.std.specs.Int.{w8};
 ghost use Rattle.std.specs.List.{range_with_len};
@@ -21,7 +21,7 @@ use columnar_core::view::View;
 use columnar_core::words::Words;
 use std::alloc::Global;
 
-// Appends a variant and an offset; both or neither. Where the variants have room, that is a few instructions.
+// Appends a variant and an offset, or neither. Takes a few instructions if there is spare capacity.
 #[inline(always)]
 fn push_both(
     variants: &mut Vec<u8>,
@@ -43,7 +43,7 @@ fn push_both(
     Ok(())
 }
 
-// As `push_both`, of variants that have no room; apart, so that the push of any other is small.
+// Does the same as `push_both` without spare capacity. It is a function of its own to keep the common push small.
 #[cold]
 #[inline(never)]
 fn grow_both(
@@ -88,7 +88,7 @@ fn count_up(offsets: &mut Vec<u64>, end: u64) -> Result<(), GrowError>
     Ok(())
 }
 
-// Appends `count` rows of a variant, and one of another; or some of that.
+// Appends `count` rows of one variant and then one row of another. An error may leave some of them.
 fn append_rows(
     variants: &mut Vec<u8>,
     offsets: &mut Vec<u64>,
@@ -108,9 +108,13 @@ fn append_rows(
 }
 
 impl Discriminant<Vec<u8>, Vec<u64>> {
-    /// Adds a row of a variant. Asks that `offset` is the number of earlier rows of it. A row of the variant of all
-    /// others takes no memory. It answers Length exactly where there are 2^64 - 1 rows. After a refusal nothing has
-    /// changed.
+    /// Appends a row of a variant. Allocates nothing if all earlier rows have the same variant.
+    ///
+    /// # Errors
+    /// `Length` if and only if there are already 2^64 - 1 rows; `Memory` if an allocation fails. Nothing changes.
+    ///
+    /// # Requires
+    /// The column is well-formed, and `offset` is the number of earlier rows of `variant`.
     #[inline(always)]
     pub fn push(&mut self, variant: u8, offset: u64) -> Result<(), GrowError>
         requires sound { IsSound discriminant_format (owned_forms self.old.variant.items self.old.offset.items) }
@@ -142,7 +146,8 @@ impl Discriminant<Vec<u8>, Vec<u64>> {
         Ok(())
     }
 
-    // Writes out all rows, which are of one variant, and adds one of another; apart, so that a push is a few instructions.
+    // Writes out `count` rows of the one variant and appends a row of another. It is a function of its own to keep the
+    // common push small.
     #[cold]
     #[inline(never)]
     fn mix(&mut self, kind: u8, count: usize, variant: u8) -> Result<(), GrowError>
@@ -168,7 +173,7 @@ impl Discriminant<Vec<u8>, Vec<u64>> {
         }
     }
 
-    // The room, and what the slices of the view take besides
+    // Adds the lengths of the view's slices to the room.
     fn add_room(room: (usize, usize), view: Discriminant<&[u8], View<'_, u64>>) -> (usize, usize) {
         (
             room.0.saturating_add(view.variant.len()),
@@ -176,7 +181,13 @@ impl Discriminant<Vec<u8>, Vec<u64>> {
         )
     }
 
-    /// Makes room for the rows of the views; the rows stay.
+    /// Reserves space for the rows of all views. The rows stay the same.
+    ///
+    /// # Errors
+    /// `Memory` if the allocation fails.
+    ///
+    /// # Requires
+    /// The column is well-formed, and the iterator is finite.
     pub fn reserve_for<'x, I: Iterator<Item = Discriminant<&'x [u8], View<'x, u64>>> + Drop>(
         &mut self,
         views: I,
@@ -198,7 +209,7 @@ impl Discriminant<Vec<u8>, Vec<u64>> {
 }
 
 impl Clear for Discriminant<Vec<u8>, Vec<u64>> {
-    /// Takes all rows away, and both slices are empty. Needs no memory.
+    /// Removes all rows and empties both slices. Allocates nothing.
     fn clear(&mut self)
         ensures sound { IsSound discriminant_format (owned_forms self.new.variant.items self.new.offset.items) }
         ensures rows { discriminant_format.rows (owned_forms self.new.variant.items self.new.offset.items) ≡ [] }
@@ -214,8 +225,11 @@ impl Clear for Discriminant<Vec<u8>, Vec<u64>> {
 impl Truncate for Discriminant<Vec<u8>, Vec<u64>> {
     ghost lawful = { discriminant_lawful };
 
-    /// Keeps the first `n` rows; where these are of one variant, that and their number are left, and nothing where
-    /// there are none. Needs no memory.
+    /// Keeps the first `n` rows. If they have one variant, only that variant and `n` remain stored; if `n` is 0,
+    /// nothing. Allocates nothing.
+    ///
+    /// # Requires
+    /// The column is well-formed, and `n` is at most its length.
     fn truncate(&mut self, n: usize)
         requires sound { IsSound discriminant_format (owned_forms self.old.variant.items self.old.offset.items) }
         requires in_range { n ≤ length (discriminant_format.rows (owned_forms self.old.variant.items self.old.offset.items)) }
@@ -229,7 +243,7 @@ impl Truncate for Discriminant<Vec<u8>, Vec<u64>> {
         } else if Vec::len(&self.variant) == 0 {
             self.offset[1] = n as u64;
         } else if self.offset.word(n - 1) == n as u64 - 1 {
-            // All rows before the last of them are of its variant.
+            // All rows before the last one have the last one's variant.
             self.offset[0] = variant_at(self.variant.as_slice(), n - 1) as u64 + 1;
             self.offset[1] = n as u64;
             self.offset.truncate(2);
@@ -242,7 +256,7 @@ impl Truncate for Discriminant<Vec<u8>, Vec<u64>> {
 }
 
 impl Storage for Discriminant<Vec<u8>, Vec<u64>> {
-    /// A column without rows, whose slices are empty.
+    /// Creates a column without rows, whose slices are empty.
     fn empty(alloc: Global) -> Self
         ensures sound { IsSound discriminant_format (owned_forms result.variant.items result.offset.items) }
         ensures rows { discriminant_format.rows (owned_forms result.variant.items result.offset.items) ≡ [] }
@@ -270,7 +284,10 @@ impl Reserve for Discriminant<Vec<u8>, Vec<u64>> {
         (0, 0)
     }
 
-    /// Makes room; the rows stay.
+    /// Reserves space. The rows stay the same.
+    ///
+    /// # Requires
+    /// The column is well-formed.
     fn reserve_room(&mut self, room: (usize, usize)) -> Result<(), GrowError>
         requires { IsSound discriminant_format (owned_forms self.old.variant.items self.old.offset.items) }
         ensures stayed { Stayed discriminant_format (owned_forms self.old.variant.items self.old.offset.items) (owned_forms self.new.variant.items self.new.offset.items) }

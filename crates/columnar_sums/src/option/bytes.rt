@@ -1,4 +1,4 @@
-//! Columns of rows that may be absent, in slices of bytes.
+//! The slices of columns of options, and their validation.
 ghost use Rattle.std.specs.Prelude.{refl};
 ghost use Rattle.columnar_core.specs.Format.{slices_of};
 ghost use Rattle.columnar_core.specs.TwoPartsLaws.{two_counted};
@@ -23,8 +23,8 @@ use std::alloc::Global;
 
 type Held = RankSelect<Vec<u64>, Vec<u64>, [u64; 2]>;
 
-/// The rules of the bits and their counts, then those of the values, then that there are as many values as set bits:
-/// `Parts`, at the first slice.
+/// Checks the rules of the bits and their counts, then those of the values, then that there are as many values as set
+/// bits. The last rule is reported as `Parts`, at the first slice.
 impl<TC: Stored, CC: Words, VC: Words, WC: Words> Stored for Options<TC, CC, VC, WC> {
     ghost storable = { options_storable TC.format TC.storable };
 
@@ -86,7 +86,7 @@ impl<'s, TC: AsBytes<'s>> AsBytes<'s> for Options<TC, View<'s, u64>, View<'s, u6
     }
 }
 
-/// Where memory is refused for the values, the bits, already loaded, are dropped.
+/// If an allocation for the values fails, the bits already copied are dropped.
 impl<TC: ContainerBytes> ContainerBytes for Options<TC, Vec<u64>, Vec<u64>, [u64; 2]> {
     fn byte_slice(&self, index: usize) -> ByteSlice<'_> {
         byte_slice_of_two(&self.indexes, &self.somes, index)

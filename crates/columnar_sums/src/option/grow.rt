@@ -1,4 +1,4 @@
-//! Columns of rows that may be absent, as they grow and are cut.
+//! Growth and truncation of columns of options.
 ghost use Rattle.columnar_sums.specs.OptionLaws.{options_lawful, same_options};
 
 use super::Options;
@@ -8,7 +8,7 @@ use columnar_core::container::{
     Borrow, Container, ExtendFrom, Reborrow, Reserve, Storage, Truncate,
 };
 use columnar_core::fault::GrowError;
-use columnar_core::traits::{Clear, Index, Item, Len, Push, PushRef};
+use columnar_core::traits::{Clear, Column, Item, Len, Push, PushRef};
 use columnar_core::view::View;
 use std::alloc::Global;
 use std::ops::Range;
@@ -61,7 +61,7 @@ impl<TC: Reserve> Reserve for Options<TC, Vec<u64>, Vec<u64>, [u64; 2]> {
     }
 }
 
-/// A value is pushed first, and then its bit; where the bit is refused, the value is taken back.
+/// The value is pushed first, then its bit. If the push of the bit fails, the value is removed again.
 impl<T: Item, TC: Truncate + Push<T>> Push<Option<T>>
     for Options<TC, Vec<u64>, Vec<u64>, [u64; 2]> {
     #[inline(always)]
@@ -73,7 +73,7 @@ impl<T: Item, TC: Truncate + Push<T>> Push<Option<T>>
     }
 }
 
-/// The value of the item is pushed by reference.
+/// The item's value is pushed by reference.
 impl<'x, T: Item, TC: Truncate + PushRef<T>> Push<&'x Option<T>>
     for Options<TC, Vec<u64>, Vec<u64>, [u64; 2]> {
     #[inline(always)]
@@ -93,9 +93,9 @@ impl<T: Item, TC: Truncate + PushRef<T>> PushRef<Option<T>>
     }
 }
 
-/// The values of the range are those between the ranks of its ends; they are copied first, and then the bits. Where one
-/// of the parts refuses, neither has taken any row.
-impl<'x, V: Index + Copy, TC: ExtendFrom<V>> ExtendFrom<
+/// The values of the range lie between the ranks of its ends. They are copied first, then the bits. If either copy
+/// fails, both columns keep their old rows.
+impl<'x, V: Column + Copy, TC: ExtendFrom<V>> ExtendFrom<
     Options<V, View<'x, u64>, View<'x, u64>, View<'x, u64>>,
 > for Options<TC, Vec<u64>, Vec<u64>, [u64; 2]> {
     fn add_room(

@@ -1,4 +1,4 @@
-//! Columns of bits and counts in slices of bytes.
+//! The slices of bit vectors with counts, and their validation.
 ghost use Rattle.std.specs.Prelude.{◌≡◌, ◌+◌, ◌-◌, ◌*◌, ◌^◌, ◌<◌, ◌≤◌, length, refl, true, false, drop};
 ghost use Rattle.columnar_sums.specs.Agree.{numbers_eq};
 ghost use Rattle.columnar_core.specs.Format.{slice, both, first, moved, Fits};
@@ -23,8 +23,8 @@ use columnar_core::view::View;
 use columnar_core::words::{Words, byte_count, word_at, word_count};
 use std::alloc::Global;
 
-// Are there just the counts of the bits? A turn for each chunk and each of its words. Of the tail no word is read: it stands in
-// what is asked and told alone, since its bits have no count.
+// Tests that the counts are those of the bits. Takes one step for each chunk and for each of its words. It reads no
+// word of the tail, whose bits have no count; the tail occurs only in the contract.
 fn counts_right<L>(
     counts: View<'_, u64>,
     values: View<'_, u64>,
@@ -53,7 +53,7 @@ fn counts_right<L>(
     true
 }
 
-// Which rule do the counts, the words and the tail break first? Slices are counted from `from` on.
+// Returns the first broken rule of the counts, the words and the tail, with slices numbered from `from`.
 fn judged_ranks<L>(
     counts: View<'_, u64>,
     values: View<'_, u64>,
@@ -75,7 +75,7 @@ fn judged_ranks<L>(
     Ok(())
 }
 
-// How many bits are set in slices that were accepted; what it reads is added to the tally, as of a rank.
+// Counts the set bits in slices that were accepted, and adds what it reads to the tally: no more than a rank.
 pub(crate) fn trues_in<L>(store: &DecodedStore<'_>, offset: usize, tally: &mut Tally<L>) -> usize
     requires { Fits ranks_format offset (slices_in store.now) }
     ensures value { result ≡ ones (ranks_bits (ranks_format.build (drop offset (slices_in store.now)))) (length (ranks_bits (ranks_format.build (drop offset (slices_in store.now))))) }
@@ -151,7 +151,7 @@ impl<'s> AsBytes<'s> for RankSelect<View<'s, u64>, View<'s, u64>, View<'s, u64>>
     }
 }
 
-/// Where memory is refused for the bits, the counts, already loaded, are dropped.
+/// If an allocation for the bits fails, the counts already copied are dropped.
 impl ContainerBytes for RankSelect<Vec<u64>, Vec<u64>, [u64; 2]> {
     fn byte_slice(&self, index: usize) -> ByteSlice<'_> {
         byte_slice_of_two(&self.counts, &self.values, index)

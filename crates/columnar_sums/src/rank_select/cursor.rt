@@ -1,9 +1,10 @@
-//! A cursor that goes forward over bits, and keeps the word in which it stands.
+//! A forward cursor over bits, which caches its current word.
 ghost use Rattle.std.specs.Prelude.{◌≡◌, ℕ, ◌+◌, ◌-◌, ◌*◌, ◌/◌, ◌%◌, ◌<◌, ◌≤◌, ◌^◌, ◌↔◌, [], ◌∷◌, ◌++◌, length, max, min, slice_index_or, true, false, IsTrue, IfSome, IfNone, MatchOption};
 ghost use Rattle.std.specs.List.{range_with_len};
 ghost use Rattle.columnar_core.specs.WordViews.{words_in};
 ghost use Rattle.columnar_bits.specs.Bits.{bit as bit_of, bit_in};
-ghost use Rattle.columnar_sums.specs.Counting.{ones, ones_below, place, Adds, digits};
+ghost use Rattle.columnar_base.specs.Digits.{digits};
+ghost use Rattle.columnar_sums.specs.Counting.{ones, ones_below, place, Adds};
 ghost use Rattle.columnar_sums.specs.RankColumns.{bits_ranked, IsRanked, IsAt, AreClear, IsNextTrue, AreFalseFrom, Standing};
 
 use super::RankSelect;
@@ -14,7 +15,7 @@ use columnar_core::traits::Len;
 use columnar_core::words::Words;
 use std::marker::Model;
 
-// The number of the word in which a cursor stands, what of the word is left, and the place of the next bit.
+// The number of the current word, its bits that are left, and the position of the next bit.
 #[derive(Clone, Copy)]
 struct Place {
     index: usize,
@@ -22,8 +23,7 @@ struct Place {
     pos: usize,
 }
 
-// The next set bit. It loads the words after the one in which it stood, one after another, up to the one in which it
-// then stands.
+// Finds the next set bit. Loads the following words in order, up to the word that has it.
 #[tactic(auto, using(crate::specs::PlaceLaws::move_on, crate::specs::PlaceLaws::after_found, crate::specs::PlaceLaws::lowest, crate::specs::PlaceLaws::none_here, crate::specs::PlaceLaws::stays, crate::specs::PlaceLaws::load_more, crate::specs::PlaceLaws::load_none))]
 fn next_in<L>(words: &MeteredWords<'_, L>, place: &mut Place, tally: &mut Tally<L>) -> Option<usize>
     requires at { IsAt words.now place.old.index place.old.rest place.old.pos }
@@ -32,6 +32,7 @@ fn next_in<L>(words: &MeteredWords<'_, L>, place: &mut Place, tally: &mut Tally<
     ensures at { IsAt words.now place.new.index place.new.rest place.new.pos }
     ensures found { IfSome result (λ q. (q < 64 * length words.now) × (place.old.pos ≤ q) × (bit_in words.now q ≡ true) × AreClear words.now place.old.pos q × (place.new.pos ≡ q + 1)) }
     ensures none { IfNone result (AreClear words.now place.old.pos (64 * length words.now) × (place.new.pos ≡ max place.old.pos (64 * (length words.now - 1)))) }
+    ensures word { IfSome result (λ q. place.new.index ≡ q / 64) }
     ensures floor { 64 * place.new.index ≤ place.new.pos }
     ensures forward { place.old.index ≤ place.new.index }
     ensures loads { tally.new.words ≡ tally.old.words ++ range_with_len (place.old.index + 1) (place.new.index - place.old.index) }
@@ -54,7 +55,7 @@ fn next_in<L>(words: &MeteredWords<'_, L>, place: &mut Place, tally: &mut Tally<
     Some(found)
 }
 
-// The next bit. It loads the next word where the one in which it stood is spent.
+// Returns the next bit. Loads the next word if the current one is used up.
 #[tactic(auto, using(crate::specs::PlaceLaws::load_more, crate::specs::PlaceLaws::load_none))]
 fn step_in<L>(words: &MeteredWords<'_, L>, place: &mut Place, tally: &mut Tally<L>) -> bool
     requires at { IsAt words.now place.old.index place.old.rest place.old.pos }
@@ -81,7 +82,7 @@ fn step_in<L>(words: &MeteredWords<'_, L>, place: &mut Place, tally: &mut Tally<
     }
 }
 
-// The bit at the place, which stands in its word; nothing is read.
+// Returns the bit at the position, which is in the current word. Reads nothing.
 fn take_bit<L>(words: &MeteredWords<'_, L>, place: &mut Place) -> bool
     requires at { IsAt words.now place.old.index place.old.rest place.old.pos }
     requires floor { 64 * place.old.index ≤ place.old.pos }
@@ -99,7 +100,7 @@ fn take_bit<L>(words: &MeteredWords<'_, L>, place: &mut Place) -> bool
     bit
 }
 
-// The word with its lowest `count` bits cleared.
+// Returns the word with its lowest `count` bits cleared.
 fn cleared_below(word: u64, count: u64) -> u64
     requires { count < 64 }
     ensures low { (j : ℕ) → j < count → bit_of result j ≡ false }
@@ -108,7 +109,7 @@ fn cleared_below(word: u64, count: u64) -> u64
     (word >> count) << count
 }
 
-// Goes forward to `end` in the word in which it stands, and answers how many set bits it passed; nothing is read.
+// Moves forward to `end` in the current word, and returns how many set bits it passed. Reads nothing.
 fn skip_in<L>(words: &MeteredWords<'_, L>, place: &mut Place, end: usize) -> u64
     requires at { IsAt words.now place.old.index place.old.rest place.old.pos }
     requires floor { 64 * place.old.index ≤ place.old.pos }
@@ -126,7 +127,7 @@ fn skip_in<L>(words: &MeteredWords<'_, L>, place: &mut Place, end: usize) -> u64
     passed
 }
 
-// The place `end`, with its word loaded.
+// Returns the place of bit `end`, with its word loaded.
 fn place_at<L>(words: &MeteredWords<'_, L>, end: usize, tally: &mut Tally<L>) -> Place
     requires { end / 64 < length words.now }
     ensures at { IsAt words.now result.index result.rest result.pos }
@@ -146,22 +147,25 @@ fn place_at<L>(words: &MeteredWords<'_, L>, end: usize, tally: &mut Tally<L>) ->
 }
 
 impl<CC: Words, VC: Words, WC: Words> RankSelect<CC, VC, WC> {
-    // The first set bit from bit `from` on. It loads the words from that of `from` on, up to that of the bit.
-    pub(crate) fn next_true(&self, from: usize) -> Option<usize>
+    // Returns the first set bit from bit `from` on, and adds to the tally the words that it loads: in order, from that of
+    // `from` up to that of the bit, with a step from each to the next.
+    pub(crate) fn next_true_tallied<L>(&self, from: usize, tally: &mut Tally<L>) -> Option<usize>
         requires ranked { IsRanked CC.bytes VC.bytes WC.bytes self.now }
         requires in_range { from ≤ length (bits_ranked VC.bytes WC.bytes self.now) }
         ensures found { IfSome result (λ q. (q < length (bits_ranked VC.bytes WC.bytes self.now)) × IsNextTrue (bits_ranked VC.bytes WC.bytes self.now) from q) }
         ensures none { IfNone result (AreFalseFrom (bits_ranked VC.bytes WC.bytes self.now) from) }
+        ensures loads { IfSome result (λ q. tally.new.words ≡ tally.old.words ++ from / 64 ∷ [] ++ range_with_len (from / 64 + 1) (q / 64 - from / 64)) }
+        ensures counts { tally.new.counts ≡ tally.old.counts }
+        ensures turns { IfSome result (λ q. tally.new.turns + from / 64 ≡ tally.old.turns + q / 64) }
     {
-        let tally = &mut Tally::new();
         let words = self.metered_words();
         let mut place = place_at(&words, from, tally);
         next_in(&words, &mut place, tally)
     }
 }
 
-/// A place among the bits of a column, which goes forward alone. It keeps the word in which it stands and the number
-/// of set bits before it. The place is a bit of that word, or the word's end.
+/// A position among the bits of a column that only moves forward. It caches the current word and the number of set bits
+/// before the position. The position is a bit of that word, or the word's end.
 #[derive(Drop)]
 pub struct Cursor<'a, CC: Words, VC: Words, WC: Words> {
     column: &'a RankSelect<CC, VC, WC>,
@@ -183,7 +187,7 @@ impl<'a, CC: Words, VC: Words, WC: Words> Model for Cursor<'a, CC, VC, WC> {
 }
 
 impl<'a, CC: Words, VC: Words, WC: Words> Cursor<'a, CC, VC, WC> {
-    // Before the first bit, with word 0 loaded.
+    // Creates a cursor before the first bit, with word 0 loaded.
     pub(crate) fn new<L>(
         column: &'a RankSelect<CC, VC, WC>,
         tally: &mut Tally<L>,
@@ -202,7 +206,7 @@ impl<'a, CC: Words, VC: Words, WC: Words> Cursor<'a, CC, VC, WC> {
         }
     }
 
-    /// The place of the next bit to look at, or the end. It never goes back.
+    /// Returns the position of the next bit, or the number of bits at the end. It never decreases.
     pub fn pos(&self) -> usize
         ensures value { result ≡ self.now.pos }
         ensures inside { result ≤ length self.now.bits }
@@ -210,21 +214,21 @@ impl<'a, CC: Words, VC: Words, WC: Words> Cursor<'a, CC, VC, WC> {
         self.place.pos
     }
 
-    /// How many bits before it are set.
+    /// Counts the set bits before the position.
     pub fn rank(&self) -> u64
         ensures { result ≡ ones self.now.bits self.now.pos }
     {
         self.rank
     }
 
-    // The same, for a body that counts what it reads: a number that the cursor keeps.
+    // Returns the same number as `rank`, for functions that count their reads: the cursor stores it.
     pub(crate) fn trues_before(&self) -> u64
         ensures { result ≡ ones self.now.bits self.now.pos }
     {
         self.rank
     }
 
-    /// How many bits there are.
+    /// Returns the number of bits.
     pub fn total_bits(&self) -> usize
         ensures { result ≡ length self.now.bits }
     {
@@ -232,8 +236,8 @@ impl<'a, CC: Words, VC: Words, WC: Words> Cursor<'a, CC, VC, WC> {
         column.len()
     }
 
-    /// As `next_one`; the words that it loads are added to the tally. They come one after another, from the one after
-    /// that in which it stood up to the one in which it then stands, each in a turn.
+    /// Does the same as `next_one`, and adds the words it loads to the tally. It loads the words after the current one
+    /// in order, one in each step, up to the word in which it stops.
     pub fn next_one_tallied<L>(&mut self, tally: &mut Tally<L>) -> Option<usize>
         ensures bits { (self.new.bits ≡ self.old.bits) × (self.new.counts ≡ self.old.counts) }
         ensures onward { self.old.pos ≤ self.new.pos }
@@ -259,8 +263,8 @@ impl<'a, CC: Words, VC: Words, WC: Words> Cursor<'a, CC, VC, WC> {
         }
     }
 
-    /// As `step`; a word that it loads is added to the tally: it is the one after that in which it stood, and it loads no
-    /// other.
+    /// Does the same as `step`, and adds the word it loads to the tally. It loads at most the word after the current
+    /// one.
     pub fn step_tallied<L>(&mut self, tally: &mut Tally<L>) -> Option<bool>
         ensures bits { (self.new.bits ≡ self.old.bits) × (self.new.counts ≡ self.old.counts) }
         ensures onward { self.old.pos ≤ self.new.pos }
@@ -284,8 +288,11 @@ impl<'a, CC: Words, VC: Words, WC: Words> Cursor<'a, CC, VC, WC> {
         Some(bit)
     }
 
-    /// As `seek_to_pos`; what it reads is added to the tally: at most one count and 17 words, in at most 16 turns, and
-    /// nothing where it stays in the word in which it stood.
+    /// Does the same as `seek_to_pos`, and adds what it reads to the tally: at most one count and 17 words in at most
+    /// 16 steps, and nothing if it stays in the current word.
+    ///
+    /// # Requires
+    /// As `seek_to_pos`.
     pub fn seek_to_pos_tallied<L>(&mut self, target: usize, tally: &mut Tally<L>) -> bool
         requires { self.old.pos ≤ target }
         ensures bits { (self.new.bits ≡ self.old.bits) × (self.new.counts ≡ self.old.counts) }
@@ -312,8 +319,11 @@ impl<'a, CC: Words, VC: Words, WC: Words> Cursor<'a, CC, VC, WC> {
         target < len
     }
 
-    /// As `seek_to_rank`; what it reads is added to the tally: at most 33 words, and two counts more than the number of
-    /// counts has binary digits. So are its turns: at most 35 more than that number has digits.
+    /// Does the same as `seek_to_rank`, and adds what it reads to the tally: at most 33 words, and two counts more than
+    /// the number of counts has binary digits. Takes at most 35 more steps than that number has digits.
+    ///
+    /// # Requires
+    /// As `seek_to_rank`.
     pub fn seek_to_rank_tallied<L>(&mut self, rank: u64, tally: &mut Tally<L>) -> Option<usize>
         requires { ones self.old.bits self.old.pos ≤ rank }
         ensures bits { (self.new.bits ≡ self.old.bits) × (self.new.counts ≡ self.old.counts) }
@@ -338,8 +348,8 @@ impl<'a, CC: Words, VC: Words, WC: Words> Cursor<'a, CC, VC, WC> {
         }
     }
 
-    /// The next set bit, at or after the cursor, which then stands after it. Where there is none, the cursor goes on
-    /// to the last word.
+    /// Returns the position of the next set bit, at or after the cursor, and moves past it. If there is none, it
+    /// returns `None` and the cursor moves to the last word.
     pub fn next_one(&mut self) -> Option<usize>
         ensures bits { (self.new.bits ≡ self.old.bits) × (self.new.counts ≡ self.old.counts) }
         ensures onward { self.old.pos ≤ self.new.pos }
@@ -351,7 +361,7 @@ impl<'a, CC: Words, VC: Words, WC: Words> Cursor<'a, CC, VC, WC> {
         self.next_one_tallied(&mut Tally::new())
     }
 
-    /// The next bit, and the cursor then stands after it; None at the end.
+    /// Returns the next bit and moves past it; `None` at the end.
     pub fn step(&mut self) -> Option<bool>
         ensures bits { (self.new.bits ≡ self.old.bits) × (self.new.counts ≡ self.old.counts) }
         ensures onward { self.old.pos ≤ self.new.pos }
@@ -362,8 +372,10 @@ impl<'a, CC: Words, VC: Words, WC: Words> Cursor<'a, CC, VC, WC> {
         self.step_tallied(&mut Tally::new())
     }
 
-    /// Goes forward to bit `target`, or to the end where there is no such bit. Is there one? Asks that the cursor does
-    /// not stand after it.
+    /// Moves forward to bit `target` and returns true; moves to the end and returns false if there is no such bit.
+    ///
+    /// # Requires
+    /// `target` is not before the cursor.
     pub fn seek_to_pos(&mut self, target: usize) -> bool
         requires { self.old.pos ≤ target }
         ensures bits { (self.new.bits ≡ self.old.bits) × (self.new.counts ≡ self.old.counts) }
@@ -376,8 +388,11 @@ impl<'a, CC: Words, VC: Words, WC: Words> Cursor<'a, CC, VC, WC> {
         self.seek_to_pos_tallied(target, &mut Tally::new())
     }
 
-    /// The set bit before which `rank` others are set, and the cursor then stands after it; it stands at the end where
-    /// there is none. Asks that at most `rank` bits before the cursor are set.
+    /// Returns the position of the set bit that has `rank` set bits before it, and moves past it. If there is none, it
+    /// returns `None` and moves to the end.
+    ///
+    /// # Requires
+    /// At most `rank` bits before the cursor are set.
     pub fn seek_to_rank(&mut self, rank: u64) -> Option<usize>
         requires { ones self.old.bits self.old.pos ≤ rank }
         ensures bits { (self.new.bits ≡ self.old.bits) × (self.new.counts ≡ self.old.counts) }

@@ -1,4 +1,4 @@
-//! Columns of bits and counts that grow and are cut.
+//! Growth and truncation of bit vectors with counts.
 ghost use Rattle.std.specs.Prelude.{◌≡◌, ◌+◌, ◌-◌, ◌*◌, ◌/◌, ◌%◌, ◌^◌, ◌<◌, ◌≤◌, [], ◌∷◌, ◌++◌, length, slice_range, OnOk, OnErr, IfOk, IfErr, IsOk, refl};
 ghost use Rattle.columnar_core.specs.Row.{truth};
 ghost use Rattle.columnar_core.specs.Format.{IsSound};
@@ -25,7 +25,7 @@ type Held = RankSelect<Vec<u64>, Vec<u64>, [u64; 2]>;
 
 type Viewed<'a> = RankSelect<View<'a, u64>, View<'a, u64>, View<'a, u64>>;
 
-// Count number `chunk` - 1, 0 where there is none.
+// Returns the count of the chunk before `chunk`; 0 for the first chunk.
 #[tactic(auto, using(crate::specs::CountLaws::count_before_none, crate::specs::CountLaws::count_before_some))]
 fn count_after(counts: View<'_, u64>, chunk: usize) -> u64
     requires { chunk ≤ length (view_words counts) }
@@ -38,8 +38,8 @@ fn count_after(counts: View<'_, u64>, chunk: usize) -> u64
     }
 }
 
-// Appends a count for each chunk of words that is complete and has none; all or none. A turn for each chunk and each of its words. Of
-// the tail no word is read: it stands in what is asked and told alone, since its bits have no count.
+// Appends the missing counts of complete chunks; all or none. Takes one step for each such chunk and for each of its
+// words. It reads no word of the tail, whose bits have no count; the tail occurs only in the contract.
 fn count_on<L>(
     counts: &mut Vec<u64>,
     values: View<'_, u64>,
@@ -74,7 +74,7 @@ fn count_on<L>(
     Ok(())
 }
 
-// These bits, and the counts that they need.
+// Adds the counts to these bits.
 pub(crate) fn counted(alloc: Global, values: Bools<Vec<u64>, [u64; 2]>) -> Result<Held, GrowError>
     requires { IsSound bools_format (owned_content values) }
     ensures sound { IfOk result (λ b. IsSound ranks_format (owned_ranks b)) }
@@ -93,9 +93,14 @@ pub(crate) fn counted(alloc: Global, values: Bools<Vec<u64>, [u64; 2]>) -> Resul
 }
 
 impl Held {
-    /// Appends one bit, and a count where it completes 1024 of them; both or none. After a refusal the bits are as
-    /// before. It answers Length exactly where there would be more than 2^64 - 1 bits. Where the bit fills no word, it
-    /// needs no memory.
+    /// Appends one bit, and a count if it completes 1,024 bits. Allocates nothing if the bit does not fill a word.
+    ///
+    /// # Errors
+    /// `Length` if and only if there are already 2^64 - 1 bits; `Memory` if an allocation fails. The bits stay the
+    /// same.
+    ///
+    /// # Requires
+    /// The column is well-formed.
     pub fn push_bit(&mut self, bit: bool) -> Result<(), GrowError>
         requires { IsSound ranks_format (owned_ranks self.old) }
         ensures ok { OnOk result (ranked_bits self.new ≡ ranked_bits self.old ++ bit ∷ []) }
@@ -116,8 +121,9 @@ impl Held {
         pushed
     }
 
-    // The column after a push of a bit that may fill a word, and what that answers; apart, so that the push of any other is a few
-    // instructions. It is taken by value: the compiler then need not keep a column that grows in memory because of this call.
+    // Pushes a bit that may fill a word, and returns the column with the result. It is a function of its own to keep
+    // the common push small. It takes the column by value, so that the compiler need not keep a growing column in
+    // memory for this call.
     #[cold]
     #[inline(never)]
     fn with_last(self, bit: bool) -> (Held, Result<(), GrowError>)
@@ -135,7 +141,7 @@ impl Held {
         (column, pushed)
     }
 
-    // As `push_bit`, with a count where the bit completes 1024.
+    // Does the same as `push_bit`, and handles a bit that completes 1,024 bits.
     fn push_last(&mut self, bit: bool) -> Result<(), GrowError>
         requires { IsSound ranks_format (owned_ranks self.old) }
         ensures ok { OnOk result (ranked_bits self.new ≡ ranked_bits self.old ++ bit ∷ []) }
@@ -153,7 +159,8 @@ impl Held {
         self.push_counted(bit)
     }
 
-    // As `push_bit`, of a bit that completes 1024; apart, so that the push of any other is small.
+    // Does the same as `push_bit` for a bit that completes 1,024 bits. It is a function of its own to keep the common
+    // push small.
     #[cold]
     #[inline(never)]
     fn push_counted(&mut self, bit: bool) -> Result<(), GrowError>
@@ -181,7 +188,11 @@ impl Held {
         }
     }
 
-    /// As `extend_from_self`, of any column of bits and counts; the turns that it takes are added to the tally: at most one for each 16 bits, and 64.
+    /// Does the same as `extend_from_self` with any column of counted bits, and adds its steps to the tally: at most
+    /// one for each 16 bits, plus 64.
+    ///
+    /// # Requires
+    /// Both columns are well-formed, and the range is within `other`.
     pub fn extend_ranked_tallied<C: Words, V: Words, W: Words, L>(
         &mut self,
         other: &RankSelect<C, V, W>,
@@ -263,7 +274,7 @@ impl Reserve for Held {
     }
 }
 
-/// Memory is answered at most where the bit fills a word: where 63 bits stand after the last full one.
+/// `Memory` is returned only if the bit fills a word, that is, if 63 bits follow the last full word.
 impl Push<bool> for Held {
     fn push(&mut self, item: bool) -> Result<(), GrowError>
         requires sound { IsSound ranks_format (owned_ranks self.old) }
@@ -275,7 +286,7 @@ impl Push<bool> for Held {
     }
 }
 
-/// As a push of the bit.
+/// Pushes the referenced bit.
 impl<'x> Push<&'x bool> for Held {
     fn push(&mut self, item: &'x bool) -> Result<(), GrowError>
         requires sound { IsSound ranks_format (owned_ranks self.old) }
@@ -287,7 +298,7 @@ impl<'x> Push<&'x bool> for Held {
     }
 }
 
-/// As a push of the bit.
+/// Pushes the referenced bit.
 impl PushRef<bool> for Held {
     fn push_ref(&mut self, item: &bool) -> Result<(), GrowError>
         requires sound { IsSound ranks_format (owned_ranks self.old) }

@@ -1,13 +1,14 @@
-//! Counting and finding set bits, over metered words and counts.
+//! Rank and select over metered words and counts.
 ghost use Rattle.std.specs.Prelude.{◌≡◌, ℕ, ◌+◌, ◌-◌, ◌*◌, ◌/◌, ◌%◌, ◌^◌, ◌<◌, ◌≤◌, length, slice_index, true, MatchOption, count_ones, cond};
 ghost use Rattle.columnar_bits.specs.Bits.{bit as bit_of, bit_in};
-ghost use Rattle.columnar_sums.specs.Counting.{ones_below, CountWords, count_before, Adds, digits};
+ghost use Rattle.columnar_base.specs.Digits.{digits};
+ghost use Rattle.columnar_sums.specs.Counting.{ones_below, CountWords, count_before, Adds};
 ghost use Rattle.columnar_sums.specs.Spans.{IsSpan};
 
 use columnar_core::metered::{MeteredCounts, MeteredWords};
 use columnar_core::tally::Tally;
 
-// How many of the lowest `count` bits of the word are set.
+// Counts the set bits among the lowest `count` bits of the word.
 #[tactic(auto, using(crate::specs::CountLaws::ones_of_low))]
 pub(crate) fn ones_in(word: u64, count: u64) -> u64
     requires { count < 64 }
@@ -16,7 +17,7 @@ pub(crate) fn ones_in(word: u64, count: u64) -> u64
     (word & ((1 << count) - 1)).count_ones() as u64
 }
 
-// The count before a chunk.
+// Returns the count before a chunk.
 #[tactic(auto, using(crate::specs::CountLaws::count_before_none, crate::specs::CountLaws::count_before_some))]
 fn ones_before<L>(counts: &MeteredCounts<'_, L>, chunk: usize, tally: &mut Tally<L>) -> u64
     requires { chunk ≤ length counts.now }
@@ -33,7 +34,7 @@ fn ones_before<L>(counts: &MeteredCounts<'_, L>, chunk: usize, tally: &mut Tally
     }
 }
 
-// How many bits stand set before word `block`, from the count before its chunk and the words since.
+// Counts the set bits before word `block`, from the count before its chunk and the words since.
 #[tactic(auto, using(crate::specs::CountLaws::ones_word_whole, crate::specs::CountLaws::ones_below_le, crate::specs::CountLaws::kept_more, crate::specs::CountLaws::count_before_is, crate::specs::CountLaws::length_words))]
 fn ones_by_words<L>(
     counts: &MeteredCounts<'_, L>,
@@ -51,7 +52,7 @@ fn ones_by_words<L>(
 {
     let chunk = block / 16;
     let mut sum = ones_before(counts, chunk, tally) as usize;
-    // All that stand before word `block`. They are whole words, so no turn asks whether it reads the tail.
+    // All words before word `block` are whole, so no step has to test whether it reads the tail.
     let whole = block.min(words.len() - 1);
     for at in 16 * chunk..whole {
         tally.tick();
@@ -60,8 +61,8 @@ fn ones_by_words<L>(
     sum
 }
 
-// As `ones_by_words`, where the eight words of the block's half of the chunk are whole: from the count that is nearest to that
-// half. All eight are read wherever the block stands in it, so that no jump depends on that.
+// Does the same as `ones_by_words` if the eight words of the block's half chunk are whole. It starts from the nearest
+// count and always reads all eight words, so no branch depends on the position.
 #[tactic(auto, using(crate::specs::CountLaws::ones_word_whole, crate::specs::CountLaws::ones_below_le, crate::specs::CountLaws::kept_more, crate::specs::CountLaws::count_before_is, crate::specs::CountLaws::length_words))]
 #[inline(always)]
 fn ones_by_half<L>(
@@ -91,7 +92,7 @@ fn ones_by_half<L>(
     counted - all * (half % 2) + before[block % 8]
 }
 
-// How many of the first `index` bits of the words are set, from the count of the chunk before and the words since.
+// Counts the set bits among the first `index` bits, from the last count and the words since.
 #[tactic(auto, using(crate::specs::CountLaws::ones_word, crate::specs::CountLaws::ones_below_le, crate::specs::CountLaws::kept_more, crate::specs::CountLaws::length_words))]
 pub(crate) fn rank_in_words<L>(
     counts: &MeteredCounts<'_, L>,
@@ -112,7 +113,7 @@ pub(crate) fn rank_in_words<L>(
     before + ones_in(words.read(block, tally), (index % 64) as u64) as usize
 }
 
-// As `rank_in_words`, by the half of a chunk where that is whole.
+// Does the same as `rank_in_words`, by half chunks if they are whole.
 #[tactic(auto, using(crate::specs::CountLaws::ones_word, crate::specs::CountLaws::ones_below_le, crate::specs::CountLaws::kept_more, crate::specs::CountLaws::length_words))]
 #[inline(always)]
 pub(crate) fn rank_in<L>(
@@ -140,7 +141,7 @@ pub(crate) fn rank_in<L>(
     before + ones_in(words.read(block, tally), (index % 64) as u64) as usize
 }
 
-// For each byte the places of its set bits, four bits of the number for each, the lowest first.
+// For each byte the positions of its set bits, four bits for each position, the lowest first.
 static PLACES: [u32; 256] = [
     0, 0, 1, 0x10, 2, 0x20, 0x21, 0x210, 3, 0x30, 0x31, 0x310, 0x32, 0x320, 0x321, 0x3210, 4, 0x40,
     0x41, 0x410, 0x42, 0x420, 0x421, 0x4210, 0x43, 0x430, 0x431, 0x4310, 0x432, 0x4320, 0x4321,
@@ -166,7 +167,7 @@ static PLACES: [u32; 256] = [
     0x765430, 0x765431, 0x7654310, 0x765432, 0x7654320, 0x7654321, 0x76543210,
 ];
 
-// The place of the set bit of the lowest eight before which there are `rank` others.
+// Returns the position of the set bit with `rank` set bits before it, among the lowest eight bits.
 fn place_in_byte(word: u64, rank: u64) -> u64
     requires { rank < ones_below (bit_of word) 8 }
     ensures within { result < 8 }
@@ -177,8 +178,8 @@ fn place_in_byte(word: u64, rank: u64) -> u64
     (places >> (4 * rank as u32)) as u64 % 8
 }
 
-// The place of the set bit of the word before which there are `rank` others, by halving, in three turns, and a look at the byte that
-// is left.
+// Returns the position of the set bit with `rank` set bits before it: three steps halve the word, then a table answers
+// for the remaining byte.
 #[tactic(auto, using(crate::specs::CountLaws::halves_high, crate::specs::CountLaws::halves_rank, crate::specs::CountLaws::halves_start))]
 fn place_in_word<L>(word: u64, rank: u64, tally: &mut Tally<L>) -> u64
     requires { rank < count_ones word }
@@ -207,7 +208,7 @@ fn place_in_word<L>(word: u64, rank: u64, tally: &mut Tally<L>) -> u64
     place + place_in_byte(rest, left)
 }
 
-/// The place of the set bit of a word before which `rank` others are set; 64 where at most `rank` bits are set.
+/// Returns the position of the set bit of a word that has `rank` set bits before it; 64 if at most `rank` bits are set.
 pub fn select_in_word(word: u64, rank: u64) -> u64
     ensures set { rank < count_ones word → bit_of word result ≡ true }
     ensures before { rank < count_ones word → ones_below (bit_of word) result ≡ rank }
@@ -221,8 +222,8 @@ pub fn select_in_word(word: u64, rank: u64) -> u64
     }
 }
 
-// What a search for a chunk has left: it is one of the `rest` from `low` on, or the one after them, and `sum` trues stand before
-// chunk `low`. So too of words, where it is one of the `rest`.
+// The candidates of a search: chunk `low` or one of the `rest` chunks after it, with `sum` set bits before chunk `low`.
+// In a search for a word, it is one of the `rest` words from `low` on.
 #[derive(Clone, Copy)]
 struct Span {
     low: usize,
@@ -230,7 +231,7 @@ struct Span {
     rest: usize,
 }
 
-// What is left after a look at count `at` of a span, and that count.
+// Reads count `at` of a span; returns the remaining span, and that count.
 #[tactic(auto, using(crate::specs::CountLaws::count_before_next))]
 #[inline(always)]
 fn looked<L>(
@@ -263,11 +264,12 @@ fn looked<L>(
     (left, count)
 }
 
-// What is left after looks at two counts of a span, at place `from` and eight further on, between which the rank is expected.
-// The first look is at the upper one where `from` is in the lower half, and else at the lower one. Only where the rank is on the
-// other's side is that looked at, and whatever it says leaves at least half of the span out; else the span stays as it is. Which
-// count comes first is reckoned without a jump, which no processor could tell beforehand; the other jumps mostly go one way.
-#[tactic(auto, using(crate::specs::Spans::digits_le, crate::specs::Spans::digits_half, crate::specs::CountLaws::count_before_next))]
+// Reads at most two counts of a span, at `from` and eight further on, between which the rank is expected. It reads the
+// upper one first if `from` is in the lower half, and the lower one first otherwise. It reads the other one only if the
+// rank lies on that side; then at least half of the span drops out, whatever the other count is. Otherwise the span
+// stays the same. The first index is computed without a branch, because that branch would be unpredictable; the other
+// branches mostly go one way.
+#[tactic(auto, using(columnar_base::specs::DigitLaws::digits_le, columnar_base::specs::DigitLaws::digits_half, crate::specs::CountLaws::count_before_next))]
 #[inline(always)]
 fn looked_around<L>(
     counts: &MeteredCounts<'_, L>,
@@ -315,9 +317,9 @@ fn looked_around<L>(
     }
 }
 
-// What is left after looks at the count in the middle, at the one in the middle of the half that is left, and at two a little
-// below and above where the rank is if the counts rise evenly in that half.
-#[tactic(auto, using(crate::specs::Spans::digits_le, crate::specs::Spans::digits_half))]
+// Narrows a span by the count in its middle, then by the count in the middle of the remaining half. It then reads two
+// counts slightly below and above the rank's estimated place, as if the counts rose evenly in that half.
+#[tactic(auto, using(columnar_base::specs::DigitLaws::digits_le, columnar_base::specs::DigitLaws::digits_half))]
 fn narrowed<L>(counts: &MeteredCounts<'_, L>, rank: u64, span: Span, tally: &mut Tally<L>) -> Span
     requires span { IsSpan counts.now rank span.low span.sum span.rest }
     requires enough { 64 ≤ span.rest }
@@ -332,7 +334,7 @@ fn narrowed<L>(counts: &MeteredCounts<'_, L>, rank: u64, span: Span, tally: &mut
     let (half, _) = looked(counts, rank, span, span.rest / 2, tally);
     let middle = half.rest / 2;
     let (quarter, count) = looked(counts, rank, half, middle, tally);
-    // (by sixteen trues each: a division of small numbers takes less time)
+    // (in units of sixteen set bits, since division of small numbers is faster)
     let trues = (count.saturating_sub(half.sum) / 16).max(1);
     let beyond = (rank.saturating_sub(half.sum) / 16).wrapping_mul(middle as u64 + 1) / trues;
     let chunk = half.low.wrapping_add(beyond as usize);
@@ -340,10 +342,10 @@ fn narrowed<L>(counts: &MeteredCounts<'_, L>, rank: u64, span: Span, tally: &mut
     looked_around(counts, rank, quarter, from, tally)
 }
 
-// The first chunk with more than `rank` trues up to its end, and how many stand before it, by binary search of a span. How many
-// turns there are depends on how many counts it has alone, and what a turn reads decides two moves: no jump depends on it, which no
-// processor could tell beforehand.
-#[tactic(auto, using(crate::specs::CountLaws::digits_from))]
+// Finds the first chunk with more than `rank` set bits up to its end, and the number of set bits before it, by binary
+// search of a span. The number of steps depends only on the number of counts. No branch depends on the counts that a
+// step reads, because such branches would be unpredictable.
+#[tactic(auto, using(columnar_base::specs::DigitLaws::digits_from))]
 fn find_in_span<L>(
     counts: &MeteredCounts<'_, L>,
     rank: u64,
@@ -375,8 +377,8 @@ fn find_in_span<L>(
     (low, sum)
 }
 
-// As `find_in_span` of seven counts. All seven are looked at, so that no look waits for what another one says, and then at the count
-// before the chunk that was found.
+// Does the same as `find_in_span` for seven counts. It reads all seven, so no read waits for another, and then the
+// count before the chunk it found.
 #[tactic(auto, using(crate::specs::CountLaws::count_before_next))]
 #[inline(always)]
 fn find_in_seven<L>(
@@ -404,8 +406,8 @@ fn find_in_seven<L>(
     (chunk, ones_before(counts, chunk, tally))
 }
 
-// The first chunk with more than `rank` trues up to its end, and how many stand before it.
-#[tactic(auto, using(crate::specs::Spans::digits_le, crate::specs::CountLaws::count_before_none))]
+// Finds the first chunk with more than `rank` set bits up to its end, and the number of set bits before it.
+#[tactic(auto, using(columnar_base::specs::DigitLaws::digits_le, crate::specs::CountLaws::count_before_none))]
 fn find_chunk<L>(counts: &MeteredCounts<'_, L>, rank: u64, tally: &mut Tally<L>) -> (usize, u64)
     requires rising { (i : ℕ) → i + 1 < length counts.now → slice_index counts.now i ≤ slice_index counts.now (i + 1) }
     ensures found { IsSpan counts.now rank result.0 result.1 0 }
@@ -430,7 +432,7 @@ fn find_chunk<L>(counts: &MeteredCounts<'_, L>, rank: u64, tally: &mut Tally<L>)
     }
 }
 
-// What is left of whole words among which the one of a set bit is sought: the half in which it is.
+// Halves a span of whole words: returns the half that has the set bit.
 #[tactic(auto, using(crate::specs::CountLaws::ones_word_whole, crate::specs::CountLaws::ones_below_le, crate::specs::CountLaws::kept_more, crate::specs::CountLaws::length_words))]
 #[inline(always)]
 fn half_of_words<L>(
@@ -470,8 +472,8 @@ fn half_of_words<L>(
     }
 }
 
-// The place of the set bit before which there are `rank` others, where it is in one of sixteen whole words. That is found by halving,
-// and no jump depends on what is read, which no processor could tell beforehand.
+// Returns the position of the set bit with `rank` set bits before it, which is in one of sixteen whole words. It halves
+// the words; no branch depends on what it reads, because such branches would be unpredictable.
 #[tactic(auto, using(crate::specs::CountLaws::ones_word_whole, crate::specs::CountLaws::kept_more, crate::specs::CountLaws::found_in, crate::specs::CountLaws::length_words))]
 fn select_in_chunk<L>(
     words: &MeteredWords<'_, L>,
@@ -500,7 +502,7 @@ fn select_in_chunk<L>(
     64 * one.low + place_in_word(word, rank - one.sum, tally) as usize
 }
 
-// The place of the set bit before which there are `rank` others.
+// Returns the position of the set bit with `rank` set bits before it.
 #[tactic(auto, using(crate::specs::CountLaws::ones_word_whole, crate::specs::CountLaws::ones_below_le, crate::specs::CountLaws::kept_more, crate::specs::CountLaws::found_in, crate::specs::CountLaws::length_words))]
 pub(crate) fn select_in<L>(
     counts: &MeteredCounts<'_, L>,
@@ -535,7 +537,7 @@ pub(crate) fn select_in<L>(
     None
 }
 
-// The number of set bits that a bit is.
+// Returns 1 for a set bit and 0 for a clear one.
 pub(crate) fn one_of(bit: bool) -> u64
     ensures value { result ≡ cond bit 1 0 }
     ensures small { result ≤ 1 }

@@ -1,4 +1,4 @@
-//! Columns of rows of one of two kinds, in slices of bytes.
+//! The slices of columns of results, and their validation.
 ghost use Rattle.std.specs.Prelude.{◌≡◌, ◌+◌, ◌*◌, ◌^◌, ◌<◌, ◌≤◌, ◌++◌, refl, length, drop, IsTrue};
 ghost use Rattle.columnar_core.specs.Faults.{verdict};
 ghost use Rattle.columnar_core.specs.Format.{both, bytes_held, first, moved, representable, slices_of};
@@ -26,8 +26,11 @@ use std::alloc::Global;
 
 type Held = RankSelect<Vec<u64>, Vec<u64>, [u64; 2]>;
 
-/// As `judge_tallied` of `Results`; it says besides how the turns are spread over the parts: at most 5 for a byte of the
-/// bits and their counts, and those that the parts take for theirs.
+/// Does the same as `judge_tallied` of `Results`. Its contract also bounds the steps by part: at most 5 for each byte
+/// of the bits and their counts, plus the steps that the other parts take.
+///
+/// # Requires
+/// The format is representable, and the store has its slices from `offset` on.
 pub fn judge_results<SC: Stored, TC: Stored, L>(
     store: &DecodedStore<'_>,
     offset: usize,
@@ -51,7 +54,10 @@ pub fn judge_results<SC: Stored, TC: Stored, L>(
     }
 }
 
-/// As `check_from_tallied` of `Results`, of its parts; the turns are spread as those of `judge_results`.
+/// Does the same as `check_from_tallied` of `Results`, from its parts, with the steps bounded as for `judge_results`.
+///
+/// # Requires
+/// The format is representable, and its slices numbered from `from` stay below 2^64.
 pub fn check_results<SC: Check + Len, TC: Check + Len, CC: Words, VC: Words, WC: Words, L>(
     indexes: &RankSelect<CC, VC, WC>,
     oks: &SC,
@@ -75,8 +81,9 @@ pub fn check_results<SC: Check + Len, TC: Check + Len, CC: Words, VC: Words, WC:
     }
 }
 
-/// The rules of the bits and their counts, then those of the values, then those of the errors, then that there are as
-/// many values as set bits and as many errors as clear ones: `Parts`, at the first slice.
+/// Checks the rules of the bits and their counts, then those of the values, then those of the errors, then that there
+/// are as many values as set bits and as many errors as clear bits. The last rule is reported as `Parts`, at the first
+/// slice.
 impl<SC: Stored, TC: Stored, CC: Words, VC: Words, WC: Words> Stored
     for Results<SC, TC, CC, VC, WC> {
     ghost storable = { results_storable SC.format TC.format SC.storable TC.storable };
@@ -142,7 +149,7 @@ impl<'s, SC: AsBytes<'s>, TC: AsBytes<'s>> AsBytes<'s>
     }
 }
 
-/// Where memory is refused for a part, those that were loaded are dropped.
+/// If an allocation for a part fails, the parts already copied are dropped.
 impl<SC: ContainerBytes + Drop, TC: ContainerBytes> ContainerBytes
     for Results<SC, TC, Vec<u64>, Vec<u64>, [u64; 2]> {
     fn byte_slice(&self, index: usize) -> ByteSlice<'_> {

@@ -1,4 +1,4 @@
-//! Columns of rows of one of two kinds, as they grow and are cut.
+//! Growth and truncation of columns of results.
 ghost use Rattle.columnar_sums.specs.ResultLaws.{results_lawful, same_results};
 
 use super::Results;
@@ -69,7 +69,7 @@ impl<SC: Reserve, TC: Reserve> Reserve for Results<SC, TC, Vec<u64>, Vec<u64>, [
     }
 }
 
-/// Results are taken by value and by reference.
+/// Results are pushed by value and by reference.
 impl<P: PushInto<Results<SC, TC, Vec<u64>, Vec<u64>, [u64; 2]>>, SC: Column, TC: Column> Push<P>
     for Results<SC, TC, Vec<u64>, Vec<u64>, [u64; 2]> {
     fn push(&mut self, item: P) -> Result<(), GrowError> {
@@ -77,7 +77,8 @@ impl<P: PushInto<Results<SC, TC, Vec<u64>, Vec<u64>, [u64; 2]>>, SC: Column, TC:
     }
 }
 
-/// Its value or its error is pushed first, and then its bit; where the bit is refused, what was pushed is taken back.
+/// The value or the error is pushed first, then its bit. If the push of the bit fails, the value or error is removed
+/// again.
 impl<S: Item, T: Item, SC: Truncate + Push<S>, TC: Truncate + Push<T>> PushInto<
     Results<SC, TC, Vec<u64>, Vec<u64>, [u64; 2]>,
 > for Result<S, T> {
@@ -92,7 +93,7 @@ impl<S: Item, T: Item, SC: Truncate + Push<S>, TC: Truncate + Push<T>> PushInto<
     }
 }
 
-/// The value or the error of the item is pushed by reference.
+/// The item's value or error is pushed by reference.
 impl<'x, S: Item, T: Item, SC: Truncate + PushRef<S>, TC: Truncate + PushRef<T>> PushInto<
     Results<SC, TC, Vec<u64>, Vec<u64>, [u64; 2]>,
 > for &'x Result<S, T> {
@@ -114,9 +115,9 @@ impl<S: Item, T: Item, SC: Truncate + PushRef<S>, TC: Truncate + PushRef<T>> Pus
     }
 }
 
-/// The values of the range are those between the ranks of its ends, the errors those between what is left of its ends;
-/// they are copied first, and then the bits. Where one of the parts refuses, none has taken any row.
-impl<'x, V: Index + Copy, W: Index + Copy, SC: ExtendFrom<V>, TC: ExtendFrom<W>> ExtendFrom<
+/// The values of the range lie between the numbers of set bits before its ends, the errors between the numbers of clear
+/// bits. They are copied first, then the bits. If a copy fails, all parts keep their old rows.
+impl<'x, V: Column + Copy, W: Column + Copy, SC: ExtendFrom<V>, TC: ExtendFrom<W>> ExtendFrom<
     Results<V, W, View<'x, u64>, View<'x, u64>, View<'x, u64>>,
 > for Results<SC, TC, Vec<u64>, Vec<u64>, [u64; 2]> {
     fn add_room(

@@ -1,4 +1,4 @@
-//! Offsets in unary in slices of bytes.
+//! The slices of offsets in unary, and their validation.
 ghost use Rattle.std.specs.Prelude.{◌≡◌, ◌+◌, ◌<◌, length, drop, true, refl};
 ghost use Rattle.columnar_core.specs.Format.{Fits, IsSound};
 ghost use Rattle.columnar_core.specs.Store.{slices_in};
@@ -22,7 +22,7 @@ use std::alloc::Global;
 
 type Held = RankSelect<Vec<u64>, Vec<u64>, [u64; 2]>;
 
-// Is the last bit, if there is one, true?
+// Tests whether the last bit, if any, is set.
 fn is_ended<CC: Words, VC: Words, WC: Words>(bits: &RankSelect<CC, VC, WC>) -> bool
     requires { IsSound ranks_format (ranks_content CC.bytes VC.bytes WC.bytes bits.now) }
     ensures { result ≡ last_bit true (ranks_bits (ranks_content CC.bytes VC.bytes WC.bytes bits.now)) }
@@ -31,7 +31,7 @@ fn is_ended<CC: Words, VC: Words, WC: Words>(bits: &RankSelect<CC, VC, WC>) -> b
     len == 0 || bits.get(len - 1)
 }
 
-// Is it so in slices that were accepted?
+// Does the same as `is_ended` for slices that were accepted.
 fn ended_in(store: &DecodedStore<'_>, offset: usize) -> bool
     requires { Fits ranks_format offset (slices_in store.now) }
     ensures { result ≡ last_bit true (ranks_bits (ranks_format.build (drop offset (slices_in store.now)))) }

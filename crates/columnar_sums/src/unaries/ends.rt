@@ -1,4 +1,4 @@
-//! All offsets of a column in unary, in order.
+//! Iteration over all offsets of a column in unary.
 ghost use Rattle.std.specs.Prelude.{◌≡◌, ◌+◌, ◌-◌, ◌≤◌, ◌++◌, [], ◌∷◌, length, IfSome, IfNone};
 ghost use Rattle.std.specs.List.{range_with_len};
 ghost use Rattle.columnar_sums.specs.RankColumns.{bits_ranked, IsRanked};
@@ -9,7 +9,7 @@ use columnar_core::tally::Tally;
 use columnar_core::words::Words;
 use std::marker::Model;
 
-/// The offsets of a column in unary, one after another.
+/// An iterator over the offsets of a column in unary.
 #[derive(Drop)]
 pub struct UnaryEnds<'a, CC: Words, VC: Words, WC: Words> {
     cursor: Cursor<'a, CC, VC, WC>,
@@ -24,7 +24,7 @@ impl<'a, CC: Words, VC: Words, WC: Words> Model for UnaryEnds<'a, CC, VC, WC> {
 }
 
 impl<'a, CC: Words, VC: Words, WC: Words> UnaryEnds<'a, CC, VC, WC> {
-    // All offsets that the bits are.
+    // Creates an iterator over all offsets that the bits encode.
     pub(crate) fn new<L>(
         bits: &'a RankSelect<CC, VC, WC>,
         tally: &mut Tally<L>,
@@ -40,9 +40,8 @@ impl<'a, CC: Words, VC: Words, WC: Words> UnaryEnds<'a, CC, VC, WC> {
         }
     }
 
-    /// As `next`; the words that it loads are added to the tally: they come one after another, from the one after that
-    /// in which it stood up to the one in which it then stands, each in a turn. So each word is loaded once, however many
-    /// are asked for.
+    /// Does the same as `next`, and adds the words it loads to the tally. It loads the words after the current one in
+    /// order, one in each step, up to the word in which it stops. Each word is loaded once in a whole iteration.
     pub fn next_tallied<L>(&mut self, tally: &mut Tally<L>) -> Option<u64>
         ensures some { IfSome result (λ end. self.old.left ≡ end ∷ self.new.left) }
         ensures none { IfNone result ((self.old.left ≡ []) × (self.new.left ≡ [])) }
@@ -57,7 +56,7 @@ impl<'a, CC: Words, VC: Words, WC: Words> UnaryEnds<'a, CC, VC, WC> {
         }
     }
 
-    /// The next offset; None once all were given, and from then on.
+    /// Returns the next offset; `None` after the last one, and from then on.
     pub fn next(&mut self) -> Option<u64>
         ensures some { IfSome result (λ end. self.old.left ≡ end ∷ self.new.left) }
         ensures none { IfNone result ((self.old.left ≡ []) × (self.new.left ≡ [])) }

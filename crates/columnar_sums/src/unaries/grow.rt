@@ -1,4 +1,4 @@
-//! Offsets in unary that grow and are cut.
+//! Growth and truncation of offsets in unary.
 ghost use Rattle.std.specs.Prelude.{◌≡◌, ℕ, ◌+◌, ◌-◌, ◌*◌, ◌/◌, ◌%◌, ◌^◌, ◌<◌, ◌≤◌, [], ◌∷◌, ◌++◌, length, take, drop, slice_get, slice_range, Some, true, OnOk, OnErr, IfErr, refl};
 ghost use Rattle.columnar_core.specs.Format.{IsSound};
 ghost use Rattle.columnar_core.specs.Change.{Stayed, Took, Copied, Refused};
@@ -7,10 +7,11 @@ ghost use Rattle.columnar_core.specs.Elements.{word_row};
 ghost use Rattle.columnar_core.specs.WordViews.{words_in, le_bytes, view_bytes};
 ghost use Rattle.columnar_bits.specs.Bits.{bit as bit_of, truths};
 ghost use Rattle.columnar_bits.specs.BoolColumns.{bools_format, owned_content, owned_bits, IsOfGrowth};
-ghost use Rattle.columnar_sums.specs.Counting.{ones};
+ghost use Rattle.columnar_sums.specs.Counting.{ones, Adds};
+ghost use Rattle.columnar_base.specs.Digits.{digits};
 ghost use Rattle.columnar_sums.specs.RankColumns.{ranks_format, ranks_content, bits_ranked, owned_ranks, ranked_bits};
 ghost use Rattle.columnar_sums.specs.RankLaws.{ranks_lawful};
-ghost use Rattle.columnar_sums.specs.Unary.{all_false};
+ghost use Rattle.columnar_sums.specs.Unary.{all_false, upto};
 ghost use Rattle.columnar_sums.specs.UnaryLaws.{unary_lawful};
 ghost use Rattle.columnar_sums.specs.UnaryColumns.{unaries_format, unaries_content, owned_unaries, last_offset, repeated};
 
@@ -34,7 +35,7 @@ type Owned = Unaries<Vec<u64>, Vec<u64>, [u64; 2]>;
 
 type Viewed<'a> = Unaries<View<'a, u64>, View<'a, u64>, View<'a, u64>>;
 
-// Appends the `count` lowest bits of a word, where no bit is set from there on; all or none.
+// Appends the `count` lowest bits of a word that has no set bit above them; all or none.
 pub(crate) fn push_word(
     values: &mut Bools<Vec<u64>, [u64; 2]>,
     word: u64,
@@ -54,7 +55,7 @@ pub(crate) fn push_word(
     }
 }
 
-// Appends `count` falses and a true, which stand in two words at most; all or none.
+// Appends `count` clear bits and a set bit, in at most two words; all or none.
 fn push_short(values: &mut Bools<Vec<u64>, [u64; 2]>, count: usize) -> Result<(), GrowError>
     requires sound { IsSound bools_format (owned_content values.old) }
     requires few { count < 64 }
@@ -66,7 +67,7 @@ fn push_short(values: &mut Bools<Vec<u64>, [u64; 2]>, count: usize) -> Result<()
     push_word(values, 1 << count, count + 1)
 }
 
-// Appends `count` falses, up to 64 at a time; all or none.
+// Appends `count` clear bits, up to 64 at a time; all or none.
 pub(crate) fn push_falses(
     values: &mut Bools<Vec<u64>, [u64; 2]>,
     count: usize,
@@ -93,7 +94,7 @@ pub(crate) fn push_falses(
     Ok(())
 }
 
-// Appends the count once for each chunk from the first without one up to chunk `end`; all or none.
+// Appends the total as the count of each chunk from the first without one up to chunk `end`; all or none.
 fn count_run(counts: &mut Vec<u64>, total: u64, end: usize) -> Result<(), GrowError>
     requires { length counts.old.items ≤ end }
     ensures ok { OnOk result ((words_in (le_bytes counts.new.items) ≡ words_in (le_bytes counts.old.items) ++ repeated (end - length counts.old.items) total) × (length counts.new.items ≡ end)) }
@@ -113,7 +114,7 @@ fn count_run(counts: &mut Vec<u64>, total: u64, end: usize) -> Result<(), GrowEr
     Ok(())
 }
 
-// Makes room for what so many bits after the first `len` fill; none where they fill nothing.
+// Reserves space for the words that `more` bits after the first `len` fill. Allocates nothing if they fill none.
 fn make_room(bits: &mut Held, len: usize, more: usize) -> Result<(), GrowError>
     requires { len + more < 2 ^ 64 }
     ensures same { owned_ranks bits.new ≡ owned_ranks bits.old }
@@ -124,7 +125,7 @@ fn make_room(bits: &mut Held, len: usize, more: usize) -> Result<(), GrowError>
     Ok(())
 }
 
-// How many of the bits are set, where `count` more complete a chunk.
+// Counts all set bits if `count` more bits complete a chunk.
 fn total_of(bits: &Held, start: usize, count: usize) -> u64
     requires sound { IsSound ranks_format (owned_ranks bits.now) }
     requires start { start ≡ length (ranked_bits bits.now) }
@@ -137,7 +138,7 @@ fn total_of(bits: &Held, start: usize, count: usize) -> u64
     bits.rank(start) as u64
 }
 
-// Appends `count` falses; all or none.
+// Appends `count` clear bits; all or none.
 fn extend_falses(bits: &mut Held, count: usize) -> Result<(), GrowError>
     requires sound { IsSound ranks_format (owned_ranks bits.old) }
     requires short { length (ranked_bits bits.old) + count < 2 ^ 64 }
@@ -158,8 +159,8 @@ fn extend_falses(bits: &mut Held, count: usize) -> Result<(), GrowError>
     }
 }
 
-// Appends `count` falses and a true; all or none. Memory for the words is taken before a bit is written, and none where
-// they fill no word. Most runs are short and complete no 1024, and grow by one word at most.
+// Appends `count` clear bits and a set bit; all or none. Allocates the words before it writes a bit, and allocates
+// nothing if the bits fill no word. Most runs are short: they complete no 1,024 bits and add at most one word.
 #[inline]
 fn push_run(bits: &mut Held, count: usize) -> Result<(), GrowError>
     requires sound { IsSound ranks_format (owned_ranks bits.old) }
@@ -176,8 +177,8 @@ fn push_run(bits: &mut Held, count: usize) -> Result<(), GrowError>
     push_long(bits, count)
 }
 
-// As `push_run`, of bits that may complete 1024 or stand in more words; apart, so that the push of others is a few
-// instructions.
+// Does the same as `push_run` for bits that may complete 1,024 bits or span more words. It is a function of its own to
+// keep the common push small.
 #[cold]
 #[inline(never)]
 fn push_long(bits: &mut Held, count: usize) -> Result<(), GrowError>
@@ -200,7 +201,7 @@ fn push_long(bits: &mut Held, count: usize) -> Result<(), GrowError>
     }
 }
 
-// Appends the bits of the range of others; all or none.
+// Appends a range of the bits of another column; all or none.
 fn copy_bits(
     bits: &mut Held,
     other: &RankSelect<View<'_, u64>, View<'_, u64>, View<'_, u64>>,
@@ -219,8 +220,48 @@ fn copy_bits(
     bits.extend_ranked_tallied(other, range, &mut Tally::new())
 }
 
+// Appends the bits of a view from bit `from` to the end of its first `n` offsets; all or none. Adds to the tally what it
+// reads to find that end, but not what the copy reads.
+fn copy_upto_tallied<L>(
+    bits: &mut Held,
+    view: &Viewed<'_>,
+    from: usize,
+    n: usize,
+    tally: &mut Tally<L>,
+) -> Result<(), GrowError>
+    requires sound { IsSound ranks_format (owned_ranks bits.old) }
+    requires view_sound { IsSound unaries_format (unaries_content view_bytes view_bytes view_bytes view.now) }
+    requires in_range { n ≤ length (unaries_format.rows (unaries_content view_bytes view_bytes view_bytes view.now)) }
+    requires ordered { from ≤ upto (bits_ranked view_bytes view_bytes view.now.bits) n }
+    ensures ok { OnOk result (ranked_bits bits.new ≡ ranked_bits bits.old ++ slice_range (bits_ranked view_bytes view_bytes view.now.bits) from (upto (bits_ranked view_bytes view_bytes view.now.bits) n)) }
+    ensures err { OnErr result (Stayed ranks_format (owned_ranks bits.old) (owned_ranks bits.new)) }
+    ensures length { result ≡ Err GrowError.Length → 2 ^ 64 ≤ length (ranked_bits bits.old) + (upto (bits_ranked view_bytes view_bytes view.now.bits) n - from) }
+    ensures kinds { IfErr result IsOfGrowth }
+    ensures sound { IsSound ranks_format (owned_ranks bits.new) }
+    ensures reads { Adds (digits (length (words_in (view_bytes view.now.bits.counts))) + 1) 16 tally.old tally.new }
+    ensures turns { tally.new.turns ≤ tally.old.turns + (digits (length (words_in (view_bytes view.now.bits.counts))) + 19) }
+{
+    let to = view.cut_end_tallied(n, tally);
+    copy_bits(bits, &view.bits, from..to)
+}
+
+// Appends the bits of a view from bit `from` to the end of its first `n` offsets; all or none.
+fn copy_upto(bits: &mut Held, view: &Viewed<'_>, from: usize, n: usize) -> Result<(), GrowError>
+    requires sound { IsSound ranks_format (owned_ranks bits.old) }
+    requires view_sound { IsSound unaries_format (unaries_content view_bytes view_bytes view_bytes view.now) }
+    requires in_range { n ≤ length (unaries_format.rows (unaries_content view_bytes view_bytes view_bytes view.now)) }
+    requires ordered { from ≤ upto (bits_ranked view_bytes view_bytes view.now.bits) n }
+    ensures ok { OnOk result (ranked_bits bits.new ≡ ranked_bits bits.old ++ slice_range (bits_ranked view_bytes view_bytes view.now.bits) from (upto (bits_ranked view_bytes view_bytes view.now.bits) n)) }
+    ensures err { OnErr result (Stayed ranks_format (owned_ranks bits.old) (owned_ranks bits.new)) }
+    ensures length { result ≡ Err GrowError.Length → 2 ^ 64 ≤ length (ranked_bits bits.old) + (upto (bits_ranked view_bytes view_bytes view.now.bits) n - from) }
+    ensures kinds { IfErr result IsOfGrowth }
+    ensures sound { IsSound ranks_format (owned_ranks bits.new) }
+{
+    copy_upto_tallied(bits, view, from, n, &mut Tally::new())
+}
+
 impl Owned {
-    // The last offset, 0 where there is none.
+    // Returns the last offset; 0 if there is none.
     fn last_end(&self) -> u64
         requires { IsSound unaries_format (owned_unaries self.now) }
         ensures { result ≡ last_offset (owned_unaries self.now) }
@@ -231,8 +272,14 @@ impl Owned {
 }
 
 impl PushAfter for Owned {
-    /// Offset is answered where the offset is below the last one, and else Length where there would be more than 2^64 - 1
-    /// bits, both before any memory is asked for.
+    /// Appends an offset when the last one is known.
+    ///
+    /// # Errors
+    /// `Offset` if the offset is below the last one; otherwise `Length` if there would be more than 2^64 - 1 bits. Both
+    /// are returned before any allocation.
+    ///
+    /// # Requires
+    /// The column is well-formed, and `last` is its last offset, or 0 if it has none.
     fn push_after(&mut self, last: u64, offset: u64) -> Result<(), GrowError>
         requires sound { IsSound unaries_format (owned_unaries self.old) }
         requires last { last_offset (owned_unaries self.old) ≡ last }
@@ -254,7 +301,10 @@ impl PushAfter for Owned {
 }
 
 impl Push<u64> for Owned {
-    /// As `push_after`, where the last offset is not known: a rank finds it.
+    /// Does the same as `push_after` when the last offset is not known; a rank finds it.
+    ///
+    /// # Requires
+    /// The column is well-formed.
     fn push(&mut self, item: u64) -> Result<(), GrowError>
         requires sound { IsSound unaries_format (owned_unaries self.old) }
         ensures ok { OnOk result (Took unaries_format (owned_unaries self.old) (owned_unaries self.new) (word_row item ∷ [])) }
@@ -336,8 +386,13 @@ impl<'x> ExtendFrom<Viewed<'x>> for Owned {
         Held::add_room(room, view.bits)
     }
 
-    /// Pushes the offsets of the range in turn, or none of them. Offset is answered where the first is below the last of
-    /// its own.
+    /// Pushes the offsets of the range in order, or none of them.
+    ///
+    /// # Errors
+    /// `Offset` if the first one is below the column's last offset; otherwise as a push of the offsets.
+    ///
+    /// # Requires
+    /// Both columns are well-formed, and the range is within the view.
     fn extend_from_self(&mut self, view: Viewed<'x>, range: Range<usize>) -> Result<(), GrowError>
         requires sound { IsSound unaries_format (owned_unaries self.old) }
         requires view_sound { IsSound unaries_format (unaries_content view_bytes view_bytes view_bytes view) }
@@ -361,8 +416,8 @@ impl<'x> ExtendFrom<Viewed<'x>> for Owned {
     }
 }
 
-/// The bits of the range are copied at once, since between two trues they are the same whatever stands before. The turns
-/// of that copy are not added to the tally.
+/// The bits of the range are copied at once: bits between two set bits do not depend on what precedes them. The steps
+/// of that copy, and of the one search for its end, are not added to the tally.
 impl<'x> ExtendShifted<Viewed<'x>> for Owned {
     fn extend_shifted_tallied<L>(
         &mut self,
@@ -373,8 +428,7 @@ impl<'x> ExtendShifted<Viewed<'x>> for Owned {
         _tally: &mut Tally<L>,
     ) -> Result<(), GrowError> {
         let from = lower as usize + range.start;
-        let to = view.cut_end(range.end);
-        copy_bits(&mut self.bits, &view.bits, from..to)
+        copy_upto(&mut self.bits, view, from, range.end)
     }
 }
 

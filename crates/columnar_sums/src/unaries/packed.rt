@@ -1,4 +1,4 @@
-//! Offsets in unary that are all known before the first is taken: their bits are gathered in words.
+//! Offsets in unary that are all known in advance: their bits are collected in words.
 ghost use Rattle.std.specs.Prelude.{◌≡◌, ◌+◌, ◌^◌, ◌<◌, ◌≤◌, [], ◌∷◌, ◌++◌, length, true, false, OnOk, IfOk, IfErr};
 ghost use Rattle.columnar_core.specs.Format.{IsSound, slice};
 ghost use Rattle.columnar_core.specs.Bounds.{numbers, last_or};
@@ -20,7 +20,7 @@ use std::alloc::Global;
 
 type Bits = Bools<Vec<u64>, [u64; 2]>;
 
-// The `count` bits of a word, and after them `run` falses and a true.
+// Returns the `count` bits of a word, followed by `run` clear bits and a set bit.
 #[tactic(auto, using(crate::specs::PackedLaws::run_bits, crate::specs::PackedLaws::run_within))]
 fn with_run(word: u64, count: usize, run: usize) -> u64
     requires fits { count + run < 64 }
@@ -31,7 +31,7 @@ fn with_run(word: u64, count: usize, run: usize) -> u64
     word | 1 << (count + run)
 }
 
-// Appends what the offsets are in unary, as many bits at once as a word holds.
+// Appends the offsets in unary, a word of bits at a time.
 fn push_runs(bits: &mut Bits, offsets: &Vec<u64>) -> Result<(), GrowError>
     requires bits { IsSound bools_format (owned_content bits.old) }
     requires offsets { IsSound words_format (slice (le_bytes offsets.now.items)) }
@@ -60,7 +60,7 @@ fn push_runs(bits: &mut Bits, offsets: &Vec<u64>) -> Result<(), GrowError>
     push_word(bits, word, count)
 }
 
-// The last offset, 0 where there is none.
+// Returns the last offset; 0 if there is none.
 fn last_of(offsets: &Vec<u64>) -> u64
     requires { IsSound words_format (slice (le_bytes offsets.now.items)) }
     ensures { result ≡ last_or 0 (numbers (words_format.rows (slice (le_bytes offsets.now.items)))) }
@@ -73,8 +73,10 @@ fn last_of(offsets: &Vec<u64>) -> u64
     }
 }
 
-// The bits that the offsets are in unary; room for them is taken at once. Offset where they fall, and else Length where the
-// last one and the number of all would together pass 2^64 - 1.
+// Returns the bits that encode the offsets in unary, allocated at once.
+//
+// # Errors
+// `Offset` if the offsets fall; otherwise `Length` if the last one plus their count exceeds 2^64 - 1.
 pub(crate) fn in_unary(alloc: Global, offsets: &Vec<u64>) -> Result<Bits, GrowError>
     requires { IsSound words_format (slice (le_bytes offsets.now.items)) }
     ensures sound { IfOk result (λ b. IsSound bools_format (owned_content b)) }

@@ -1,5 +1,5 @@
 // Made by .ci/widths.py: change .ci/widths/types.template, and not this file.
-//! Tuples of five.
+//! Tuples of five fields.
 ghost use Rattle.columnar_types.specs.Owned.{pair_unfit};
 
 use crate::types::{Columnar, FromRow};
@@ -19,7 +19,7 @@ impl<A: Columnar, B: Columnar, C: Columnar, D: Columnar, E: Columnar> Columnar f
     );
 }
 
-/// Read as the nested pairs of the first value and of the others.
+/// A row is read as nested pairs: the first value, and the others.
 impl<
     P: Item,
     Q: Item + Drop,

@@ -1,5 +1,5 @@
 // Made by .ci/widths.py: change .ci/widths/types.template, and not this file.
-//! Tuples of four.
+//! Tuples of four fields.
 ghost use Rattle.columnar_types.specs.Owned.{pair_unfit};
 
 use crate::types::{Columnar, FromRow};
@@ -13,7 +13,7 @@ impl<A: Columnar, B: Columnar, C: Columnar, D: Columnar> Columnar for (A, B, C, 
     type Container = (A::Container, B::Container, C::Container, D::Container);
 }
 
-/// Read as the nested pairs of the first value and of the others.
+/// A row is read as nested pairs: the first value, and the others.
 impl<
     P: Item,
     Q: Item + Drop,

@@ -1,5 +1,5 @@
 // Made by .ci/widths.py: change .ci/widths/types.template, and not this file.
-//! Tuples of seven.
+//! Tuples of seven fields.
 ghost use Rattle.columnar_types.specs.Owned.{pair_unfit};
 
 use crate::types::{Columnar, FromRow};
@@ -29,7 +29,7 @@ impl<
     );
 }
 
-/// Read as the nested pairs of the first value and of the others.
+/// A row is read as nested pairs: the first value, and the others.
 impl<
     P: Item,
     Q: Item + Drop,

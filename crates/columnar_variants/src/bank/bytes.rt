@@ -1,4 +1,4 @@
-//! The bytes of the columns of a sum type: the slices of each, one column after the other.
+//! The bytes of the columns of a sum type: the slices of each column, one column after the other.
 ghost use Rattle.std.specs.Prelude.{◌≡◌, ℕ, ◌+◌, ◌*◌, ◌^◌, ◌<◌, ◌≤◌, ◌++◌, length, drop, slice_get, slice_index, Some, IsTrue, OnOk, OnErr, IfOk, IfErr};
 ghost use Rattle.columnar_core.specs.Format.{Content, Fits, IsSound, IsStorable, bytes_held, first, moved, representable, slices_of};
 ghost use Rattle.columnar_core.specs.Faults.{verdict};
@@ -17,14 +17,14 @@ use columnar_core::tally::Tally;
 use columnar_core::traits::Len;
 use std::alloc::Global;
 
-// The count of a first variant, of those of all; 0 where there is none.
+// Returns the count of the first variant; 0 if there is none.
 fn first_count(counts: &[u64]) -> u64
     ensures { result ≡ slice_index counts.now 0 }
 {
     if counts.len() == 0 { 0 } else { counts[0] }
 }
 
-// The counts of the other variants.
+// Returns the counts of the other variants.
 fn other_counts(counts: &[u64]) -> &[u64]
     ensures { (v : ℕ) → slice_index result.now v ≡ slice_index counts.now (v + 1) }
 {
@@ -37,20 +37,28 @@ fn other_counts(counts: &[u64]) -> &[u64]
 
 /// Columns that can be stored as slices of bytes.
 pub trait StoredBank: ColumnBank {
-    /// How many slices the columns have together.
+    /// Returns the total number of slices of the columns.
+    ///
+    /// # Requires
+    /// The columns are representable.
     fn count_slices() -> usize
         requires { IsTrue (representable Self.bank.sides) }
         ensures { result ≡ Self.bank.sides.count };
 
     /// Appends the element sizes of all slices, or none.
+    ///
+    /// # Requires
+    /// The columns are representable.
     fn sizes_of_columns(sizes: &mut Vec<usize>) -> Result<(), GrowError>
         requires { IsTrue (representable Self.bank.sides) }
         ensures ok { OnOk result (sizes.new.items ≡ sizes.old.items ++ Self.bank.sides.sizes) }
         ensures err { OnErr result (sizes.new.items ≡ sizes.old.items) }
         ensures memory { IfErr result (λ e. e ≡ GrowError.Memory) };
 
-    /// Which rule do the slices from `offset` on break first, of those of the columns? The turns that it takes are added to
-    /// the tally.
+    /// Returns the first rule of the columns that the slices from `offset` on break. Adds its steps to the tally.
+    ///
+    /// # Requires
+    /// The columns are representable, and the store has their slices from `offset` on.
     fn judge_columns<L>(
         store: &DecodedStore<'_>,
         offset: usize,
@@ -61,7 +69,10 @@ pub trait StoredBank: ColumnBank {
         ensures exact { verdict result ≡ first (moved offset (Self.bank.sides.broken (Self.bank.sides.build (drop offset (slices_in store.now))))) }
         ensures turns { tally.new.turns ≤ tally.old.turns + 16 * bytes_held (Self.bank.sides.build (drop offset (slices_in store.now))) };
 
-    /// Has each column as many values as `counts` says of its variant, in slices that were accepted?
+    /// Tests whether each column in slices that were accepted has as many values as `counts` says for its variant.
+    ///
+    /// # Requires
+    /// The columns are representable, and the slices from `offset` on were accepted.
     fn have_values(store: &DecodedStore<'_>, offset: usize, counts: &[u64]) -> bool
         requires representable { IsTrue (representable Self.bank.sides) }
         requires fits { Fits Self.bank.sides offset (slices_in store.now) }
@@ -69,7 +80,7 @@ pub trait StoredBank: ColumnBank {
 
     ghost storable: { IsStorable Self.bank.sides };
 
-    // there are as many slices as the columns have
+    // the columns have as many slices as their formats say
     ghost counted: { (c : Self) → length (slices_of (Self.contents c)) ≡ Self.bank.sides.count };
 }
 
@@ -135,16 +146,22 @@ impl<A: Stored, B: StoredBank> StoredBank for (A, B) {
     }
 }
 
-/// Columns whose own rules are tested where they stand.
+/// Columns whose rules are tested in place.
 pub trait CheckBank: StoredBank {
-    /// Which rule do the columns break first? Slices are counted from `from` on; the turns that it takes are added to the tally.
+    /// Returns the first rule that the columns break, with slices numbered from `from`. Adds its steps to the tally.
+    ///
+    /// # Requires
+    /// The columns are representable, and their slices numbered from `from` stay below 2^64.
     fn check_columns<L>(&self, from: usize, tally: &mut Tally<L>) -> Result<(), StoreFault>
         requires representable { IsTrue (representable Self.bank.sides) }
         requires counted { from + Self.bank.sides.count < 2 ^ 64 }
         ensures exact { verdict result ≡ first (moved from (Self.bank.sides.broken (Self.contents self.now))) }
         ensures turns { tally.new.turns ≤ tally.old.turns + 16 * bytes_held (Self.contents self.now) };
 
-    /// Has each column as many values as `counts` says of its variant?
+    /// Tests whether each column has as many values as `counts` says for its variant.
+    ///
+    /// # Requires
+    /// The columns are well-formed.
     fn hold_values(&self, counts: &[u64]) -> bool
         requires { IsSound Self.bank.sides (Self.contents self.now) }
         ensures { result ≡ Self.bank.told (Self.contents self.now) (slice_index counts.now) };
@@ -173,7 +190,10 @@ impl<A: Check + Len, B: CheckBank> CheckBank for (A, B) {
 
 /// Columns that are views of slices.
 pub trait FromBytesBank<'a>: StoredBank {
-    /// The columns over the slices from `offset` on, which moves past them.
+    /// Returns the columns over the slices from `offset` on, and moves `offset` past them.
+    ///
+    /// # Requires
+    /// The columns are representable, and the store has their slices from `offset` on.
     fn columns_from(store: &DecodedStore<'a>, offset: &mut usize) -> Self
         requires representable { IsTrue (representable Self.bank.sides) }
         requires room { offset.old + Self.bank.sides.count ≤ length (slices_in store.now) }
@@ -195,9 +215,12 @@ impl<'s, A: FromBytes<'s>, B: FromBytesBank<'s>> FromBytesBank<'s> for (A, B) {
     }
 }
 
-/// Columns whose slices are lent for as long as what they view.
+/// Columns whose slices live as long as the data they view.
 pub trait AsBytesBank<'a>: StoredBank {
-    /// Slice `index`, with the alignment of its elements.
+    /// Returns slice `index`, with the alignment of its elements.
+    ///
+    /// # Requires
+    /// The columns are representable, and `index` is less than their number of slices.
     fn get_column_slice(&self, index: usize) -> (u64, ByteSlice<'a>)
         requires representable { IsTrue (representable Self.bank.sides) }
         requires in_range { index < Self.bank.sides.count }
@@ -225,15 +248,23 @@ impl<'s, A: AsBytes<'s>, B: AsBytesBank<'s>> AsBytesBank<'s> for (A, B) {
 
 /// Owned columns with bytes.
 pub trait BytesBank: StoredBank {
-    /// Slice `index`.
+    /// Returns slice `index`.
+    ///
+    /// # Requires
+    /// The columns are representable, and `index` is less than their number of slices.
     fn column_slice(&self, index: usize) -> ByteSlice<'_>
         requires representable { IsTrue (representable Self.bank.sides) }
         requires in_range { index < Self.bank.sides.count }
         ensures slice { slice_get (slices_of (Self.contents self.now)) index ≡ Some (bytes_in result) }
         ensures aligned { slice_get Self.bank.sides.aligns index ≡ Some (alignment result) };
 
-    /// The columns of slices that were accepted, each loaded whole. Where memory is refused for one of them, those that were
-    /// loaded are dropped.
+    /// Copies the columns from slices that were accepted.
+    ///
+    /// # Errors
+    /// `Memory` if an allocation fails; the columns copied so far are dropped.
+    ///
+    /// # Requires
+    /// The columns are representable, and the slices from `offset` on were accepted.
     fn load_columns(
         alloc: Global,
         store: &DecodedStore<'_>,

@@ -1,4 +1,4 @@
-//! Ranges of values that are copied out of views of the columns of a sum type, one for each variant.
+//! Copies of ranges of values from views of the columns of a sum type, one range for each variant.
 ghost use Rattle.std.specs.Prelude.{◌≡◌, ℕ, ◌<◌, ◌≤◌, length, slice_index, OnOk, IfErr, refl};
 ghost use Rattle.columnar_core.specs.Format.{IsSound};
 ghost use Rattle.columnar_variants.specs.VariantCopies.{BankCopied, BankDenied};
@@ -6,18 +6,21 @@ ghost use Rattle.columnar_variants.specs.BankCopies.{ranges};
 ghost use Rattle.columnar_variants.specs.BankLaws.{same_size};
 
 use super::ColumnBank;
-use super::grow::{CutBank, ReserveBank, first_of, others_of};
+use super::grow::{ReserveBank, first_of, others_of};
 use columnar_core::container::ExtendFrom;
 use columnar_core::fault::GrowError;
 use columnar_core::traits::Column;
 
-/// Columns that take ranges of values out of the columns of a view.
-pub trait ExtendBank<V: ColumnBank + Copy>: CutBank + ReserveBank {
-    /// The room, and what the view takes besides.
+/// Columns that can copy ranges of values from the columns of a view.
+pub trait ExtendBank<V: ColumnBank + Copy>: ReserveBank {
+    /// Adds the room that the view needs.
     fn add_room_of(room: Self::Room, view: V) -> Self::Room;
 
-    /// Of each variant the values from the number that `firsts` says up to that of `lasts` are copied. Where one of the columns
-    /// refuses, none has taken any.
+    /// Copies the values of each variant from the number in `firsts` up to that in `lasts`. If one column fails, all
+    /// columns keep their old values.
+    ///
+    /// # Requires
+    /// The columns and the view are well-formed, and each range is within its column of the view.
     fn extend_columns(
         &mut self,
         view: V,

@@ -1,4 +1,4 @@
-//! The columns of a sum type that are made of an earlier form.
+//! Columns of a sum type that are made from an earlier form.
 ghost use Rattle.std.specs.Prelude.{◌≡◌, IfOk, IfErr, refl};
 ghost use Rattle.columnar_core.specs.Format.{IsSound};
 ghost use Rattle.columnar_variants.specs.BankLaws.{same_size};
@@ -11,12 +11,15 @@ use columnar_core::earlier::Earlier;
 use columnar_core::fault::GrowError;
 use std::alloc::Global;
 
-/// Columns that can be made of their earlier forms.
+/// Columns that can be made from their earlier forms.
 pub trait EarlierBank: ColumnBank {
     /// The earlier forms.
     type Old: BytesBank + Drop;
 
-    /// The columns made of earlier ones, of the same values. It is refused as one of the columns is.
+    /// Makes the columns from earlier ones with the same values. Fails as the conversion of a column fails.
+    ///
+    /// # Requires
+    /// The earlier columns are well-formed.
     fn columns_of_old(alloc: Global, old: Self::Old) -> Result<Self, GrowError>
         requires { IsSound Self.Old.bank.sides (Self.Old.contents old) }
         ensures ok { IfOk result (λ c. IsBankMadeOf Self.Old.bank Self.bank (Self.Old.contents old) (Self.contents c)) }
@@ -24,7 +27,7 @@ pub trait EarlierBank: ColumnBank {
 
     ghost earlier: { IsEarlierBank Self.Old.bank Self.bank };
 
-    // there were as many
+    // the earlier forms are as many
     ghost level: { Self.Old.bank.size ≡ Self.bank.size };
 }
 

@@ -1,4 +1,4 @@
-//! What owned columns of a sum type do besides taking rows.
+//! Operations of owned columns of a sum type other than pushes.
 ghost use Rattle.std.specs.Prelude.{◌≡◌, ℕ, ◌+◌, ◌<◌, ◌≤◌, length, slice_index, IfOk, IfErr};
 ghost use Rattle.columnar_core.specs.Format.{IsSound};
 ghost use Rattle.columnar_variants.specs.Variants.{BankCut, BankStayed, IsLawfulBank};
@@ -11,14 +11,14 @@ use columnar_core::fault::GrowError;
 use columnar_core::traits::Clear;
 use std::alloc::Global;
 
-// The number of a first variant, of those of all; 0 where there is none.
+// Returns the number for the first variant; 0 if there is none.
 pub(super) fn first_of(numbers: &[usize]) -> usize
     ensures { result ≡ slice_index numbers.now 0 }
 {
     if numbers.len() == 0 { 0 } else { numbers[0] }
 }
 
-// The numbers of the other variants.
+// Returns the numbers for the other variants.
 pub(super) fn others_of(numbers: &[usize]) -> &[usize]
     ensures { (v : ℕ) → slice_index result.now v ≡ slice_index numbers.now (v + 1) }
 {
@@ -29,9 +29,9 @@ pub(super) fn others_of(numbers: &[usize]) -> &[usize]
     }
 }
 
-/// Columns that can lose all their values.
+/// Columns that can remove all their values.
 pub trait ClearBank: ColumnBank {
-    /// Drops all values.
+    /// Removes all values.
     fn clear_columns(&mut self)
         ensures sound { IsSound Self.bank.sides (Self.contents self.new) }
         ensures bare { IsBare Self.bank (Self.contents self.new) };
@@ -50,9 +50,12 @@ impl<A: Clear, B: ClearBank> ClearBank for (A, B) {
     }
 }
 
-/// Columns that can be cut.
+/// Columns that can be truncated.
 pub trait CutBank: LenBank {
-    /// Each column keeps its first values, so many as `fronts` says of its variant. Needs no memory.
+    /// Keeps in each column as many first values as `fronts` says for its variant. Allocates nothing.
+    ///
+    /// # Requires
+    /// The columns are well-formed, and each has at least as many values as `fronts` says.
     fn cut_columns(&mut self, fronts: &[usize])
         requires sound { IsSound Self.bank.sides (Self.contents self.old) }
         requires in_range { (v : ℕ) → v < Self.bank.size → slice_index fronts.now v ≤ length (Self.bank.table (Self.contents self.old) v) }
@@ -78,14 +81,14 @@ impl<A: Truncate, B: CutBank> CutBank for (A, B) {
     }
 }
 
-/// Columns that are made without values, and duplicated.
-pub trait StorageBank: CutBank + ClearBank + Drop {
-    /// Columns without values. Needs no memory.
+/// Columns that can be created empty, and duplicated.
+pub trait StorageBank: ColumnBank {
+    /// Creates columns without values. Allocates nothing.
     fn empty_columns(alloc: Global) -> Self
         ensures sound { IsSound Self.bank.sides (Self.contents result) }
         ensures bare { IsBare Self.bank (Self.contents result) };
 
-    /// A copy in memory of its own.
+    /// Copies the columns into new memory.
     fn duplicate_columns(&self, alloc: Global) -> Result<Self, GrowError>
         ensures contents { IfOk result (λ c. Self.contents c ≡ Self.contents self.now) }
         ensures memory { IfErr result (λ e. e ≡ GrowError.Memory) };
@@ -116,15 +119,18 @@ impl<A: Storage, B: StorageBank> StorageBank for (A, B) {
     }
 }
 
-/// Columns that make room.
+/// Columns that can reserve space.
 pub trait ReserveBank: ColumnBank {
-    /// Room for values of each variant.
+    /// Space for values of each variant.
     type Room: Copy;
 
-    /// No room.
+    /// Returns no space.
     fn no_room_in_columns() -> Self::Room;
 
-    /// Makes room; the values stay.
+    /// Reserves space. The values stay the same.
+    ///
+    /// # Requires
+    /// The columns are well-formed.
     fn reserve_columns(&mut self, room: Self::Room) -> Result<(), GrowError>
         requires { IsSound Self.bank.sides (Self.contents self.old) }
         ensures stayed { BankStayed Self.bank (Self.contents self.old) (Self.contents self.new) }

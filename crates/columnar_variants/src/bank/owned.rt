@@ -1,4 +1,4 @@
-//! The views of the columns of a sum type.
+//! Views of the columns of a sum type.
 ghost use Rattle.std.specs.Prelude.{◌≡◌};
 ghost use Rattle.columnar_core.specs.Format.{IsSound};
 ghost use Rattle.columnar_variants.specs.BankLaws.{same_leaf, same_join};
@@ -8,18 +8,18 @@ use crate::cases::{Cases, Last, Nth};
 use columnar_core::container::{Borrow, Named, Reborrow, ReborrowRef};
 use columnar_core::traits::Item;
 
-/// Columns that are borrowed as views.
+/// Columns that can be borrowed as views.
 pub trait BorrowBank<'a>: ColumnBank {
-    /// What a value of a view reads as.
+    /// A value that is read from a view.
     type Ref: Copy + Cases;
 
     /// The views.
     type Borrowed: Copy + LenBank + IndexBank<Ref = Self::Ref>;
 
-    /// What stands for the columns where views are told apart.
+    /// Names the types that the views of the columns bring and that `Ref` and `Borrowed` leave out.
     type Parts: Item;
 
-    /// The views of all columns.
+    /// Borrows all columns as views.
     fn borrow_columns(&'a self) -> Self::Borrowed
         ensures contents { Self.Borrowed.contents result ≡ Self.contents self.now };
 
@@ -56,12 +56,12 @@ impl<'a, A: Borrow<'a>, B: BorrowBank<'a>> BorrowBank<'a> for (A, B) {
     }
 }
 
-/// Views for a shorter time.
+/// Views that can be given a shorter lifetime.
 pub trait ReborrowBank<'b>: ColumnBank {
-    /// The views for that time.
+    /// The views with that lifetime.
     type Short: ColumnBank;
 
-    /// The same views.
+    /// Returns the same views.
     fn reborrow_columns(self) -> Self::Short
         ensures { Self.Short.contents result ≡ Self.contents self };
 

@@ -1,4 +1,4 @@
-//! Values that are pushed with their variant into the columns of a sum type.
+//! Pushes of values with their variants to the columns of a sum type.
 ghost use Rattle.std.specs.Prelude.{◌≡◌, ℕ, ◌+◌, ◌<◌, ◌≤◌, length, OnOk, IfErr};
 ghost use Rattle.columnar_core.specs.Format.{IsSound};
 ghost use Rattle.columnar_sums.specs.Discriminants.{discriminant_format, owned_forms, variants_of, times};
@@ -12,10 +12,13 @@ use columnar_core::fault::GrowError;
 use columnar_core::traits::{Item, Push, PushRef};
 use columnar_sums::discriminant::Discriminant;
 
-/// Columns that take items of one of their variants.
+/// Columns that accept items of one of their variants.
 pub trait PushCase<T: Cases>: ColumnBank {
-    /// The value of an item goes to the column of its variant, and then its variant, counted from `base` on, to the variants; or
-    /// neither.
+    /// Pushes the item's value to the column of its variant, then its variant plus `base` to the variants; or neither.
+    ///
+    /// # Requires
+    /// The columns and the variants are well-formed and have equal numbers of rows for each variant; `base` plus the
+    /// number of columns is at most 256; and `item` is valid.
     fn push_with(
         &mut self,
         indexes: &mut Discriminant<Vec<u8>, Vec<u64>>,
@@ -32,9 +35,12 @@ pub trait PushCase<T: Cases>: ColumnBank {
         ensures err { IfErr result (λ e. BankCaseRefused Self.bank (Self.contents self.old) (Self.contents self.new) (owned_forms indexes.old.variant.items indexes.old.offset.items) (owned_forms indexes.new.variant.items indexes.new.offset.items) (T.variant item) (T.value item) e) };
 }
 
-/// As `PushCase`, of items that are lent.
+/// Does the same as `PushCase` with referenced items.
 pub trait PushCaseRef<T: Cases>: ColumnBank {
-    /// As `push_with`, by reference.
+    /// Does the same as `push_with` with a referenced item.
+    ///
+    /// # Requires
+    /// As `push_with`.
     fn push_ref_with(
         &mut self,
         indexes: &mut Discriminant<Vec<u8>, Vec<u64>>,

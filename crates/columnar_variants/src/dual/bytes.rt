@@ -1,4 +1,4 @@
-//! The bytes of a column of a sum type of two variants: the slices of the two columns, and then those of the variants.
+//! The bytes of a column of a sum type of two variants: the slices of both columns, then those of the variants.
 ghost use Rattle.std.specs.Prelude.{◌≡◌, ℕ, ◌+◌, ◌*◌, ◌^◌, ◌<◌, ◌≤◌, ◌++◌, length, drop, slice_get, Some, IsTrue, OnOk, OnErr, IfOk, IfErr};
 ghost use Rattle.columnar_core.specs.Format.{Fits, bytes_held, first, moved, representable, slices_of};
 ghost use Rattle.columnar_core.specs.Faults.{verdict};
@@ -24,7 +24,10 @@ use columnar_core::words::Words;
 use columnar_sums::discriminant::{Discriminant, Variants};
 use std::alloc::Global;
 
-/// How many slices there are.
+/// Returns the number of slices.
+///
+/// # Requires
+/// The format is representable.
 pub fn count_dual<SC: Stored, TC: Stored>() -> usize
     requires { IsTrue (representable (dual_format SC.format TC.format)) }
     ensures { result ≡ (dual_format SC.format TC.format).count }
@@ -33,6 +36,9 @@ pub fn count_dual<SC: Stored, TC: Stored>() -> usize
 }
 
 /// Appends the element sizes of all slices, or none.
+///
+/// # Requires
+/// The format is representable.
 pub fn sizes_of_dual<SC: Stored, TC: Stored>(sizes: &mut Vec<usize>) -> Result<(), GrowError>
     requires { IsTrue (representable (dual_format SC.format TC.format)) }
     ensures ok { OnOk result (sizes.new.items ≡ sizes.old.items ++ (dual_format SC.format TC.format).sizes) }
@@ -50,9 +56,13 @@ pub fn sizes_of_dual<SC: Stored, TC: Stored>(sizes: &mut Vec<usize>) -> Result<(
     }
 }
 
-/// Which rule do the slices from `offset` on break first? Those of the two columns, those of the variants, that each is
-/// one of the two, and that there are as many values as rows of their variant: `Variant` and `Parts`, at the first slice.
-/// Where all rows are of one variant none is looked at. The turns that it takes are added to the tally.
+/// Returns the first rule that the slices from `offset` on break. It checks the rules of the two columns, then those of
+/// the variants, then that each variant is 0 or 1, then that the values are as many as the rows of their variant. The
+/// last two are reported as `Variant` and `Parts`, at the first slice. Reads no row if all rows have one variant. Adds
+/// its steps to the tally.
+///
+/// # Requires
+/// The format is representable, and the store has its slices from `offset` on.
 pub fn judge_dual<SC: Stored, TC: Stored, L>(
     store: &DecodedStore<'_>,
     offset: usize,
@@ -77,7 +87,10 @@ pub fn judge_dual<SC: Stored, TC: Stored, L>(
     judge_counts(&indexes, &lengths, offset, tally)
 }
 
-/// The number of rows in slices that were accepted.
+/// Returns the number of rows in slices that were accepted.
+///
+/// # Requires
+/// The format is representable, and the slices from `offset` on were accepted.
 pub fn rows_in_dual<SC: Stored, TC: Stored>(store: &DecodedStore<'_>, offset: usize) -> usize
     requires representable { IsTrue (representable (dual_format SC.format TC.format)) }
     requires fits { Fits (dual_format SC.format TC.format) offset (slices_in store.now) }
@@ -89,7 +102,10 @@ pub fn rows_in_dual<SC: Stored, TC: Stored>(store: &DecodedStore<'_>, offset: us
     )
 }
 
-/// As `judge_dual`, of the columns themselves; slices are counted from `from` on.
+/// Does the same as `judge_dual` for the columns in place, with slices numbered from `from`.
+///
+/// # Requires
+/// The format is representable, and its slices numbered from `from` stay below 2^64.
 pub fn check_dual<SC: Check + Len, TC: Check + Len, CVar: Variants, COff: Words, L>(
     firsts: &SC,
     seconds: &TC,
@@ -109,7 +125,10 @@ pub fn check_dual<SC: Check + Len, TC: Check + Len, CVar: Variants, COff: Words,
     judge_counts(indexes, &lengths, from, tally)
 }
 
-/// Slice `index`, with the alignment of its elements.
+/// Returns slice `index`, with the alignment of its elements.
+///
+/// # Requires
+/// The format is representable, and `index` is less than its number of slices.
 pub fn slice_of_dual<'s, SC: AsBytes<'s>, TC: AsBytes<'s>>(
     firsts: &SC,
     seconds: &TC,
@@ -130,7 +149,10 @@ pub fn slice_of_dual<'s, SC: AsBytes<'s>, TC: AsBytes<'s>>(
     }
 }
 
-/// Slice `index` of owned columns.
+/// Returns slice `index` of owned columns.
+///
+/// # Requires
+/// The format is representable, and `index` is less than its number of slices.
 pub fn byte_slice_of_dual<'s, SC: ContainerBytes, TC: ContainerBytes>(
     firsts: &'s SC,
     seconds: &'s TC,
@@ -150,8 +172,13 @@ pub fn byte_slice_of_dual<'s, SC: ContainerBytes, TC: ContainerBytes>(
     }
 }
 
-/// The columns and the variants of slices that were accepted, each loaded whole. Where memory is refused for one of them,
-/// those that were loaded are dropped.
+/// Copies the columns and the variants from slices that were accepted.
+///
+/// # Errors
+/// `Memory` if an allocation fails; the parts copied so far are dropped.
+///
+/// # Requires
+/// The format is representable, and the slices from `offset` on were accepted.
 pub fn load_dual<SC: ContainerBytes + Drop, TC: ContainerBytes + Drop>(
     alloc: Global,
     store: &DecodedStore<'_>,
@@ -171,7 +198,10 @@ pub fn load_dual<SC: ContainerBytes + Drop, TC: ContainerBytes + Drop>(
     Ok((firsts, seconds, indexes))
 }
 
-/// The views of the columns and of the variants over the slices from `offset` on, which moves past them.
+/// Returns views of the columns and of the variants over the slices from `offset` on, and moves `offset` past them.
+///
+/// # Requires
+/// The format is representable, and the store has its slices from `offset` on.
 pub fn view_of_dual<'s, SC: FromBytes<'s>, TC: FromBytes<'s>>(
     store: &DecodedStore<'s>,
     offset: &mut usize,

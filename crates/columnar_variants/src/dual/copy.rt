@@ -1,4 +1,4 @@
-//! Ranges of a view of a sum type of two variants that are copied.
+//! Copies of ranges of rows of a view of a sum type of two variants.
 ghost use Rattle.std.specs.Prelude.{◌-◌, ◌≤◌, length, take, drop, OnOk, IfErr};
 ghost use Rattle.columnar_core.specs.Format.{IsSound};
 ghost use Rattle.columnar_core.specs.Change.{Copied, Refused};
@@ -14,8 +14,11 @@ use columnar_core::words::Words;
 use columnar_sums::discriminant::{Discriminant, Variants};
 use std::ops::Range;
 
-/// Of each variant the values of its rows in the range are copied, and then the variants. Where one of the three refuses,
-/// none has taken any row.
+/// Copies the values of the range's rows for each variant, then the variants. If one of the three copies fails, all
+/// three columns keep their old rows.
+///
+/// # Requires
+/// The column and the view are well-formed, and the range is within the view.
 pub fn extend_dual<
     V: Index + Len + Copy,
     W: Index + Len + Copy,

@@ -1,4 +1,4 @@
-//! Columns of a sum type of two variants that are made of an earlier form.
+//! Columns of a sum type of two variants that are made from an earlier form.
 ghost use Rattle.std.specs.Prelude.{IfOk, IfErr};
 ghost use Rattle.columnar_core.specs.Format.{IsSound};
 ghost use Rattle.columnar_core.specs.Earlier.{IsMadeOf, IsTrueOfNew};
@@ -10,7 +10,11 @@ use columnar_core::fault::GrowError;
 use columnar_sums::discriminant::Discriminant;
 use std::alloc::Global;
 
-/// Both columns made of their earlier forms; the variants stay, and the rows are the same. It is refused as the columns are.
+/// Makes both columns from their earlier forms. The variants stay, and the rows are the same. Fails as the conversion
+/// of a column fails.
+///
+/// # Requires
+/// The earlier column is well-formed.
 pub fn from_old_dual<SC: Earlier + Drop, TC: Earlier>(
     alloc: Global,
     firsts: SC::Old,

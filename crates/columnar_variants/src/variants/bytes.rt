@@ -1,4 +1,4 @@
-//! The bytes of a column of any number of variants: the slices of the columns, and then those of the variants.
+//! The bytes of a column of any number of variants: the slices of the columns, then those of the variants.
 ghost use Rattle.std.specs.Prelude.{refl};
 ghost use Rattle.columnar_core.specs.Format.{slices_of};
 ghost use Rattle.columnar_core.specs.TwoPartsLaws.{two_counted};
@@ -24,8 +24,9 @@ type Forms = Discriminant<Vec<u8>, Vec<u64>>;
 
 type FormsView<'s> = Discriminant<&'s [u8], View<'s, u64>>;
 
-/// The rules of the columns, those of the variants, then that each variant is below the number of columns, then that each column
-/// has as many values as there are rows of its variant: `Variant` and `Parts`, at the first slice.
+/// Checks the rules of the columns, those of the variants, then that each variant is less than the number of columns,
+/// then that each column has as many values as there are rows of its variant. The last two are reported as `Variant`
+/// and `Parts`, at the first slice.
 impl<B: StoredBank, CVar: VariantBytes, COff: Words> Stored for Variants<B, CVar, COff> {
     ghost storable = { variants_storable B.bank B.storable discriminant_storable };
 
@@ -110,7 +111,7 @@ impl<'s, B: AsBytesBank<'s>> AsBytes<'s> for Variants<B, &'s [u8], View<'s, u64>
     }
 }
 
-/// Where memory is refused for a part, those that were loaded are dropped.
+/// If an allocation for a part fails, the parts already copied are dropped.
 impl<B: BytesBank + Drop> ContainerBytes for Variants<B, Vec<u8>, Vec<u64>> {
     fn byte_slice(&self, index: usize) -> ByteSlice<'_> {
         let count = B::count_slices();

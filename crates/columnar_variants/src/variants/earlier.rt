@@ -1,4 +1,4 @@
-//! A column of any number of variants that is made of an earlier form.
+//! Columns of any number of variants that are made from an earlier form.
 ghost use Rattle.columnar_variants.specs.BankEarlierLaws.{earlier_variants};
 
 use super::Variants;
@@ -7,7 +7,7 @@ use columnar_core::earlier::Earlier;
 use columnar_core::fault::GrowError;
 use std::alloc::Global;
 
-/// The earlier form is that of the columns; the variants stay.
+/// The earlier form has the earlier columns; the variants stay the same.
 impl<B: EarlierBank> Earlier for Variants<B, Vec<u8>, Vec<u64>> {
     type Old = Variants<B::Old, Vec<u8>, Vec<u64>>;
 

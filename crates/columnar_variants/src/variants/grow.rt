@@ -1,4 +1,4 @@
-//! What an owned column of any number of variants does besides taking rows.
+//! Operations of owned columns of any number of variants other than pushes.
 ghost use Rattle.columnar_sums.specs.DiscriminantLaws.{discriminant_lawful};
 ghost use Rattle.columnar_variants.specs.LawfulVariantLaws.{variants_lawful};
 
@@ -18,7 +18,7 @@ impl<B: ClearBank> Clear for Variants<B, Vec<u8>, Vec<u64>> {
     }
 }
 
-/// Of each variant the values of the first `n` rows stay.
+/// Each column keeps the values of the first `n` rows.
 impl<B: CutBank> Truncate for Variants<B, Vec<u8>, Vec<u64>> {
     ghost lawful = { variants_lawful B.bank B.is_bank B.lawful discriminant_lawful };
 
@@ -29,7 +29,7 @@ impl<B: CutBank> Truncate for Variants<B, Vec<u8>, Vec<u64>> {
     }
 }
 
-impl<B: StorageBank> Storage for Variants<B, Vec<u8>, Vec<u64>> {
+impl<B: StorageBank + CutBank + ClearBank + Drop> Storage for Variants<B, Vec<u8>, Vec<u64>> {
     fn empty(alloc: Global) -> Self {
         let columns = B::empty_columns(alloc);
         let indexes = <Discriminant<Vec<u8>, Vec<u64>> as Storage>::empty(alloc);

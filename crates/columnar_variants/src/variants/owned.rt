@@ -1,10 +1,11 @@
-//! The views of a column of any number of variants, and ranges of them that are copied.
+//! Views of a column of any number of variants, and copies of ranges of their rows.
 ghost use Rattle.std.specs.Prelude.{◌≡◌};
 ghost use Rattle.columnar_variants.specs.BankLaws.{same_variants};
 
 use super::Variants;
 use crate::bank::copy::ExtendBank;
-use crate::bank::grow::{CutBank, ReserveBank, StorageBank};
+use crate::bank::few::FewColumns;
+use crate::bank::grow::{ClearBank, CutBank, ReserveBank, StorageBank};
 use crate::bank::owned::{BorrowBank, ReborrowBank};
 use crate::bank::push::PushCase;
 use crate::bank::{ColumnBank, LenBank};
@@ -19,8 +20,8 @@ use columnar_core::traits::Len;
 use columnar_core::view::View;
 use std::ops::Range;
 
-/// Of each variant the values of its rows in the range are copied, and then the variants; all or none.
-impl<'x, V: LenBank + Copy, B: StorageBank + ExtendBank<V>> ExtendFrom<
+/// The values of the range's rows are copied for each variant, then the variants; all or none.
+impl<'x, V: LenBank + Copy, B: ExtendBank<V> + CutBank> ExtendFrom<
     Variants<V, &'x [u8], View<'x, u64>>,
 > for Variants<B, Vec<u8>, Vec<u64>> {
     fn add_room(
@@ -83,6 +84,10 @@ impl<
     B: BorrowBank<'a>
         + Clone
         + StorageBank
+        + CutBank
+        + ClearBank
+        + Drop
+        + FewColumns
         + PushCase<<B as BorrowBank<'a>>::Ref>
         + ExtendBank<<B as BorrowBank<'a>>::Borrowed>,
 > Container<'a> for Variants<B, Vec<u8>, Vec<u64>> {}
@@ -104,12 +109,15 @@ where
     }
 }
 
-/// Rows of one of several variants that can be read for a shorter time.
+/// Rows of a sum type that can be given a shorter lifetime.
 pub trait ReborrowCases<'b>: Cases {
-    /// The row for that time.
+    /// The row with that lifetime.
     type ShortCases: Cases;
 
-    /// The same row.
+    /// Returns the same row.
+    ///
+    /// # Requires
+    /// The row is valid.
     fn reborrow_cases(self) -> Self::ShortCases
         requires { Self.valid self }
         ensures variant { Self.ShortCases.variant result ≡ Self.variant self }

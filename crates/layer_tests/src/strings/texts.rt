@@ -10,7 +10,7 @@ use columnar_core::byte_slice::ByteSlice;
 use columnar_core::container::{Borrow, ContainerBytes, Storage, Truncate};
 use columnar_core::offsets::{Offsets, PushAfter};
 use columnar_core::traits::{Column, Index, Item, Len, Push, PushRef};
-use columnar_strings::string::Strings;
+use columnar_strings::string::{Quoted, Shown, Strings};
 use std::alloc::Global;
 use std::boxed::BoxedStr;
 use std::fmt::{self, Display, Formatter, Write};
@@ -22,14 +22,14 @@ type Texts = Strings<Vec<u64>, Vec<u8>>;
 
 type Rows = (Vec<u64>, Texts);
 
-// The rows 0, "hello" and 1, "world", written
+// The rows (0, "hello") and (1, "world"), written.
 static HELLO: [u8; 80] = [
     32, 0, 0, 0, 0, 0, 0, 0, 48, 0, 0, 0, 0, 0, 0, 0, 64, 0, 0, 0, 0, 0, 0, 0, 74, 0, 0, 0, 0, 0,
     0, 0, 0, 0, 0, 0, 0, 0, 0, 0, 1, 0, 0, 0, 0, 0, 0, 0, 5, 0, 0, 0, 0, 0, 0, 0, 10, 0, 0, 0, 0,
     0, 0, 0, 0x68, 0x65, 0x6c, 0x6c, 0x6f, 0x77, 0x6f, 0x72, 0x6c, 0x64, 0, 0, 0, 0, 0, 0,
 ];
 
-// Has the last string these bytes, read through a reference?
+// Tests whether the last string, read through a reference, has these bytes.
 fn ends_with<'a>(column: &'a Texts, bytes: &[u8]) -> bool
     requires { IsSound ⟦<Texts as Column>⟧.format (⟦<Texts as Column>⟧.content column.now) }
 {
@@ -64,7 +64,7 @@ fn bounds_end_at_the_bytes(rt: HostRuntime) -> Result<(), Fail> {
     Ok(())
 }
 
-// Pushes texts and bytes by value, behind a reference and by reference; which of them are taken?
+// Pushes texts and bytes by value, as references and by reference; returns which succeed.
 fn takes_each<BC: Offsets + PushAfter, VC: Truncate + PushRef<u8>>(
     texts: &mut Strings<BC, VC>,
     bytes: &[u8],
@@ -130,7 +130,7 @@ fn a_copy_moves_the_bounds(rt: HostRuntime) -> Result<(), Fail> {
     Ok(())
 }
 
-// Shows the beginning of a text, and fails.
+// Formats a prefix of a text, and then fails.
 struct Broken;
 
 impl Display for Broken {
@@ -151,7 +151,26 @@ fn a_value_that_fails_leaves_nothing(rt: HostRuntime) -> Result<(), Fail> {
     Ok(())
 }
 
-// What a stash writes to which two rows are pushed by reference
+#[test]
+fn shown_values_are_pushed(rt: HostRuntime) -> Result<(), Fail> {
+    let mut texts = Texts::empty(rt.alloc());
+    holds!(rt; takes(&mut texts, Shown(&42u64)));
+    holds!(rt; takes_ref(&mut texts, &Shown(&"ab")));
+    equal!(rt; texts.bounds.as_slice(), [2, 4].as_slice());
+    equal!(rt; texts.values.as_slice(), b"42ab".as_slice());
+    Ok(())
+}
+
+#[test]
+fn strings_are_printed_as_text(rt: HostRuntime) -> Result<(), Fail> {
+    let text = format!(in rt.alloc(); "{} {:?}", Quoted(b"c\"d"), (1u8, Quoted(b"c\xff")))?;
+    equal!(rt; text.as_str(), "\"c\\\"d\" (1, b\"c\\xff\")");
+    let text = format!(in rt.alloc(); "{:?}", Quoted("\u{e9}\n".as_bytes()))?;
+    equal!(rt; text.as_str(), "\"\u{e9}\\n\"");
+    Ok(())
+}
+
+// Returns what a stash writes after two rows are pushed by reference.
 fn written<T: Item, C: ContainerBytes + Storage + PushRef<T>>(
     alloc: Global,
     first: &T,

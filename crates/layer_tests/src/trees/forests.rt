@@ -1,4 +1,4 @@
-// Every forest of up to five nodes: pushed, written, opened and read back.
+// Every forest of up to five nodes: pushed, written, opened and read again.
 ghost use Rattle.columnar_core.specs.Format.{IsSound};
 
 use super::grove::Grove;
@@ -16,11 +16,11 @@ type Node<'a> = TreesRef<View<'a, u64>, View<'a, u64>>;
 
 type Trees64<'a> = Trees<View<'a, u64>, View<'a, u64>>;
 
-// How many forests have 0, 1, .. nodes
+// The number of forests with 0, 1, .. nodes.
 pub(super) static FORESTS: [usize; 6] = [1, 1, 2, 5, 14, 42];
 
-// The forest of a code: from its lowest bit on, a set bit begins a tree, and another ends one. A tree's value is the
-// number of trees that end before it. None where the code is no forest's.
+// Returns the forest of a code: from its lowest bit on, a set bit starts a tree, and a clear bit ends one. A tree's
+// value is the number of trees that end before it. `None` if no forest has the code.
 pub(super) fn forest(
     alloc: Global,
     code: u64,
@@ -51,7 +51,7 @@ pub(super) fn forest(
     Ok(if above.is_empty() { Some(trees) } else { None })
 }
 
-// Is the tree below a node this one, of at most so many levels?
+// Tests whether the tree below a node is this one, with at most `levels` levels.
 fn is_tree<'a>(node: Node<'a>, tree: &Tree<u64>, levels: usize) -> bool
     requires { ⟦<Node<'a> as Item>⟧.valid node }
 {
@@ -66,7 +66,7 @@ fn is_tree<'a>(node: Node<'a>, tree: &Tree<u64>, levels: usize) -> bool
     true
 }
 
-// Are these the same tree, of at most so many levels?
+// Tests whether these are the same tree, with at most `levels` levels.
 pub(super) fn same_trees(one: &Tree<u64>, other: &Tree<u64>, levels: usize) -> bool {
     if levels == 0 || one.value != other.value || one.kids.len() != other.kids.len() {
         return false;
@@ -79,7 +79,7 @@ pub(super) fn same_trees(one: &Tree<u64>, other: &Tree<u64>, levels: usize) -> b
     true
 }
 
-// A column of copies of these trees
+// Creates a column of copies of these trees.
 pub(super) fn planted(alloc: Global, trees: &[Tree<u64>]) -> Result<Grove<Vec<u64>>, Fail> {
     let mut grove = Grove::new(alloc)?;
     for i in 0..trees.len() {
@@ -89,7 +89,7 @@ pub(super) fn planted(alloc: Global, trees: &[Tree<u64>]) -> Result<Grove<Vec<u6
     Ok(grove)
 }
 
-// Are the rows of a view these trees?
+// Tests whether the rows of a view are these trees.
 fn are_trees<'a>(view: Trees64<'a>, trees: &[Tree<u64>]) -> bool
     requires { IsSound ⟦<Trees64<'a> as Column>⟧.format (⟦<Trees64<'a> as Column>⟧.content view) }
 {
@@ -102,7 +102,7 @@ fn are_trees<'a>(view: Trees64<'a>, trees: &[Tree<u64>]) -> bool
     view.len() == trees.len()
 }
 
-// Are trees read back, from a column and from the bytes that are written of it?
+// Tests whether trees read the same from a column and from its written bytes.
 fn are_read_back(alloc: Global, trees: &[Tree<u64>]) -> Result<bool, Fail> {
     let grove = planted(alloc, trees)?;
     let Some(opened) = grove.reopened(alloc) else {

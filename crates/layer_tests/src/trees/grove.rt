@@ -1,4 +1,4 @@
-// A column of trees that is well formed, how it is read, and what the tests share.
+// A well-formed column of trees, its reads, and shared code of the tests.
 ghost use Rattle.std.specs.Prelude.{◌≡◌, IfSome, IsTrue};
 ghost use Rattle.columnar_core.specs.Format.{IsSound, representable};
 ghost use Rattle.columnar_bytes.specs.Stashes.{stash_content};
@@ -17,7 +17,7 @@ use std::io::{self};
 use test_support::columns::row_at;
 use test_support::stores::is_written;
 
-// Trees with values in a column of type TC
+// Trees with values in a column of type TC.
 #[derive(Drop)]
 pub(super) struct Grove<TC: Column> {
     pub(super) trees: Trees<TC>,
@@ -25,7 +25,7 @@ pub(super) struct Grove<TC: Column> {
 }
 
 impl<TC: Column> Grove<TC> {
-    // No trees yet
+    // Creates a grove without trees.
     pub(super) fn new(alloc: Global) -> Result<Self, GrowError>
     where
         TC: Storage,
@@ -34,7 +34,7 @@ impl<TC: Column> Grove<TC> {
         Ok(Grove { trees })
     }
 
-    // Adds a tree
+    // Appends a tree.
     pub(super) fn push<T: Item + Drop>(&mut self, tree: Tree<T>) -> Result<(), GrowError>
     where
         TC: PushRef<T> + Truncate,
@@ -43,7 +43,7 @@ impl<TC: Column> Grove<TC> {
         self.trees.push_tree(tree)
     }
 
-    // Takes all trees away
+    // Removes all trees.
     pub(super) fn clear(&mut self)
     where
         TC: Clear,
@@ -51,7 +51,7 @@ impl<TC: Column> Grove<TC> {
         self.trees.clear();
     }
 
-    // The root of tree `index`, where there is one
+    // Returns the root of tree `index`, if there is one.
     pub(super) fn root<'a>(&'a self, index: usize) -> Option<<Trees<TC> as Borrow<'a>>::Ref>
     where
         TC: Borrow<'a>,
@@ -60,7 +60,7 @@ impl<TC: Column> Grove<TC> {
         row_at(&self.trees.borrow(), index)
     }
 
-    // Are these the words of its store?
+    // Tests whether these are the words of its store.
     pub(super) fn writes(&self, words: &[u64]) -> bool
     where
         TC: ContainerBytes,
@@ -69,7 +69,7 @@ impl<TC: Column> Grove<TC> {
         is_written(&self.trees, words)
     }
 
-    // What is written of it, opened, where it is written
+    // Writes it and opens the result, if it can be written.
     pub(super) fn reopened(&self, alloc: Global) -> Option<Stash<Trees<TC>, Vec<u8>>>
     where
         TC: ContainerBytes,
@@ -87,7 +87,7 @@ impl<TC: Column> Grove<TC> {
     }
 }
 
-// Kid `index` of a node, where there is one
+// Returns child `index` of a node, if there is one.
 pub(super) fn kid_of<V: Column + Copy, B: NodeBounds + Copy>(
     node: Option<TreesRef<V, B>>,
     index: usize,
@@ -101,7 +101,7 @@ pub(super) fn kid_of<V: Column + Copy, B: NodeBounds + Copy>(
     }
 }
 
-// The value of a node and the number of its kids
+// Returns the value of a node and its number of children.
 pub(super) fn node_of<V: Index + Copy, B: NodeBounds + Copy>(
     node: Option<TreesRef<V, B>>,
 ) -> Option<(V::Ref, usize)>
@@ -113,7 +113,7 @@ pub(super) fn node_of<V: Index + Copy, B: NodeBounds + Copy>(
     }
 }
 
-// A tree of this value and these kids
+// Creates a tree of this value and these children.
 pub(super) fn tree<T: Drop, const N: usize>(
     alloc: Global,
     value: T,
@@ -123,14 +123,14 @@ pub(super) fn tree<T: Drop, const N: usize>(
     Ok(Tree { value, kids })
 }
 
-// 10 with kids 20 and 30, where 20 has kid 40
+// Creates 10 with children 20 and 30; 20 has child 40.
 pub(super) fn ten(alloc: Global) -> Result<Tree<u64>, GrowError> {
     let twenty = tree(alloc, 20, [tree(alloc, 40, [])?])?;
     let thirty = tree(alloc, 30, [])?;
     tree(alloc, 10, [twenty, thirty])
 }
 
-// 1 with kids 2 and 3; 100; 200 with kid 300
+// Creates 1 with children 2 and 3; 100; 200 with child 300.
 pub(super) fn three(alloc: Global) -> Result<Grove<Vec<u64>>, GrowError> {
     let mut grove = Grove::new(alloc)?;
     let kids = [tree(alloc, 2, [])?, tree(alloc, 3, [])?];

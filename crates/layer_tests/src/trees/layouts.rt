@@ -1,4 +1,4 @@
-// Every layout of up to five nodes is refused that is no forest's; what has lost or got a word is, too.
+// Every layout of up to five nodes is rejected unless a forest has it; so is one with a word more or less.
 use super::forests::FORESTS;
 use columnar_core::bytes::Check;
 use columnar_core::fault::StoreFault;
@@ -8,7 +8,7 @@ use std::alloc::{AllocError, Global};
 use std::test::Fail;
 use test_support::equal;
 
-// The lowest digits of a number
+// Returns the lowest digits of a number.
 fn digits(out: &mut Vec<u64>, number: u64, base: u64, count: u32) -> Result<(), AllocError> {
     out.clear();
     let mut left = number;
@@ -19,7 +19,7 @@ fn digits(out: &mut Vec<u64>, number: u64, base: u64, count: u32) -> Result<(), 
     Ok(())
 }
 
-// All rising lists of numbers below `count`
+// Returns all rising lists of numbers below `count`.
 fn rising(alloc: Global, count: u32) -> Result<Vec<Vec<u64>>, AllocError> {
     let mut lists = Vec::new(alloc);
     for number in 0..2u64.saturating_pow(count) {
@@ -36,7 +36,7 @@ fn rising(alloc: Global, count: u32) -> Result<Vec<Vec<u64>>, AllocError> {
     Ok(lists)
 }
 
-// What a test says of these groups and bounds, of so many values
+// Returns the verdict on these groups and bounds, with these values.
 fn judged(groups: &[u64], bounds: &[u64], values: &[u64]) -> Result<(), StoreFault> {
     let layout = Trees {
         groups: View::from_slice(groups),
@@ -46,8 +46,8 @@ fn judged(groups: &[u64], bounds: &[u64], values: &[u64]) -> Result<(), StoreFau
     layout.check()
 }
 
-// How many layouts of so many nodes are accepted, among all bounds and all rising groups of numbers up to that one; None
-// where another rule than that of trees is named
+// Counts the accepted layouts of this number of nodes, over all bounds and all rising groups of numbers up to it;
+// `None` if a rule other than that of trees is reported.
 fn accepted(alloc: Global, nodes: u32) -> Result<Option<usize>, Fail> {
     let count = nodes.saturating_add(1);
     let groups = rising(alloc, count)?;
@@ -87,7 +87,7 @@ fn other_lengths(rt: HostRuntime) -> Result<(), Fail> {
                 let wanted = match (g, b, v) {
                     // no trees; the first two; all three
                     (1, 1, 0) | (3, 5, 4) | (4, 7, 6) => Ok(()),
-                    // the first alone
+                    // only the first
                     (2, 4, 3) => Ok(()),
                     _ => Err(StoreFault::Tree(0)),
                 };

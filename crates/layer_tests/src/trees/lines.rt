@@ -1,4 +1,4 @@
-// Trees of a million nodes, in one line and side by side: without a deep stack.
+// Trees of a million nodes, in a line and as siblings, handled without a deep stack.
 ghost use Rattle.std.specs.Prelude.{IfSome};
 
 use super::grove::Grove;
@@ -11,7 +11,7 @@ use test_support::{equal, holds};
 
 const MILLION: usize = 1_000_000;
 
-// So many nodes of one value, each the one kid of the next
+// Creates nodes of one value, each the only child of the previous one.
 pub(super) fn line<T: Copy>(alloc: Global, value: T, nodes: usize) -> Result<Tree<T>, AllocError> {
     let mut tree = Tree {
         value,
@@ -25,7 +25,7 @@ pub(super) fn line<T: Copy>(alloc: Global, value: T, nodes: usize) -> Result<Tre
     Ok(tree)
 }
 
-// A node of one value with so many kids of it
+// Creates a node of one value with `kids` children of that value.
 pub(super) fn broad<T: Copy>(alloc: Global, value: T, kids: usize) -> Result<Tree<T>, AllocError> {
     let mut all = Vec::new(alloc);
     for _ in 0..kids {
@@ -35,7 +35,7 @@ pub(super) fn broad<T: Copy>(alloc: Global, value: T, kids: usize) -> Result<Tre
     Ok(Tree { value, kids: all })
 }
 
-// How many nodes a walk meets that goes down by the last kid of each, up to so many
+// Counts the nodes on the path through each node's last child, up to `most`.
 fn walked<V: Column + Copy, B: NodeBounds + Copy>(root: TreesRef<V, B>, most: usize) -> usize
     requires { ⟦<TreesRef<V, B> as Item>⟧.valid root }
 {
@@ -70,7 +70,7 @@ fn a_line_of_a_million_nodes(rt: HostRuntime) -> Result<(), Fail> {
     Ok(())
 }
 
-// Has a node this value and so many kids, each of the same value and without kids?
+// Tests whether a node has this value and this many children, each with the same value and no children.
 fn is_broad<T: Item + PartialEq + Copy, V: Index<Ref = T> + Copy, B: NodeBounds + Copy>(
     node: Option<TreesRef<V, B>>,
     value: T,

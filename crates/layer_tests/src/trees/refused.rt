@@ -1,5 +1,5 @@
-// Each call that takes memory, with whatever request for memory refused: it is done, or nothing has changed. A request
-// that is refused anywhere else in a test ends it.
+// Every call that allocates, whichever allocation fails: it succeeds, or changes nothing. An allocation that fails
+// elsewhere ends the test.
 ghost use Rattle.std.specs.Prelude.{IsTrue};
 ghost use Rattle.columnar_core.specs.Format.{representable};
 
@@ -23,18 +23,18 @@ use test_support::{equal, holds};
 
 type Column = Trees<Vec<u64>>;
 
-// The store of 1 with kids 2 and 3; 100; 200 with kid 300
+// The store of 1 with children 2 and 3; 100; 200 with child 300.
 static THREE: [u64; 21] = [
     32, 64, 120, 168, 0, 3, 4, 6, 0, 3, 3, 3, 4, 6, 6, 1, 2, 3, 100, 200, 300,
 ];
 
-// The same, and 10 with kids 20 and 30, where 20 has kid 40
+// The same, and 10 with children 20 and 30; 20 has child 40.
 static FOUR: [u64; 30] = [
     32, 72, 160, 240, 0, 3, 4, 6, 10, 0, 3, 3, 3, 4, 6, 6, 9, 10, 10, 10, 1, 2, 3, 100, 200, 300,
     10, 20, 30, 40,
 ];
 
-// A tree is pushed, or refused and then pushed
+// Tests that a push of a tree succeeds, or fails without a change and then succeeds.
 fn push_keeps(grove: &mut Grove<Vec<u64>>, once: Tree<u64>, again: Tree<u64>) -> bool {
     match grove.push(once) {
         Ok(()) => {}
@@ -83,7 +83,7 @@ fn copies(rt: HostRuntime) -> Result<(), Fail> {
     Ok(())
 }
 
-// A sum needs no memory to be right, nor does a drop
+// A sum is right and a drop succeeds without memory.
 #[test]
 fn sums_and_drops(rt: HostRuntime) -> Result<(), Fail> {
     let alloc = rt.alloc();
@@ -109,7 +109,7 @@ fn loads(rt: HostRuntime) -> Result<(), Fail> {
     Ok(())
 }
 
-// The sizes of a type's elements are given, or none
+// Tests that the element sizes of a type are returned, or none.
 fn sizes_are<C: Stored>(alloc: Global, wanted: &[usize]) -> bool
     requires { IsTrue (representable C.format) }
 {

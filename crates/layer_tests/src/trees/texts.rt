@@ -1,4 +1,4 @@
-// Trees of numbers and texts: a column of trees over a pair that has strings in it.
+// Trees of numbers and texts: a column of trees over a pair that contains strings.
 use super::grove::{Grove, kid_of, node_of, tree};
 use columnar_strings::string::Strings;
 use std::test::Fail;

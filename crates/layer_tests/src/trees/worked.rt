@@ -30,12 +30,12 @@ fn one_tree(rt: HostRuntime) -> Result<(), Fail> {
 fn stores_that_are_no_trees(rt: HostRuntime) -> Result<(), Fail> {
     let alloc = rt.alloc();
     for (words, wanted) in [
-        // the kid of 20 is no one's
+        // the child of 20 has no parent
         (
             [32, 48, 88, 120, 0, 4, 0, 3, 3, 3, 4, 10, 20, 30, 40],
             (18, 0),
         ),
-        // a tree begins where none does
+        // a tree starts at the wrong place
         (
             [32, 48, 88, 120, 0, 3, 0, 3, 4, 4, 4, 10, 20, 30, 40],
             (18, 0),
@@ -45,7 +45,7 @@ fn stores_that_are_no_trees(rt: HostRuntime) -> Result<(), Fail> {
             [32, 48, 88, 120, 0, 4, 0, 4, 3, 4, 4, 10, 20, 30, 40],
             (18, 0),
         ),
-        // groups are no whole words, bounds, values
+        // incomplete words in groups, bounds, values
         (
             [32, 44, 88, 120, 0, 4, 0, 3, 4, 4, 4, 10, 20, 30, 40],
             (8, 0),
@@ -58,7 +58,7 @@ fn stores_that_are_no_trees(rt: HostRuntime) -> Result<(), Fail> {
             [32, 48, 88, 116, 0, 4, 0, 3, 3, 3, 4, 10, 20, 30, 40],
             (8, 2),
         ),
-        // a value less than nodes
+        // one value too few
         (
             [32, 48, 88, 112, 0, 4, 0, 3, 4, 4, 4, 10, 20, 30, 40],
             (18, 0),
@@ -133,7 +133,7 @@ fn sums(rt: HostRuntime) -> Result<(), Fail> {
     Ok(())
 }
 
-// The values of these are multiples of 3, level by level, or they are refused
+// The values are multiples of 3, level by level, or the push fails.
 #[test]
 fn a_refused_value(rt: HostRuntime) -> Result<(), Fail> {
     let alloc = rt.alloc();

@@ -1,4 +1,4 @@
-// Ranges of rows that are copied: which values and distances are stored, by worked rows.
+// Copies of ranges of rows: which values and distances are stored, by worked rows.
 
 use super::{RETURNS, Two, keeps};
 use crate::rows::numbers;
@@ -9,7 +9,7 @@ use std::test::Fail;
 use test_support::columns::{copied, reads};
 use test_support::holds;
 
-// The rows 7, 7, 7, of which the first two are both stored
+// The rows 7, 7, 7, of which the first two are stored as values.
 static TWO_SEVENS: [u64; 11] = [48, 48, 48, 64, 80, 81, 3, 3, 7, 7, 0];
 
 #[test]
@@ -72,7 +72,7 @@ fn rows_are_copied_after_the_same_values(rt: HostRuntime) -> Result<(), Fail> {
     Ok(())
 }
 
-// The source stored its last ten anew; after the copied thirty it stands one back.
+// The source stores its last ten as a new value; after the copied thirty its distance is 1.
 #[test]
 fn rows_are_copied_no_further_back(rt: HostRuntime) -> Result<(), Fail> {
     let source = numbers::<Two>(rt.alloc(), [10, 20, 10, 30, 10].as_slice())?;

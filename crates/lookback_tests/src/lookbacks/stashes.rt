@@ -1,4 +1,4 @@
-// A stash over distances: grown, cut, written, opened, copied, and told in a list of commands.
+// A stash of lookbacks: grown, truncated, written, opened, copied, and changed by a list of commands.
 
 use super::RETURNS;
 use crate::rows::numbers;
@@ -52,7 +52,7 @@ fn opened_bytes_grow(rt: HostRuntime) -> Result<(), Fail> {
     Ok(())
 }
 
-// Left are 10, 20, 10 and 20
+// The rows 10, 20, 10 and 20 remain.
 #[test]
 fn a_list_of_commands(rt: HostRuntime) -> Result<(), Fail> {
     let source = numbers::<Held>(rt.alloc(), RETURNS.as_slice())?;

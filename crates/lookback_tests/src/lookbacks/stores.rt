@@ -1,4 +1,4 @@
-// Worked stores of distances, and which rule others break at which slice.
+// Worked stores of lookbacks, and the rules that others break, with their slices.
 
 use super::{RETURNS, Two};
 use crate::runs::Backs;
@@ -62,7 +62,7 @@ fn each_distance_is_below_the_values_before_it(rt: HostRuntime) -> Result<(), Fa
     Ok(())
 }
 
-// The last row stands two before the last value
+// The last row refers to the value two before the last one.
 #[test]
 fn a_distance_may_be_further_than_a_push_looks(rt: HostRuntime) -> Result<(), Fail> {
     let alloc = rt.alloc();
@@ -77,7 +77,7 @@ fn a_distance_may_be_further_than_a_push_looks(rt: HostRuntime) -> Result<(), Fa
     Ok(())
 }
 
-// Of two values that are the same, the last one is meant.
+// If two values are equal, the row refers to the last one.
 #[test]
 fn the_least_distance_is_kept(rt: HostRuntime) -> Result<(), Fail> {
     let words = [48, 48, 48, 64, 88, 88, 7, 3, 7, 7, 9];

@@ -1,4 +1,4 @@
-// Texts that are kept as how far back the same one stands.
+// Texts that are stored as the distance back to the same text.
 ghost use Rattle.std.specs.Prelude.{IfOk};
 ghost use Rattle.columnar_core.specs.Format.{IsSound};
 
@@ -11,7 +11,7 @@ use std::test::Fail;
 use test_support::columns::row_at;
 use test_support::equal;
 
-// As many names, all different, and then each once more, in the same order or in reverse
+// Returns `count` different names, and then each again, in the same order or in reverse.
 fn names(alloc: Global, count: u64, is_reversed: bool) -> Result<Vec<String>, Fail> {
     let mut texts = Vec::new(alloc);
     for i in 0..count {
@@ -24,7 +24,7 @@ fn names(alloc: Global, count: u64, is_reversed: bool) -> Result<Vec<String>, Fa
     Ok(texts)
 }
 
-// A column of these texts
+// Creates a column of these texts.
 fn column_of<'x, C: Storage + Push<&'x String> + Drop>(
     alloc: Global,
     rows: &'x [String],
@@ -38,7 +38,7 @@ fn column_of<'x, C: Storage + Push<&'x String> + Drop>(
     Ok(column)
 }
 
-// Has a view these texts, and no other?
+// Tests whether a view has exactly these texts.
 fn reads_texts<'a, V: Index<Ref = &'a [u8]> + Len>(view: &V, rows: &[String]) -> bool
     requires { IsSound V.format (V.content view.now) }
 {
@@ -50,7 +50,7 @@ fn reads_texts<'a, V: Index<Ref = &'a [u8]> + Len>(view: &V, rows: &[String]) ->
     view.len() == rows.len()
 }
 
-// How many of the texts are stored, where all of them are read back
+// Counts the stored texts, if all of them read correctly.
 fn stored<const N: u8>(alloc: Global, rows: &[String]) -> Result<Option<usize>, Fail> {
     let column = column_of::<Lookbacks<Strings, N>>(alloc, rows)?;
     if reads_texts(&column.borrow(), rows) {
@@ -60,7 +60,7 @@ fn stored<const N: u8>(alloc: Global, rows: &[String]) -> Result<Option<usize>, 
     }
 }
 
-// Each comes again after 299 others.
+// Each name occurs again after 299 others.
 #[test]
 fn names_that_come_again_in_their_order(rt: HostRuntime) -> Result<(), Fail> {
     let rows = names(rt.alloc(), 300, false)?;
@@ -69,7 +69,7 @@ fn names_that_come_again_in_their_order(rt: HostRuntime) -> Result<(), Fail> {
     Ok(())
 }
 
-// Of those that come again the first 255, or 3, are among the last values; each after them is stored anew.
+// Among the repeated names, the first 255, or 3, are among the last values; each one after them is stored again.
 #[test]
 fn names_that_come_again_in_reverse(rt: HostRuntime) -> Result<(), Fail> {
     let rows = names(rt.alloc(), 300, true)?;

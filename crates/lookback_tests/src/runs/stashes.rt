@@ -1,4 +1,4 @@
-// Stashes of runs and of distances: a stash is a column, opened bytes or aligned bytes.
+// Stashes of repeats and of lookbacks: a stash is a column, opened bytes or aligned bytes.
 ghost use Rattle.columnar_core.specs.Format.{IsSound};
 ghost use Rattle.columnar_bytes.specs.Stashes.{stash_content};
 
@@ -17,7 +17,7 @@ use test_support::stores::refusal;
 
 type Far = Lookbacks<Vec<u64>, 255>;
 
-// A stash of numbers that are kept once a run
+// A stash of numbers whose runs are stored once.
 #[derive(Drop)]
 pub(crate) struct RunStash {
     stash: Stash<Held, Vec<u8>>,
@@ -25,7 +25,7 @@ pub(crate) struct RunStash {
 }
 
 impl RunStash {
-    // The rule that a store breaks, and where, if there is memory to test it
+    // Returns the rule that a store breaks, and the slice, if there is memory for the test.
     pub(crate) fn refusal(alloc: Global, words: &[u64]) -> Option<(u8, usize)> {
         refusal::<Held>(alloc, words).ok()
     }
@@ -36,21 +36,21 @@ impl RunStash {
         }
     }
 
-    // The stash of words that are accepted
+    // Opens accepted words.
     pub(crate) fn opened(alloc: Global, words: &[u64]) -> Option<RunStash> {
         Some(RunStash {
             stash: opened(alloc, words)?,
         })
     }
 
-    // What the stash of a column writes, opened
+    // Opens what the stash of a column writes.
     pub(crate) fn reopened(alloc: Global, column: Runs) -> Option<RunStash> {
         Some(RunStash {
             stash: reopened(alloc, &Stash::<_, Vec<u8>>::Typed(column.column))?,
         })
     }
 
-    // The column that it is loaded as
+    // Loads it as a column.
     pub(crate) fn loaded(&self, alloc: Global) -> Result<Runs, Fail> {
         Ok(Runs {
             column: loaded(alloc, &self.stash)?,
@@ -61,17 +61,17 @@ impl RunStash {
         self.stash.push(item).is_ok()
     }
 
-    // Is an item taken through a reference?
+    // Pushes a reference to an item; returns whether it succeeds.
     pub(crate) fn takes_lent(&mut self, item: &u64) -> bool {
         self.stash.push(item).is_ok()
     }
 
-    // Copies these rows of a column after its own
+    // Copies these rows of a column.
     pub(crate) fn copies(&mut self, source: &Runs, start: usize, end: usize) -> bool {
         stash_copies(&mut self.stash, source.column.borrow(), start, end)
     }
 
-    // Copies these rows after those of a column
+    // Copies these rows to a column.
     pub(crate) fn is_copied(&self, column: &mut Runs, start: usize, end: usize) -> bool {
         copied(&mut column.column, self.stash.borrow(), start, end)
     }
@@ -100,7 +100,7 @@ impl RunStash {
         self.stash.length_in_bytes()
     }
 
-    // Has it these rows, and no other?
+    // Tests whether it has exactly these rows.
     pub(crate) fn has(&self, rows: &[u64]) -> bool {
         has(&self.stash, rows)
     }
@@ -109,13 +109,13 @@ impl RunStash {
         writes(&self.stash, words)
     }
 
-    // Does its clone write these words?
+    // Tests whether its clone writes these words.
     pub(crate) fn clone_writes(&self, words: &[u64]) -> bool {
         clone_writes(&self.stash, words)
     }
 }
 
-// A stash of numbers that are kept once for as far back as it goes
+// A stash of numbers that are stored once within the maximum distance.
 #[derive(Drop)]
 pub(crate) struct BackStash {
     stash: Stash<Far, Vec<u8>>,
@@ -123,7 +123,7 @@ pub(crate) struct BackStash {
 }
 
 impl BackStash {
-    // The rule that a store breaks, and where, if there is memory to test it
+    // Returns the rule that a store breaks, and the slice, if there is memory for the test.
     pub(crate) fn refusal(alloc: Global, words: &[u64]) -> Option<(u8, usize)> {
         refusal::<Far>(alloc, words).ok()
     }
@@ -134,21 +134,21 @@ impl BackStash {
         }
     }
 
-    // The stash of words that are accepted
+    // Opens accepted words.
     pub(crate) fn opened(alloc: Global, words: &[u64]) -> Option<BackStash> {
         Some(BackStash {
             stash: opened(alloc, words)?,
         })
     }
 
-    // What the stash of a column writes, opened
+    // Opens what the stash of a column writes.
     pub(crate) fn reopened(alloc: Global, column: Backs) -> Option<BackStash> {
         Some(BackStash {
             stash: reopened(alloc, &Stash::<_, Vec<u8>>::Typed(column.column))?,
         })
     }
 
-    // The column that it is loaded as
+    // Loads it as a column.
     pub(crate) fn loaded(&self, alloc: Global) -> Result<Backs, Fail> {
         Ok(Backs {
             column: loaded(alloc, &self.stash)?,
@@ -159,22 +159,22 @@ impl BackStash {
         self.stash.push(item).is_ok()
     }
 
-    // Is an item taken through a reference?
+    // Pushes a reference to an item; returns whether it succeeds.
     pub(crate) fn takes_lent(&mut self, item: &u64) -> bool {
         self.stash.push(item).is_ok()
     }
 
-    // Is an item taken by reference?
+    // Pushes an item by `push_ref`; returns whether it succeeds.
     pub(crate) fn takes_ref(&mut self, item: &u64) -> bool {
         self.stash.push_ref(item).is_ok()
     }
 
-    // Copies these rows of a column after its own
+    // Copies these rows of a column.
     pub(crate) fn copies(&mut self, source: &Backs, start: usize, end: usize) -> bool {
         stash_copies(&mut self.stash, source.column.borrow(), start, end)
     }
 
-    // Copies these rows after those of a column
+    // Copies these rows to a column.
     pub(crate) fn is_copied(&self, column: &mut Backs, start: usize, end: usize) -> bool {
         copied(&mut column.column, self.stash.borrow(), start, end)
     }
@@ -203,7 +203,7 @@ impl BackStash {
         self.stash.length_in_bytes()
     }
 
-    // Has it these rows, and no other?
+    // Tests whether it has exactly these rows.
     pub(crate) fn has(&self, rows: &[u64]) -> bool {
         has(&self.stash, rows)
     }
@@ -212,7 +212,7 @@ impl BackStash {
         writes(&self.stash, words)
     }
 
-    // Does its clone write these words?
+    // Tests whether its clone writes these words.
     pub(crate) fn clone_writes(&self, words: &[u64]) -> bool {
         clone_writes(&self.stash, words)
     }

@@ -1,4 +1,4 @@
-// Numbers that are kept as how far back one with the same last decimal digit stands, by worked rows.
+// Numbers that are stored as the distance back to one with the same last decimal digit, by worked rows.
 ghost use Rattle.columnar_core.specs.Format.{IsSound};
 ghost use Rattle.columnar_bytes.specs.Stashes.{stash_content};
 
@@ -18,7 +18,7 @@ pub(super) type Held = Lookbacks<Tens<Vec<u64>>, 255>;
 
 type Lists = Vecs<Held, Vec<u64>>;
 
-// The rows 13, 23, both stored
+// The rows 13, 23, both stored as values.
 pub(super) static BOTH_STORED: [u64; 10] = [48, 48, 48, 64, 80, 80, 3, 2, 13, 23];
 
 // The same, each in a list
@@ -51,7 +51,7 @@ fn bytes_with_one_digit_twice_are_pushed_to(rt: HostRuntime) -> Result<(), Fail>
     Ok(())
 }
 
-// Has a stash the lists [13] and [23]?
+// Tests whether a stash has the lists [13] and [23].
 fn has_both_lists<'a>(stash: &'a Stash<Lists, Vec<u8>>) -> bool
     requires { IsSound ⟦<Lists as Column>⟧.format (stash_content stash.now) }
 {
@@ -61,7 +61,7 @@ fn has_both_lists<'a>(stash: &'a Stash<Lists, Vec<u8>>) -> bool
         && item_of(row_of(stash, 1), 1).is_none()
 }
 
-// Makes a stash typed where it is. Its rows are as they were, or memory was refused.
+// Makes a stash typed in place. Its rows stay the same, or an allocation failed.
 fn made_typed<C: ContainerBytes + Drop>(stash: &mut Stash<C, Vec<u8>>) -> bool
     requires { IsSound C.format (stash_content stash.old) }
     ensures { IsSound C.format (stash_content stash.new) }

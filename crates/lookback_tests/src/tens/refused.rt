@@ -1,5 +1,5 @@
-// A push of a number whose digit is there twice, with whatever request for memory refused: it is done, or the bytes are
-// as they were. A request that is refused anywhere else in the test ends it.
+// A push of a number whose digit occurs twice, whichever allocation fails: it succeeds, or the bytes stay the same. An
+// allocation that fails elsewhere ends the test.
 
 use super::lookbacks::{BOTH_STORED, Held};
 use columnar_base::fault::GrowError;

@@ -97,13 +97,13 @@ impl<'x> LendRow<'x> for Shape {
     }
 }
 
-impl PushParts<Parts> for Shape {
+impl PushParts<Parts, Shape> for Shape {
     fn push_parts(&self, parts: &mut Parts) -> Result<(), GrowError> {
-        self.push_lent(parts)
+        self.push_lent::<Parts, Shape>(parts)
     }
 }
 
-impl<A: Copy + Item, B: Copy + Item, C: Copy + Item, P: Push<Rows<A, B, C>>> PushParts<P>
+impl<A: Copy + Item, B: Copy + Item, C: Copy + Item, P: Push<Rows<A, B, C>>> PushParts<P, Shape>
     for ShapeReference<A, B, C> {
     fn push_parts(&self, parts: &mut P) -> Result<(), GrowError> {
         match *self {

@@ -47,7 +47,7 @@ impl<A: Item, B: Item, C: Item, D: Item, E: Item> MakeRow<(A, B, C, D, E)> for V
     }
 }
 
-impl PushParts<ContainerOf<Parts>> for Visit {
+impl PushParts<ContainerOf<Parts>, Visit> for Visit {
     fn push_parts(&self, parts: &mut ContainerOf<Parts>) -> Result<(), GrowError> {
         parts.push((&self.time, &self.user, &self.pages, &self.level, &self.note))
     }
@@ -60,7 +60,7 @@ impl<
     D: Copy + Item,
     E: Copy + Item,
     P: Push<(A, B, C, D, E)>,
-> PushParts<P> for VisitReference<A, B, C, D, E> {
+> PushParts<P, Visit> for VisitReference<A, B, C, D, E> {
     fn push_parts(&self, parts: &mut P) -> Result<(), GrowError> {
         parts.push((self.time, self.user, self.pages, self.level, self.note))
     }

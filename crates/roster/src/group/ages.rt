@@ -9,10 +9,13 @@ use columnar::{Index, Item, Len, Slice};
 
 /// A row with ages.
 pub trait Aged: Item {
-    // the ages in such a row, together
+    // the sum of the ages in such a row
     ghost ages: { Row → ℕ };
 
-    /// Its ages, added to a sum, which wraps at 2^64.
+    /// Adds its ages to a sum, which wraps at 2^64.
+    ///
+    /// # Requires
+    /// The row is valid.
     fn add_ages(&self, before: u64) -> u64
         requires { Self.Item.valid self.now }
         ensures { result ≡ (before + ages (Self.Item.meaning self.now)) % 2 ^ 64 };
@@ -51,7 +54,10 @@ impl<S: Aged, T: Aged> Aged for GroupReference<S, T> {
     }
 }
 
-/// The ages of all rows, in a sum that wraps at 2^64.
+/// Returns the sum of the ages of all rows, which wraps at 2^64.
+///
+/// # Requires
+/// The column is well-formed.
 pub fn sum_ages<V: Index<Ref: Aged> + Len>(rows: &V) -> u64
     requires { IsSound V.format (V.content rows.now) }
     ensures { result ≡ ages_sum V.Ref.ages (V.format.rows (V.content rows.now)) }

@@ -1,4 +1,4 @@
-//! Groups in slices of bytes: those of the solos, of the teams, and of the variants.
+//! The slices of groups: those of the solos, of the teams, and of the variants.
 ghost use Rattle.std.specs.Prelude.{◌++◌, refl};
 ghost use Rattle.columnar.specs.Discriminants.{forms_content};
 ghost use Rattle.columnar.specs.DualEarlierLaws.{earlier_dual};
@@ -18,8 +18,8 @@ use columnar::sums::variants::{
 use columnar::{AsBytes, Check, ContainerBytes, FromBytes, Len, Stored};
 use std::alloc::Global;
 
-/// The rules of the solos, of the teams, of the variants, then that each variant is one of the two, then that there are as
-/// many values as rows of their variant: `Variant` and `Parts`, at the first slice.
+/// Checks the rules of the solos, of the teams and of the variants, then that each variant is 0 or 1, then that there
+/// are as many values as rows of their variant. The last two are reported as `Variant` and `Parts`, at the first slice.
 impl<SC: Stored, TC: Stored, CVar: Variants, COff: Words> Stored
     for GroupContainer<SC, TC, CVar, COff> {
     ghost storable = { dual_storable SC.format TC.format SC.storable TC.storable };
@@ -73,7 +73,7 @@ impl<'s, SC: AsBytes<'s>, TC: AsBytes<'s>> AsBytes<'s>
     }
 }
 
-/// Where memory is refused for a part, those that were loaded are dropped.
+/// If an allocation for a part fails, the parts already copied are dropped.
 impl<SC: ContainerBytes + Drop, TC: ContainerBytes + Drop> ContainerBytes
     for GroupContainer<SC, TC, Vec<u8>, Vec<u64>> {
     fn byte_slice(&self, index: usize) -> ByteSlice<'_> {
@@ -90,7 +90,7 @@ impl<SC: ContainerBytes + Drop, TC: ContainerBytes + Drop> ContainerBytes
     }
 }
 
-/// The earlier form is that of both columns.
+/// The earlier form has the earlier forms of both columns.
 impl<SC: Earlier + Drop, TC: Earlier> Earlier for GroupContainer<SC, TC, Vec<u8>, Vec<u64>> {
     type Old = GroupContainer<SC::Old, TC::Old, Vec<u8>, Vec<u64>>;
 

@@ -1,4 +1,4 @@
-//! What an owned column of groups does, and its views.
+//! Growth, truncation and views of columns of groups.
 ghost use Rattle.columnar.specs.DualLaws.{dual_lawful, same_duals};
 
 use super::{GroupContainer, GroupReference};
@@ -68,7 +68,7 @@ impl<SC: Reserve, TC: Reserve> Reserve for GroupContainer<SC, TC, Vec<u8>, Vec<u
     }
 }
 
-/// Of each variant the values of its rows in the range are copied, and then the variants; all or none.
+/// The values of the range's rows are copied for each variant, then the variants; all or none.
 impl<
     'x,
     V: Index + Len + Copy,

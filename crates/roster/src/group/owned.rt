@@ -1,4 +1,4 @@
-//! Groups as values that a column of their own holds.
+//! Groups as owned values of a column.
 ghost use Rattle.columnar.specs.Owned.{list_unfit};
 ghost use Rattle.roster.specs.Groups.{group_unfit};
 

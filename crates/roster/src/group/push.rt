@@ -1,4 +1,4 @@
-//! Groups that are pushed: by reference, by value, and as rows that were read.
+//! Pushes of groups: by reference, by value, and as rows of a column.
 use super::{Group, GroupContainer, GroupReference};
 use columnar::fault::GrowError;
 use columnar::sums::variants::{push_first, push_first_ref, push_second, push_second_ref};
@@ -46,7 +46,7 @@ impl<T: Item, SC: Truncate + Push<T>, TC: Truncate + Push<Vec<T>>> Push<Group<T>
     }
 }
 
-/// A row, as one that was read from a column.
+/// Pushes a row that was read from a column.
 impl<S: Item, T: Item, SC: Truncate + Push<S>, TC: Truncate + Push<T>> Push<GroupReference<S, T>>
     for GroupContainer<SC, TC, Vec<u8>, Vec<u64>> {
     fn push(&mut self, item: GroupReference<S, T>) -> Result<(), GrowError> {

@@ -10,12 +10,12 @@ use Rattle.columnar.specs.AlikeLaws.{row_eq_exact}
 use Rattle.roster.proofs.Seven.{encoded_seven}
 use Rattle.roster.proofs.cli.written_seven.Goals as goal
 
--- what a call that was done ensures
+-- what a successful call ensures
 done : {T E P : Type 0} (r : Result T E) → is_err r ≡ false → OnOk r P → P
 done (Ok x) h p = p
 done (Err e) h p = cc
 
--- a row pushed to none is the one row of what is written
+-- a row pushed to an empty column is the only row of the written bytes
 one_row : {f : Format} {old new : Content} {r : Row} {held bs : List ℕ} (ws : List ℕ) → IsExact f.alike → f.rows old ≡ [] → Took f old new (r ∷ []) → held ≡ [] → bs ≡ held ++ ws → (IsSound f new → f.build (framed_slices ws) ≡ new) → f.rows (f.build (framed_slices bs)) ≡ r ∷ []
 one_row {f} {old} {new} {r} {held} {bs} ws e none took empty same content =
     let g = grew_exactly e took in

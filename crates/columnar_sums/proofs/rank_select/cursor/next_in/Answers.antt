@@ -1,7 +1,7 @@
 use Rattle.std.proofs.Common.{ℕ, ◌+◌, ◌*◌, ◌≤◌, ◌∙◌, refl, subst, arith, length}
 use Rattle.std.specs.Int.{w64, trailing_zeros}
 use Rattle.columnar_sums.specs.RankColumns.{AreClear}
-use Rattle.columnar_sums.specs.PlaceLaws.{move_on, none_here, lowest, after_found, place_inside, load_more, IsLowest}
+use Rattle.columnar_sums.specs.PlaceLaws.{move_on, none_here, lowest, after_found, place_inside, load_more, word_of, IsLowest}
 use Rattle.columnar_sums.proofs.rank_select.cursor.next_in.Goals as goal
 
 pub returns-then-place-len-clause-none : goal.returns-then-place-len-clause-none
@@ -38,3 +38,6 @@ returns-clause-found g c =
     let p = c.loop-place.place in
     let l : IsLowest c.args.words.now p.index p.pos (64 * p.index + trailing_zeros w64 p.rest) = lowest c.args.words.now p.index p.rest p.pos (trailing_zeros w64 p.rest) (64 * p.index + trailing_zeros w64 p.rest) c.loop-place.invariant.at (omega arith) (omega arith) refl refl in
     (l.within, subst (λ (x : ℕ). x ≤ 64 * p.index + trailing_zeros w64 p.rest) c.loop-place.invariant.pos l.from, l.set, subst (λ (x : ℕ). AreClear c.args.words.now x (64 * p.index + trailing_zeros w64 p.rest)) c.loop-place.invariant.pos l.clear, refl)
+
+pub returns-clause-word : goal.returns-clause-word
+returns-clause-word g c = word_of c.loop-place.place.index c.loop-place.place.rest (trailing_zeros w64 c.loop-place.place.rest) (omega arith) (omega arith) refl

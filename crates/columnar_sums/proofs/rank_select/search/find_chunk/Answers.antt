@@ -1,5 +1,5 @@
 use Rattle.std.proofs.Common.{length, arith}
-use Rattle.columnar_sums.specs.CountLaws.{digits_from}
+use Rattle.columnar_base.specs.DigitLaws.{digits_from}
 use Rattle.columnar_sums.proofs.rank_select.search.find_chunk.Goals as goal
 
 pub returns-then-span-eq7-clause-cost : goal.returns-then-span-eq7-clause-cost

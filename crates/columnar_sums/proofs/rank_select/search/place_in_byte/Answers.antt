@@ -22,11 +22,11 @@ every_one f (suc n) i h l =
     let b = both_true (f n) (every f n) h in
     elim (cases_lt i n) [ inl a ↦ every_one f n i b.1 a | inr a ↦ let e : n ≡ i = omega arith in subst (λ x. f x ≡ true) e b.0 ]
 
--- the place that the table names
+-- the position in the table
 abbrev placed : ℕ → ℕ → ℕ
 placed b r = slice_index PLACES b / 2 ^ (4 * r) % 8
 
--- of a byte and a number of its set bits, it is the place of the next one
+-- for a byte and a number of its set bits, it is the position of the next one
 is_placed : ℕ → ℕ → Bool
 is_placed b r = leb (ones_below (bit b) 8) r || (bit b (placed b r) && eqb (ones_below (bit b) (placed b r)) r)
 
@@ -46,11 +46,11 @@ placed_is b r h l =
 lowest : (w n : ℕ) → n ≤ 8 → ones_below (bit (w % 256)) n ≡ ones_below (bit w) n
 lowest w n h = ones_below_same (bit (w % 256)) (bit w) n (λ j l. bit_mod w 8 j (omega arith))
 
--- a number of set bits of the byte is below eight
+-- the number of set bits of a byte before a set bit is less than eight
 few : (w r : ℕ) → r < ones_below (bit w) 8 → r < 8
 few w r h = omega (arith, ones_below_le (bit w) 8)
 
--- the place that the table names for the lowest byte of a word
+-- the position in the table for the lowest byte of a word
 place_is : (w r : ℕ) → r < ones_below (bit w) 8 → (bit w (placed (w % 256) r) ≡ true) × (ones_below (bit w) (placed (w % 256) r) ≡ r)
 place_is w r h =
     let p : ℕ = placed (w % 256) r in

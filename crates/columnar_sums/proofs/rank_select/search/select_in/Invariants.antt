@@ -1,7 +1,7 @@
 use Rattle.std.proofs.Common.{◌≡◌, ◌+◌, ◌*◌, ◌≤◌, length, take}
 use Rattle.columnar_bits.specs.Bits.{bit_in}
 use Rattle.columnar_sums.specs.Counting.{ones_below}
-use Rattle.columnar_sums.specs.Counting.{digits}
+use Rattle.columnar_base.specs.Digits.{digits}
 use Rattle.columnar_sums.proofs.rank_select.search.select_in.Given as goal
 
 abbrev pub invariant-loop-at : goal.invariant-loop-at

@@ -1,0 +1,21 @@
+use Rattle.std.proofs.Common.{arith, rules, ◌≡◌, ◌<◌, length, true, false}
+use Rattle.std.specs.Ordering.{is_lt}
+use Rattle.columnar_operators.specs.MergedLaws.{up_to_none, second_more, second_alone, compared}
+use Rattle.columnar_operators.proofs.merge.end_of_second.Goals as goal
+
+pub returns-then-i-len-clause-merged : goal.returns-then-i-len-clause-merged
+returns-then-i-len-clause-merged g c = second_alone (g.V.Column.format.rows (g.V.Column.content c.args.one.now)) (g.V.Column.format.rows (g.V.Column.content c.args.other.now)) c.args.i c.args.j c.len-count.result (omega arith) (omega arith)
+
+pub returns-then-not-is_lt-clause-stops : goal.returns-then-not-is_lt-clause-stops
+returns-then-not-is_lt-clause-stops g c =
+    let xs = g.V.Column.format.rows (g.V.Column.content c.args.one.now) in
+    let ys = g.V.Column.format.rows (g.V.Column.content c.args.other.now) in
+    let h : is_lt c.compare_row.result ≡ false = search rules in
+    λ _. (omega arith, compared xs ys c.args.i c.loop-end.end _ _ c.compare_row.result false c.get.ensures.row c.get-bound.ensures.row c.compare_row.ensures h)
+
+pub loop-end-preserved : goal.loop-end-preserved
+loop-end-preserved g c =
+    let xs = g.V.Column.format.rows (g.V.Column.content c.args.one.now) in
+    let ys = g.V.Column.format.rows (g.V.Column.content c.args.other.now) in
+    let h : is_lt c.compare_row.result ≡ true = search rules in
+    second_more xs ys c.args.j c.args.i c.loop-end.end _ (omega arith) (omega arith) (compared xs ys c.args.i c.loop-end.end _ _ c.compare_row.result true c.get.ensures.row c.get-bound.ensures.row c.compare_row.ensures h) c.loop-end.invariant

@@ -1,0 +1,11 @@
+pub mod SortLaws
+pub mod ExtremeLaws
+pub mod SearchLaws
+pub mod Searches
+pub mod Partly
+pub mod PartlyLaws
+pub mod Picks
+pub mod PickLaws
+pub mod Merged
+pub mod MergedLaws
+pub mod Numbered

@@ -1,0 +1,13 @@
+pub mod Formats
+pub mod CountLaws
+pub mod TypeLaws
+pub mod JudgeLaws
+pub mod FormatLaws
+pub mod TurnLaws
+pub mod WholeLaws
+pub mod Names
+pub mod Reading
+pub mod NameLaws
+pub mod ReadingLaws
+pub mod ParsingLaws
+pub mod SliceLaws

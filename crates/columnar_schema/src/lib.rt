@@ -1,0 +1,11 @@
+//! Stores whose column types are read at run time.
+#![tactic(auto)]
+
+pub mod bounds;
+pub mod judge;
+pub mod leaf;
+pub mod names;
+pub mod schema;
+pub mod text;
+pub mod typed;
+pub mod validation;

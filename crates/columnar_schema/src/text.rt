@@ -1,0 +1,524 @@
+//! Parser for the text of a type, such as `(u64, String, Option<u32>)`.
+ghost use Rattle.std.specs.Prelude.{◌≡◌, ◌≢◌, ◌≤◌, ◌+◌, ◌-◌, ◌∷◌, ◌++◌, List, ℕ, length, take, drop, codes, nat_eq, IfOk, IfErr, IfSome, IfNone, true, false};
+ghost use Rattle.std.specs.Char.{is_ascii_alphanumeric};
+ghost use Rattle.columnar_schema.specs.declared.text.Head.{Head};
+ghost use Rattle.columnar_schema.specs.Names.{GoesOn, Names, Reads, head_name, inside, is_blank, leaf_name, unspaced, with_comma};
+ghost use Rattle.columnar_schema.specs.Reading.{NamesNone, NestsWithin, Passes, ReadsFields, ReadsNamed, ReadsPart, ReadsParts, ReadsSolo, ReadsTexts, ReadsTuple, ReadsType, ReadsUnit, other_leaves, signed_leaves, unsigned_leaves, word_length};
+ghost use Rattle.columnar_schema.specs.declared.schema.Bounds.{Bounds};
+ghost use Rattle.columnar_schema.specs.declared.schema.Leaf.TheVariants.{Text};
+ghost use Rattle.columnar_schema.specs.declared.schema.Schema.{Schema};
+ghost use Rattle.columnar_schema.specs.declared.text.Mistake.TheVariants.{Memory};
+
+use crate::schema::{Bounds, Leaf, Schema};
+use std::alloc::Global;
+
+/// The maximum nesting depth of types in a text.
+pub const DEPTH: usize = 64;
+
+/// Why a text is not a type.
+#[derive(Clone, Copy, PartialEq, Drop)]
+pub enum Mistake {
+    /// There is no type name at this position.
+    Name,
+    /// This byte is expected at this position.
+    Wanted(u8),
+    /// The text continues after the type.
+    Longer,
+    /// A tuple has more than ten fields.
+    Wide,
+    /// Types are nested too deeply.
+    Deep,
+    /// An allocation failed; the position is 0.
+    Memory,
+}
+
+/// A mistake in a text, and its position.
+#[derive(Clone, Copy, PartialEq, Drop)]
+pub struct Refused {
+    /// The position of the first byte that cannot be parsed.
+    pub at: usize,
+    /// What is wrong there.
+    pub mistake: Mistake,
+}
+
+fn blank(byte: u8) -> bool
+    ensures { result ≡ is_blank byte }
+{
+    byte == b' ' || byte == b'\t' || byte == b'\n' || byte == b'\r'
+}
+
+// Returns the position after blanks.
+#[tactic(auto, using(crate::specs::ReadingLaws::blank_elsewhere, crate::specs::NameLaws::blank_passed))]
+fn after_blanks(text: &[u8], at: usize) -> usize
+    requires { at ≤ length text.now }
+    ensures within { result ≤ length text.now }
+    ensures from { at ≤ result }
+    ensures here { (n : ℕ) (x : List ℕ) → drop at text.now ≡ n ∷ x → is_blank n ≡ false → result ≡ at }
+    ensures same { unspaced (drop at text.now) ≡ unspaced (drop result text.now) }
+{
+    for i in at..text.len() {
+        if !blank(text[i]) {
+            return i;
+        }
+    }
+    text.len()
+}
+
+// Returns the position after this byte, which must follow the blanks.
+#[tactic(auto, using(crate::specs::ReadingLaws::first_byte, crate::specs::ReadingLaws::after_first, crate::specs::ReadingLaws::begins_within))]
+fn after(text: &[u8], at: usize, wanted: u8) -> Result<usize, Refused>
+    requires within { at ≤ length text.now }
+    requires shows { is_blank wanted ≡ false }
+    ensures within { IfOk result (λ n. n ≤ length text.now) }
+    ensures stands { IfOk result (λ n. unspaced (drop at text.now) ≡ wanted ∷ unspaced (drop n text.now)) }
+    ensures passes { (x : List ℕ) → drop at text.now ≡ wanted ∷ x → Passes result text.now x }
+{
+    let at = after_blanks(text, at);
+    if at < text.len() && text[at] == wanted {
+        Ok(at + 1)
+    } else {
+        Err(Refused {
+            at,
+            mistake: Mistake::Wanted(wanted),
+        })
+    }
+}
+
+// Tests whether this byte follows the blanks.
+#[tactic(auto, using(crate::specs::ReadingLaws::first_byte, crate::specs::ReadingLaws::begins_within))]
+fn stands_at(text: &[u8], at: usize, wanted: u8) -> bool
+    requires { at ≤ length text.now }
+    ensures { (n : ℕ) (x : List ℕ) → drop at text.now ≡ n ∷ x → is_blank n ≡ false → result ≡ nat_eq n wanted }
+{
+    let at = after_blanks(text, at);
+    at < text.len() && text[at] == wanted
+}
+
+fn is_of_name(byte: u8) -> bool
+    ensures value { result ≡ is_ascii_alphanumeric byte }
+    ensures shows { result ≡ true → is_blank byte ≡ false }
+{
+    byte.is_ascii_alphanumeric() && !blank(byte)
+}
+
+// Returns the end of the word that starts at the position.
+#[tactic(auto, using(crate::specs::NameLaws::word_more, crate::specs::ReadingLaws::word_goes_on, crate::specs::ReadingLaws::word_ends, crate::specs::ReadingLaws::word_ends_last))]
+fn word_end(text: &[u8], at: usize) -> usize
+    requires { at ≤ length text.now }
+    ensures from { at ≤ result }
+    ensures within { result ≤ length text.now }
+    ensures ends { result ≡ at + word_length (drop at text.now) }
+    ensures stands { unspaced (drop at text.now) ≡ take (result - at) (drop at text.now) ++ unspaced (drop result text.now) }
+{
+    for i in at..text.len() {
+        if !is_of_name(text[i]) {
+            return i;
+        }
+    }
+    text.len()
+}
+
+// Returns the unsigned number type with this name.
+fn unsigned(word: &[u8]) -> Option<Leaf>
+    ensures some { IfSome result (λ l. word.now ≡ leaf_name l) }
+    ensures none { IfNone result (NamesNone word.now unsigned_leaves) }
+{
+    if word == b"u8".as_slice() {
+        Some(Leaf::U8)
+    } else if word == b"u16".as_slice() {
+        Some(Leaf::U16)
+    } else if word == b"u32".as_slice() {
+        Some(Leaf::U32)
+    } else if word == b"u64".as_slice() {
+        Some(Leaf::U64)
+    } else if word == b"u128".as_slice() {
+        Some(Leaf::U128)
+    } else if word == b"usize".as_slice() {
+        Some(Leaf::Usize)
+    } else {
+        None
+    }
+}
+
+// Returns the signed number type with this name.
+fn signed(word: &[u8]) -> Option<Leaf>
+    ensures some { IfSome result (λ l. word.now ≡ leaf_name l) }
+    ensures none { IfNone result (NamesNone word.now signed_leaves) }
+{
+    if word == b"i8".as_slice() {
+        Some(Leaf::I8)
+    } else if word == b"i16".as_slice() {
+        Some(Leaf::I16)
+    } else if word == b"i32".as_slice() {
+        Some(Leaf::I32)
+    } else if word == b"i64".as_slice() {
+        Some(Leaf::I64)
+    } else if word == b"i128".as_slice() {
+        Some(Leaf::I128)
+    } else if word == b"isize".as_slice() {
+        Some(Leaf::Isize)
+    } else {
+        None
+    }
+}
+
+// Returns the other type without parts with this name.
+fn other(word: &[u8]) -> Option<Leaf>
+    ensures some { IfSome result (λ l. word.now ≡ leaf_name l) }
+    ensures none { IfNone result (NamesNone word.now other_leaves) }
+{
+    if word == b"f32".as_slice() {
+        Some(Leaf::F32)
+    } else if word == b"f64".as_slice() {
+        Some(Leaf::F64)
+    } else if word == b"bool".as_slice() {
+        Some(Leaf::Bool)
+    } else if word == b"char".as_slice() {
+        Some(Leaf::Char)
+    } else if word == b"Duration".as_slice() {
+        Some(Leaf::Duration)
+    } else if word == b"String".as_slice() {
+        Some(Leaf::Text(Bounds::Words))
+    } else {
+        None
+    }
+}
+
+// Returns the type without parts with this name.
+fn leaf_of(word: &[u8]) -> Option<Leaf>
+    ensures some { IfSome result (λ l. word.now ≡ leaf_name l) }
+    ensures none { IfNone result (NamesNone word.now unsigned_leaves × (NamesNone word.now signed_leaves × NamesNone word.now other_leaves)) }
+{
+    match unsigned(word) {
+        Some(leaf) => Some(leaf),
+        None => match signed(word) {
+            Some(leaf) => Some(leaf),
+            None => other(word),
+        },
+    }
+}
+
+// The name before a type of one part.
+#[derive(Clone, Copy, PartialEq, Drop)]
+enum Head {
+    // `Box`
+    Boxed,
+    // `Option`
+    Optional,
+    // `Vec`
+    Vector,
+    // `SmallVec`
+    Small,
+}
+
+fn head_of(word: &[u8]) -> Option<Head>
+    ensures some { IfSome result (λ h. word.now ≡ head_name h) }
+    ensures none { IfNone result ((h : Head) → word.now ≢ head_name h) }
+{
+    if word == b"Box".as_slice() {
+        Some(Head::Boxed)
+    } else if word == b"Option".as_slice() {
+        Some(Head::Optional)
+    } else if word == b"Vec".as_slice() {
+        Some(Head::Vector)
+    } else if word == b"SmallVec".as_slice() {
+        Some(Head::Small)
+    } else {
+        None
+    }
+}
+
+// Returns the bounds of texts with this name.
+fn text_bounds(word: &[u8]) -> Option<Bounds>
+    ensures some { IfSome result (λ b. inside (codes "Strings") word.now ≡ leaf_name (Text b)) }
+    ensures none { IfNone result ((word.now ≢ codes "Strides") × (word.now ≢ codes "Unaries")) }
+{
+    if word == b"Strides".as_slice() {
+        Some(Bounds::Strides)
+    } else if word == b"Unaries".as_slice() {
+        Some(Bounds::Unaries)
+    } else {
+        None
+    }
+}
+
+// Parses the rest of a type of texts, whose name ends at the position; returns it with the position after it.
+#[tactic(auto, using(crate::specs::NameLaws::texts_go_on))]
+fn texts_at(text: &[u8], at: usize) -> Result<(Schema, usize), Refused>
+    requires { at ≤ length text.now }
+    ensures names { IfOk result (λ p. (lists : Bounds) → GoesOn lists false (codes "Strings") text.now at p.0 p.1) }
+    ensures whole { ReadsTexts text.now (drop at text.now) result }
+{
+    let next = after(text, at, b'<')?;
+    let next = after_blanks(text, next);
+    let end = word_end(text, next);
+    let Some(bounds) = text_bounds(&text[next..end]) else {
+        return Err(Refused {
+            at: next,
+            mistake: Mistake::Name,
+        });
+    };
+    let next = after(text, end, b'>')?;
+    Ok((Schema::Simple(Leaf::Text(bounds)), next))
+}
+
+// Moves a part of a type into a box.
+fn boxed(alloc: Global, part: Schema) -> Result<Box<Schema>, Refused>
+    ensures ok { IfOk result (λ b. b.value ≡ part) }
+    ensures err { IfErr result (λ e. e.mistake ≡ Memory) }
+{
+    match Box::new(alloc, part) {
+        Ok(part) => Ok(part),
+        Err(_) => Err(Refused {
+            at: 0,
+            mistake: Mistake::Memory,
+        }),
+    }
+}
+
+// Returns the type with this part.
+#[tactic(auto, using(crate::specs::NameLaws::boxed_named, crate::specs::NameLaws::optional_named, crate::specs::NameLaws::listed_named, crate::specs::NameLaws::numbered_named))]
+fn wrap(alloc: Global, head: Head, lists: Bounds, part: Schema) -> Result<Schema, Refused>
+    ensures err { IfErr result (λ e. e.mistake ≡ Memory) }
+    ensures ok { IfOk result (λ s. (t : List ℕ) → Names lists false t part → Names lists false (inside (head_name head) t) s) }
+{
+    match head {
+        Head::Boxed => Ok(part),
+        Head::Optional => Ok(Schema::Optional(boxed(alloc, part)?)),
+        Head::Vector => Ok(Schema::Lists(lists, boxed(alloc, part)?)),
+        Head::Small => Ok(Schema::Lists(Bounds::Words, boxed(alloc, part)?)),
+    }
+}
+
+// Returns the result type with these parts.
+#[tactic(auto, using(crate::specs::NameLaws::fallible_named))]
+fn fallible(alloc: Global, values: Schema, errors: Schema) -> Result<Schema, Refused>
+    ensures err { IfErr result (λ e. e.mistake ≡ Memory) }
+    ensures ok { IfOk result (λ s. (lists : Bounds) (t u : List ℕ) → Names lists false t values → Names lists false u errors → Names lists false (inside (codes "Result") (with_comma t u)) s) }
+{
+    let values = boxed(alloc, values)?;
+    let errors = boxed(alloc, errors)?;
+    Ok(Schema::Fallible(values, errors))
+}
+
+// Returns the tuple of one field.
+#[tactic(auto, using(crate::specs::NameLaws::solo_named))]
+fn solo(alloc: Global, field: Schema) -> Result<Schema, Refused>
+    ensures err { IfErr result (λ e. e.mistake ≡ Memory) }
+    ensures ok { IfOk result (λ s. (lists : Bounds) (t : List ℕ) → Names lists false t field → Names lists false (codes "(" ++ (t ++ codes ",)")) s) }
+{
+    Ok(Schema::Solo(boxed(alloc, field)?))
+}
+
+// Returns the tuple of these fields.
+#[tactic(auto, using(crate::specs::NameLaws::tuple_named))]
+fn tuple(alloc: Global, first: Schema, others: Schema) -> Result<Schema, Refused>
+    ensures err { IfErr result (λ e. e.mistake ≡ Memory) }
+    ensures ok { IfOk result (λ s. (lists : Bounds) (t u : List ℕ) → Names lists false t first → Names lists true u others → Names lists false (codes "(" ++ (with_comma t u ++ codes ")")) s) }
+{
+    let first = boxed(alloc, first)?;
+    let others = boxed(alloc, others)?;
+    Ok(Schema::Tuple(first, others))
+}
+
+// Returns the fields of a tuple: one, and those after it.
+#[tactic(auto, using(crate::specs::NameLaws::beside_named))]
+fn beside(alloc: Global, field: Schema, later: Schema) -> Result<Schema, Refused>
+    ensures err { IfErr result (λ e. e.mistake ≡ Memory) }
+    ensures ok { IfOk result (λ s. (lists : Bounds) (t u : List ℕ) → Names lists false t field → Names lists true u later → Names lists true (with_comma t u) s) }
+{
+    let field = boxed(alloc, field)?;
+    let later = boxed(alloc, later)?;
+    Ok(Schema::Beside(field, later))
+}
+
+// Parses the rest of a type of one part, whose name ends at the position; returns it with the position after it.
+#[cycle(types)]
+fn one_part(
+    alloc: Global,
+    text: &[u8],
+    at: usize,
+    head: Head,
+    lists: Bounds,
+    depth: usize,
+) -> Result<(Schema, usize), Refused>
+    requires { at ≤ length text.now }
+    ensures names { IfOk result (λ p. GoesOn lists false (head_name head) text.now at p.0 p.1) }
+    ensures whole { ReadsPart lists depth text.now (drop at text.now) result }
+{
+    let next = after(text, at, b'<')?;
+    let (part, next) = type_at(alloc, text, next, lists, depth)?;
+    let next = after(text, next, b'>')?;
+    let schema = wrap(alloc, head, lists, part)?;
+    Ok((schema, next))
+}
+
+// Parses the rest of a result type, whose name ends at the position; returns it with the position after it.
+#[cycle(types)]
+#[tactic(auto, using(crate::specs::NameLaws::result_goes_on))]
+fn two_parts(
+    alloc: Global,
+    text: &[u8],
+    at: usize,
+    lists: Bounds,
+    depth: usize,
+) -> Result<(Schema, usize), Refused>
+    requires { at ≤ length text.now }
+    ensures names { IfOk result (λ p. GoesOn lists false (codes "Result") text.now at p.0 p.1) }
+    ensures whole { ReadsParts lists depth text.now (drop at text.now) result }
+{
+    let next = after(text, at, b'<')?;
+    let (values, next) = type_at(alloc, text, next, lists, depth)?;
+    let next = after(text, next, b',')?;
+    let (errors, next) = type_at(alloc, text, next, lists, depth)?;
+    let next = after(text, next, b'>')?;
+    let schema = fallible(alloc, values, errors)?;
+    Ok((schema, next))
+}
+
+// Parses the fields of a tuple from the second on, at most `most`; returns them with the position after them.
+#[cycle(types)]
+#[tactic(auto, using(crate::specs::NameLaws::fields_read, crate::specs::NameLaws::last_reads))]
+fn fields_at(
+    alloc: Global,
+    text: &[u8],
+    at: usize,
+    lists: Bounds,
+    depth: usize,
+    most: usize,
+) -> Result<(Schema, usize), Refused>
+    requires within { at ≤ length text.now }
+    requires most { most ≤ 9 }
+    ensures names { IfOk result (λ p. Reads lists true text.now at p.0 p.1) }
+    ensures whole { ReadsFields lists depth most text.now (drop at text.now) result }
+{
+    if most == 0 {
+        return Err(Refused {
+            at,
+            mistake: Mistake::Wide,
+        });
+    }
+    let (field, next) = type_at(alloc, text, at, lists, depth)?;
+    if !stands_at(text, next, b',') {
+        return Ok((field, next));
+    }
+    let next = after(text, next, b',')?;
+    let (later, next) = fields_at(alloc, text, next, lists, depth, most - 1)?;
+    let schema = beside(alloc, field, later)?;
+    Ok((schema, next))
+}
+
+// Parses the tuple whose first field starts at the position; returns it with the position after it.
+#[cycle(types)]
+#[tactic(auto, using(crate::specs::NameLaws::unit_goes_on, crate::specs::NameLaws::solo_goes_on, crate::specs::NameLaws::tuple_goes_on))]
+fn tuple_at(
+    alloc: Global,
+    text: &[u8],
+    at: usize,
+    lists: Bounds,
+    depth: usize,
+) -> Result<(Schema, usize), Refused>
+    requires { at ≤ length text.now }
+    ensures names { IfOk result (λ p. GoesOn lists false (codes "(") text.now at p.0 p.1) }
+    ensures unit { ReadsUnit text.now (drop at text.now) result }
+    ensures solo { ReadsSolo lists depth text.now (drop at text.now) result }
+    ensures whole { ReadsTuple lists depth text.now (drop at text.now) result }
+{
+    if stands_at(text, at, b')') {
+        let next = after(text, at, b')')?;
+        return Ok((Schema::Simple(Leaf::Unit), next));
+    }
+    let (first, next) = type_at(alloc, text, at, lists, depth)?;
+    let next = after(text, next, b',')?;
+    if stands_at(text, next, b')') {
+        let next = after(text, next, b')')?;
+        let schema = solo(alloc, first)?;
+        return Ok((schema, next));
+    }
+    let (others, next) = fields_at(alloc, text, next, lists, depth, 9)?;
+    let next = after(text, next, b')')?;
+    let schema = tuple(alloc, first, others)?;
+    Ok((schema, next))
+}
+
+// Parses the rest of the type with this name, which ends at the position; returns it with the position after it.
+#[cycle(types)]
+#[tactic(auto, using(crate::specs::NameLaws::leaf_goes_on))]
+fn named(
+    alloc: Global,
+    text: &[u8],
+    word: &[u8],
+    at: usize,
+    lists: Bounds,
+    depth: usize,
+) -> Result<(Schema, usize), Refused>
+    requires { at ≤ length text.now }
+    ensures names { IfOk result (λ p. GoesOn lists false word.now text.now at p.0 p.1) }
+    ensures whole { ReadsNamed lists depth text.now word.now (drop at text.now) result }
+{
+    if let Some(leaf) = leaf_of(word) {
+        return Ok((Schema::Simple(leaf), at));
+    }
+    if let Some(head) = head_of(word) {
+        return one_part(alloc, text, at, head, lists, depth);
+    }
+    if word == b"Result".as_slice() {
+        return two_parts(alloc, text, at, lists, depth);
+    }
+    if word == b"Strings".as_slice() {
+        return texts_at(text, at);
+    }
+    Err(Refused {
+        at: at.saturating_sub(word.len()),
+        mistake: Mistake::Name,
+    })
+}
+
+// Parses the type at the position; returns it with the position after it. Types may be nested `depth` deep.
+#[cycle(types)]
+fn type_at(
+    alloc: Global,
+    text: &[u8],
+    at: usize,
+    lists: Bounds,
+    depth: usize,
+) -> Result<(Schema, usize), Refused>
+    requires { at ≤ length text.now }
+    ensures names { IfOk result (λ p. Reads lists false text.now at p.0 p.1) }
+    ensures whole { ReadsType lists depth text.now (drop at text.now) result }
+{
+    let at = after_blanks(text, at);
+    if depth == 0 {
+        return Err(Refused {
+            at,
+            mistake: Mistake::Deep,
+        });
+    }
+    if stands_at(text, at, b'(') {
+        let next = after(text, at, b'(')?;
+        return tuple_at(alloc, text, next, lists, depth - 1);
+    }
+    let end = word_end(text, at);
+    named(alloc, text, &text[at..end], end, lists, depth - 1)
+}
+
+/// Parses a type. Blanks may separate its words. `lists` chooses the bounds of `Vec<T>`: `Bounds::Unaries` is this
+/// library's choice, `Bounds::Words` that of the Rust crate.
+///
+/// # Errors
+/// The first mistake and its position.
+pub fn parse(alloc: Global, text: &[u8], lists: Bounds) -> Result<Schema, Refused>
+    ensures names { IfOk result (λ s. Names lists false (unspaced text.now) s) }
+    ensures whole { (s : Schema) (n : Names lists false text.now s) → NestsWithin 64 n → IfErr result (λ e. e.mistake ≡ Memory) }
+{
+    let (schema, next) = type_at(alloc, text, 0, lists, DEPTH)?;
+    let next = after_blanks(text, next);
+    if next == text.len() {
+        Ok(schema)
+    } else {
+        Err(Refused {
+            at: next,
+            mistake: Mistake::Longer,
+        })
+    }
+}

@@ -1,0 +1,116 @@
+//! Column types that a store can have: those with at most 2^60 slices.
+ghost use Rattle.std.specs.Prelude.{◌≡◌, ◌+◌, ◌^◌, ◌<◌, ◌≤◌, ◌↔◌, length, false, IsOk, IfErr, IfSome, IfNone, IfOk};
+ghost use Rattle.columnar_core.specs.Frame.{framed_slices};
+ghost use Rattle.columnar_bytes.specs.Accepted.{Accepts, IsFirstFault};
+ghost use Rattle.columnar_schema.specs.Formats.{format_of};
+ghost use Rattle.columnar_schema.specs.Names.{Names, unspaced};
+ghost use Rattle.columnar_schema.specs.Reading.{NestsWithin};
+ghost use Rattle.columnar_schema.specs.declared.schema.Schema.{Schema};
+ghost use Rattle.columnar_schema.specs.declared.text.Mistake.TheVariants.{Memory};
+
+use crate::bounds::bounds_slices;
+use crate::judge::rows_of;
+use crate::leaf::leaf_slices;
+use crate::names::push_name;
+use crate::schema::{Bounds, Schema};
+use crate::text::{Mistake, Refused, parse};
+use crate::validation::validate_schema;
+use columnar_core::fault::StoreFault;
+use columnar_core::store::DecodedStore;
+use std::alloc::{AllocError, Global};
+
+// Subtracts the number of slices of the type from `limit`; `None` if there are more.
+#[tactic(auto, using(crate::specs::CountLaws::tuple_count, crate::specs::CountLaws::beside_count, crate::specs::CountLaws::first_counted, crate::specs::CountLaws::others_counted, crate::specs::CountLaws::field_counted, crate::specs::CountLaws::later_counted))]
+fn left_of(schema: &Schema, limit: usize) -> Option<usize>
+    ensures some { IfSome result (λ n. (format_of schema.now).count + n ≡ limit) }
+    ensures none { IfNone result (limit < (format_of schema.now).count) }
+{
+    match schema {
+        Schema::Simple(leaf) => limit.checked_sub(leaf_slices(*leaf)),
+        Schema::Optional(values) => left_of(values, limit.checked_sub(3)?),
+        Schema::Fallible(values, errors) => {
+            left_of(errors, left_of(values, limit.checked_sub(3)?)?)
+        }
+        Schema::Lists(bounds, values) => {
+            left_of(values, limit.checked_sub(bounds_slices(*bounds))?)
+        }
+        Schema::Solo(field) => left_of(field, limit),
+        Schema::Tuple(first, others) => left_of(others, left_of(first, limit)?),
+        Schema::Beside(field, later) => left_of(later, left_of(field, limit)?),
+    }
+}
+
+/// A column type that is read at run time.
+#[derive(Drop)]
+pub struct Type {
+    schema: Schema,
+    ghost counted: { (format_of schema).count ≤ 2 ^ 60 },
+}
+
+impl Type {
+    /// Checks the number of slices of a type.
+    ///
+    /// # Errors
+    /// Returns the schema itself if it has more than 2^60 slices.
+    pub fn new(schema: Schema) -> Result<Type, Schema>
+        ensures ok { IfOk result (λ t. t.schema ≡ schema) }
+        ensures same { IfErr result (λ s. s ≡ schema) }
+        ensures err { IfErr result (λ s. 2 ^ 60 < (format_of s).count) }
+    {
+        if left_of(&schema, 1 << 60).is_some() {
+            Ok(Type { schema })
+        } else {
+            Err(schema)
+        }
+    }
+
+    /// Parses a type. `lists` chooses the bounds of `Vec<T>`. Every text without blanks that names a type is read, if
+    /// its types nest at most 64 deep and its tuples have at most ten fields.
+    ///
+    /// # Errors
+    /// The first mistake and its position. A type of more than 2^60 slices is `Deep`, at the end of the text; its text
+    /// has more than 2^58 bytes.
+    #[tactic(auto, using(crate::specs::SliceLaws::text_longer))]
+    pub fn parse(alloc: Global, text: &[u8], lists: Bounds) -> Result<Type, Refused>
+        ensures names { IfOk result (λ t. Names lists false (unspaced text.now) t.schema) }
+        ensures whole { (s : Schema) (n : Names lists false text.now s) → NestsWithin 64 n → length text.now ≤ 2 ^ 58 → IfErr result (λ e. e.mistake ≡ Memory) }
+    {
+        match Type::new(parse(alloc, text, lists)?) {
+            Ok(it) => Ok(it),
+            Err(_) => Err(Refused {
+                at: text.len(),
+                mistake: Mistake::Deep,
+            }),
+        }
+    }
+
+    /// Tests whether the bytes frame a well-formed column of the type. Allocates nothing.
+    ///
+    /// # Errors
+    /// The first broken rule, and its slice.
+    pub fn validate(&self, bytes: &[u8]) -> Result<(), StoreFault>
+        ensures exact { IsOk result ↔ Accepts (format_of self.now.schema) bytes.now }
+        ensures fault { IfErr result (IsFirstFault (format_of self.now.schema) bytes.now) }
+    {
+        validate_schema(&self.schema, bytes)
+    }
+
+    /// Counts the rows of bytes that frame a well-formed column of the type. Allocates nothing.
+    ///
+    /// # Errors
+    /// The first broken rule, and its slice.
+    pub fn count_rows(&self, bytes: &[u8]) -> Result<usize, StoreFault>
+        ensures exact { IsOk result ↔ Accepts (format_of self.now.schema) bytes.now }
+        ensures rows { IfOk result (λ n. n ≡ length ((format_of self.now.schema).rows ((format_of self.now.schema).build (framed_slices bytes.now)))) }
+        ensures fault { IfErr result (IsFirstFault (format_of self.now.schema) bytes.now) }
+    {
+        validate_schema(&self.schema, bytes)?;
+        Ok(rows_of(&self.schema, &DecodedStore::new(bytes), 0))
+    }
+
+    /// Appends the name of a slice of the type to a text: the fields that lead to it, separated by points. The only
+    /// slice of a column of numbers has an empty name.
+    pub fn push_slice_name(&self, index: usize, name: &mut String) -> Result<(), AllocError> {
+        push_name(&self.schema, index, 0, name)
+    }
+}

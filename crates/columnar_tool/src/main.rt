@@ -1,0 +1,24 @@
+//! Tests stores of columns against a type that is given as text: `columnar_tool check|rows [--rust] TYPE FILE..`.
+#![tactic(auto)]
+
+mod cli;
+mod file;
+
+use std::env;
+use std::process::ExitCode;
+
+fn main(rt: HostRuntime) -> ExitCode {
+    let alloc = rt.alloc();
+    let mut out = rt.stdout();
+    let mut err = rt.stderr();
+    let mut words = Vec::new(alloc);
+    let Ok(args) = env::args(&rt) else {
+        return ExitCode::from(cli::no_memory(&mut err));
+    };
+    for word in args.skip(1) {
+        if words.push(word).is_err() {
+            return ExitCode::from(cli::no_memory(&mut err));
+        }
+    }
+    ExitCode::from(cli::run_words(&rt, alloc, words.as_slice(), &mut out, &mut err))
+}

@@ -1,0 +1,6 @@
+pub mod Answering
+pub mod Counting
+pub mod Ending
+pub mod Storing
+pub mod Surveying
+pub mod Texts

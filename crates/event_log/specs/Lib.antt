@@ -1,0 +1,9 @@
+pub mod Batches
+pub mod Counting
+pub mod Levels
+pub mod Lines
+pub mod Logs
+pub mod Tables
+pub mod Told
+pub mod Unread
+pub mod Uses

@@ -1,0 +1,141 @@
+//! Rows of `Event`, as `columnar_derive` writes them.
+use super::*;
+use columnar::fault::{GrowError, OwnError};
+use columnar::names::PartNames;
+use columnar::sums::variants::{Last, Nth, Variants};
+use columnar::{
+    Columnar, ContainerOf, FromRow, Item, LendRow, MakeRow, OwnRow, OwnRows, Push, PushParts,
+};
+use std::alloc::Global;
+
+/// A column of values of `Event`.
+pub type EventContainer = ContainerOf<Event>;
+
+// The columns of the values, of each variant and of those after it
+type ColumnsFromStop = (ContainerOf<u32>,);
+
+type ColumnsFromRest = (ContainerOf<()>, ColumnsFromStop);
+
+type ColumnsFromStart = (ContainerOf<u64>, ColumnsFromRest);
+
+type Parts = Variants<ColumnsFromStart>;
+
+// What a row is read as
+type Rows<A, B> = Nth<A, Nth<(), Last<B>>>;
+
+/// What stands for a value of `Event` in a column.
+#[derive(Clone, Copy, Debug)]
+pub enum EventReference<A, B> {
+    Start(A),
+    Rest,
+    Stop(B),
+}
+
+impl Item for Event {
+    ghost use Rattle.columnar.specs.Row.{Row, unit};
+    ghost use Rattle.columnar.specs.Variants.{case};
+    ghost use Rattle.operator_tests.specs.declared.event.Event.TheVariants.{Start, Rest, Stop};
+
+    ghost meaning = { λ s. elim s as (λ v. Row) [ Start a ↦ case 0 (⟦<u64 as Item>⟧.meaning a) | Rest ↦ case 1 unit | Stop a ↦ case 2 (⟦<u32 as Item>⟧.meaning a) ] };
+
+    ghost valid = { λ s. elim s as (λ v. Type 0) [ Start a ↦ ⟦<u64 as Item>⟧.valid a | Rest ↦ Unit {0} | Stop a ↦ ⟦<u32 as Item>⟧.valid a ] };
+}
+
+impl<A: Item, B: Item> Item for EventReference<A, B> {
+    ghost use Rattle.columnar.specs.Row.{Row, unit};
+    ghost use Rattle.columnar.specs.Variants.{case};
+    ghost use Rattle.operator_tests.specs.declared.event.rows.EventReference.TheVariants.{Start, Rest, Stop};
+
+    ghost meaning = { λ s. elim s as (λ v. Row) [ Start a ↦ case 0 (A.meaning a) | Rest ↦ case 1 unit | Stop a ↦ case 2 (B.meaning a) ] };
+
+    ghost valid = { λ s. elim s as (λ v. Type 0) [ Start a ↦ A.valid a | Rest ↦ Unit {0} | Stop a ↦ B.valid a ] };
+}
+
+impl<A: Item, B: Item> MakeRow<Rows<A, B>> for Event {
+    type Row = EventReference<A, B>;
+
+    fn make_row(row: Rows<A, B>) -> Self::Row {
+        let row = match row {
+            Nth::This(a) => return EventReference::Start(a),
+            Nth::Next(row) => row,
+        };
+        let row = match row {
+            Nth::This(()) => return EventReference::Rest,
+            Nth::Next(row) => row,
+        };
+        let Last(a) = row;
+        EventReference::Stop(a)
+    }
+}
+
+// A value, lent
+type Lent<'x> = EventReference<&'x u64, &'x u32>;
+
+impl<'x> LendRow<'x> for Event {
+    type Lent = Lent<'x>;
+
+    fn lend_row(&'x self) -> Self::Lent {
+        match self {
+            Event::Start(a) => EventReference::Start(a),
+            Event::Rest => EventReference::Rest,
+            Event::Stop(a) => EventReference::Stop(a),
+        }
+    }
+}
+
+impl PushParts<Parts, Event> for Event {
+    fn push_parts(&self, parts: &mut Parts) -> Result<(), GrowError> {
+        self.push_lent::<Parts, Event>(parts)
+    }
+}
+
+impl<A: Copy + Item, B: Copy + Item, P: Push<Rows<A, B>>> PushParts<P, Event>
+    for EventReference<A, B> {
+    fn push_parts(&self, parts: &mut P) -> Result<(), GrowError> {
+        match *self {
+            EventReference::Start(a) => parts.push(Nth::This(a)),
+            EventReference::Rest => parts.push(Nth::Next(Nth::This(()))),
+            EventReference::Stop(a) => parts.push(Nth::Next(Nth::Next(Last(a)))),
+        }
+    }
+}
+
+impl PartNames for Event {
+    fn part_name(index: usize) -> &'static str {
+        match index {
+            0 => "Start",
+            1 => "Rest",
+            2 => "Stop",
+            _ => "",
+        }
+    }
+}
+
+impl Columnar for Event {
+    ghost use Rattle.std.specs.Prelude.{◌||◌};
+    ghost use Rattle.columnar.specs.Variants.{of_variant};
+
+    ghost unfit = { λ u r. of_variant 0 (⟦<u64 as Columnar>⟧.unfit u) r || (of_variant 2 (⟦<u32 as Columnar>⟧.unfit u) r) };
+
+    type Container = OwnRows<Parts, Event>;
+}
+
+impl<A: Item, B: Item> FromRow<OwnRow<Rows<A, B>, Event>> for Event
+where
+    u64: FromRow<A>,
+    u32: FromRow<B>,
+{
+    fn from_row(alloc: Global, row: OwnRow<Rows<A, B>, Event>) -> Result<Self, OwnError> {
+        match row.show() {
+            EventReference::Start(a) => {
+                let a = <u64>::from_row(alloc, a)?;
+                Ok(Event::Start(a))
+            }
+            EventReference::Rest => Ok(Event::Rest),
+            EventReference::Stop(a) => {
+                let a = <u32>::from_row(alloc, a)?;
+                Ok(Event::Stop(a))
+            }
+        }
+    }
+}

@@ -8,7 +8,8 @@ for another. A hole replaces the proof files of all other functions: the gate pr
 its own function is not proved, and each goal that it names in a line 'goal:'. It fails if the prover rejects it because
 a name is gone, or for no goal. An edit of a definition in specs/ is tried alone; it also passes if a lemma is not proved.
 
-A run tries the edits without a valid record (gate/record.py), and a tenth of the others.
+A run tries the edits without a valid record (gate/record.py), and a tenth of the others. Next to rt ci it has a time limit: of the
+edits that an earlier run rejected, it lists those that it has not tried by then, and leaves them to a later run.
 
 usage: .ci/edits.py [--all | --tenth N] [--sources] [--jobs N] [CRATE ..]
                                       after the crates' libraries were built, as by rt all check: tries the edits without a
@@ -51,6 +52,10 @@ def asked():
     return parser.parse_args()
 
 
+# Next to rt ci, the seconds after which no edit is tried that an earlier run rejected, and after which such tries end.
+LAST_BEGIN, LAST_END = 8400, 9600
+
+
 class Run:
     """A run over the edits of some crates."""
 
@@ -64,6 +69,17 @@ class Run:
         self.left = [name for name in names if self.choices[name].edits]
         self.parent, self.times = os.getppid(), Times()
         self.lanes, self.tries, self.copied = Lanes(self.times), {}, set()
+
+    def is_late(self, limit):
+        return self.log is not None and time.time() - self.times.started > limit
+
+    def is_left(self, name, edits):
+        """Returns whether these edits are left to a later run: it is late, and an earlier run rejected each of them."""
+        return self.is_late(LAST_BEGIN) and all(it.name in self.choices[name].recorded for it in edits)
+
+    def one(self, its, name, group):
+        if not self.is_left(name, group["edits"]):
+            its.one(group)
 
     def say_choice(self):
         edits = [why for it in self.choices.values() for why in it.why.values()]
@@ -80,6 +96,8 @@ class Run:
         return max(2 if has_room() else 1, self.free() // self.lanes.wanted())
 
     def begin(self, name, libraries, kept):
+        if self.is_left(name, self.choices[name].edits):
+            return
         crate = Crate(name, libraries, kept, self.jobs)
         if not self.log and not self.sources and os.path.isdir(f"{crate.folder}/out/incremental"):
             shutil.copytree(f"{crate.folder}/out/incremental", kept)
@@ -87,7 +105,8 @@ class Run:
         if self.log or self.sources or its.is_proved():
             its.first()
             for group in its.groups:
-                self.lanes.add(len(group["edits"]), name, functools.partial(its.one, group))
+                is_new = any(it.name not in self.choices[name].recorded for it in group["edits"])
+                self.lanes.add(len(group["edits"]) + 1000 * is_new, name, functools.partial(self.one, its, name, group))
 
     def look(self, room):
         """Reads the progress of rt ci, and copies the libraries that it has proved since the last call."""
@@ -106,7 +125,7 @@ class Run:
         with tempfile.TemporaryDirectory(prefix="edits-libraries-", ignore_cleanup_errors=True) as room:
             libraries = (lambda _: room) if self.log else (lambda it: f"{ROOT}/crates/{it}/out/rlib")
             libraries = None if self.sources else libraries
-            while self.left or self.lanes.are_used() or (self.log and not self.log.has_ended):
+            while (self.left or self.lanes.are_used() or (self.log and not self.log.has_ended)) and not self.is_late(LAST_END):
                 if self.log:
                     self.look(room)
                 well = [name for name in self.left if not self.log or all(it in self.copied for it in below(name))]
@@ -120,22 +139,32 @@ class Run:
                 self.lanes.fill(self.free())
                 time.sleep(0.5)
 
+    def not_tried(self, name):
+        """Returns the edits of a crate that are left to a later run."""
+        choice, told = self.choices[name], self.tries[name].told if name in self.tries else {}
+        its = [it.name for it in choice.edits if it.name not in told and it.name in choice.recorded]
+        return its if self.is_late(LAST_BEGIN) else []
+
     def end(self):
         """Prints the results, and returns the status."""
         self.times.tell()
-        passed = failed = 0
+        passed = failed = late = 0
         for name, choice in self.choices.items():
             for it in choice.gone:
                 say(f"edits of {name}: the record has {it}, which is no edit")
             failed += len(choice.gone) if self.log else 0
-            is_proved = not self.log or self.log.proved.get(name)
+            # (if rt ci has not come to a crate in time, its own result counts)
+            is_proved = not self.log or self.log.proved.get(name, not self.log.has_ended)
             if choice.edits and not is_proved:
                 say(f"edits of {name}: all failed: rt ci has not proved it")
             well = self.tries[name].passed() if name in self.tries and is_proved else 0
-            passed, failed = passed + well, failed + len(choice.edits) - well
+            left = self.not_tried(name) if is_proved else []
+            for it in left:
+                say(f"edit {name}/{it}: rejected by an earlier run, not tried in time")
+            passed, failed, late = passed + well, failed + len(choice.edits) - well - len(left), late + len(left)
             if self.records and choice.gone and not choice.edits:
                 choice.write_record({})
-        print(f"edits: {passed} passed, {failed} failed")
+        print(f"edits: {passed} passed, {failed} failed" + (f", {late} not tried in time" if late else ""))
         return 1 if failed else 0
 
 

@@ -173,8 +173,8 @@ def main():
     signal.signal(signal.SIGTERM, lambda *_: sys.exit(1))
     run = Run(asked())
     if run.log:
-        # (rt ci has priority)
-        os.nice(10)
+        # (rt ci has priority: the edits use what it leaves idle)
+        os.sched_setscheduler(0, os.SCHED_IDLE, os.sched_param(0))
     run.say_choice()
     run.try_all()
     return run.end()

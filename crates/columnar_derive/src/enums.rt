@@ -1,8 +1,7 @@
 //! The code for an enum.
-use crate::item::{Field, Value, Variant};
-use crate::lines::{
-    Arm, Header, Lines, WIDTH, each, in_angles, in_tuple, joined, keep, letter, parameter,
-};
+use crate::cases::Case;
+use crate::item::{Value, Variant};
+use crate::lines::{Header, Lines, WIDTH, each, in_angles, joined, keep, parameter};
 use crate::names::add_names;
 use std::alloc::{AllocError, Global};
 
@@ -15,6 +14,11 @@ pub struct EnumPage {
     own: String,
     row_name: String,
     row: String,
+    // Begins the names of aliases; empty if the file has one type.
+    prefix: String,
+    // The type of the column of all parts, and the type as which its rows are read.
+    parts: String,
+    rows: String,
     cases: Vec<Case>,
     // A type parameter for each variant with a value.
     params: Vec<String>,
@@ -24,283 +28,13 @@ pub struct EnumPage {
     place: String,
 }
 
-// A variant.
-#[derive(Drop)]
-struct Case {
-    name: String,
-    // The type as which the value is read: a parameter, or `()` for a variant without a value.
-    param: String,
-    // The types of the fields; the type of the value, which is the one field or the tuple of all; and the type of the
-    // lent value.
-    kinds: Vec<String>,
-    kind: String,
-    lent: String,
-    // A letter for each field, and the value made of the letters.
-    letters: Vec<String>,
-    value: String,
-    // The patterns of named fields, which bind the letters.
-    fields: Vec<String>,
-}
-
-// Returns one text as it is, and several as a tuple.
-fn one_or_tuple(alloc: Global, texts: &[String]) -> Result<String, AllocError> {
-    match texts {
-        [text] => String::from_str(alloc, text.as_str()),
-        _ => in_tuple(alloc, texts),
-    }
-}
-
-// Returns the type of a variant's value, and the type of the lent value.
-fn value_types(
-    alloc: Global,
-    name: &str,
-    kinds: &[String],
-) -> Result<(String, String), AllocError> {
-    match kinds {
-        [] => Ok((in_tuple(alloc, &[])?, String::new(alloc))),
-        [kind] => Ok((
-            String::from_str(alloc, kind.as_str())?,
-            format!(in alloc; "&'x {kind}")?,
-        )),
-        _ => Ok((
-            format!(in alloc; "ValueOf{name}")?,
-            format!(in alloc; "LentOf{name}<'x>")?,
-        )),
-    }
-}
-
-impl Case {
-    fn new(alloc: Global, variant: &Variant, param: String) -> Result<Case, AllocError> {
-        let mut kinds = Vec::new(alloc);
-        let mut fields = Vec::new(alloc);
-        let mut letters = Vec::new(alloc);
-        match &variant.value {
-            Value::Nothing => {}
-            Value::Types(types) => {
-                for (i, kind) in types.iter().enumerate() {
-                    keep(&mut kinds, String::from_str(alloc, kind.as_str())?)?;
-                    keep(&mut letters, letter(alloc, i)?)?;
-                }
-            }
-            Value::Fields(of) => {
-                for (i, field) in of.iter().enumerate() {
-                    let letter = letter(alloc, i)?;
-                    keep(&mut kinds, String::from_str(alloc, field.kind.as_str())?)?;
-                    keep(&mut fields, named(alloc, field, letter.as_str())?)?;
-                    keep(&mut letters, letter)?;
-                }
-            }
-        }
-        let name = variant.name.as_str();
-        let (kind, lent) = value_types(alloc, name, kinds.as_slice())?;
-        Ok(Case {
-            name: String::from_str(alloc, name)?,
-            param,
-            kind,
-            lent,
-            kinds,
-            value: one_or_tuple(alloc, letters.as_slice())?,
-            letters,
-            fields,
-        })
-    }
-
-    fn has_value(&self) -> bool {
-        !self.letters.is_empty()
-    }
-
-    // Returns the variant of the enum or of its rows, with its value, if it has one.
-    fn of(&self, alloc: Global, name: &str, value: &str) -> Result<String, AllocError> {
-        let variant = self.name.as_str();
-        if self.has_value() {
-            format!(in alloc; "{name}::{variant}({value})")
-        } else {
-            format!(in alloc; "{name}::{variant}")
-        }
-    }
-
-    // Returns the meaning or the validity (`member`) of the value, for the enum or for its rows.
-    fn term(&self, alloc: Global, is_row: bool, member: &str) -> Result<String, AllocError> {
-        if is_row {
-            format!(in alloc; "{}.{member} a", self.param)
-        } else {
-            format!(in alloc; "⟦<{} as Item>⟧.{member} {}", self.kind, self.value)
-        }
-    }
-
-    // Returns the letters of the fields, or the one letter of a row's value.
-    fn letters(&self, alloc: Global, is_row: bool) -> Result<String, AllocError> {
-        if is_row {
-            String::from_str(alloc, "a")
-        } else {
-            joined(alloc, self.letters.as_slice(), " ")
-        }
-    }
-
-    // Returns the `elim` arm with the meaning of variant `number`.
-    fn meaning(&self, alloc: Global, number: usize, is_row: bool) -> Result<String, AllocError> {
-        let name = self.name.as_str();
-        if !self.has_value() {
-            return format!(in alloc; "{name} ↦ case {number} unit");
-        }
-        let letters = self.letters(alloc, is_row)?;
-        let term = self.term(alloc, is_row, "meaning")?;
-        format!(in alloc; "{name} {letters} ↦ case {number} ({term})")
-    }
-
-    // Returns the `elim` arm that says when the variant is valid.
-    fn valid(&self, alloc: Global, is_row: bool) -> Result<String, AllocError> {
-        let name = self.name.as_str();
-        if !self.has_value() {
-            return format!(in alloc; "{name} ↦ Unit {{0}}");
-        }
-        let letters = self.letters(alloc, is_row)?;
-        let term = self.term(alloc, is_row, "valid")?;
-        format!(in alloc; "{name} {letters} ↦ {term}")
-    }
-
-    // Adds the arm that lends a value as a row.
-    fn add_lent(
-        &self,
-        alloc: Global,
-        lines: &mut Lines,
-        own: &str,
-        row_name: &str,
-    ) -> Result<(), AllocError> {
-        let indent = "            ";
-        let name = self.name.as_str();
-        let function = format!(in alloc; "{row_name}::{name}")?;
-        if !self.has_value() {
-            let pattern = format!(in alloc; "{own}::{name}")?;
-            return lines.add_path_arm(indent, pattern.as_str(), function.as_str());
-        }
-        let pattern = if self.fields.is_empty() {
-            let list = joined(alloc, self.letters.as_slice(), ", ")?;
-            format!(in alloc; "{own}::{name}({list})")?
-        } else {
-            format!(in alloc; "{own}::{name}")?
-        };
-        lines.add_arm(&Arm {
-            indent,
-            pattern: pattern.as_str(),
-            fields: self.fields.as_slice(),
-            function: function.as_str(),
-            argument: self.value.as_str(),
-        })
-    }
-
-    // Adds the arm that pushes a row of variant `number`.
-    fn add_push(
-        &self,
-        alloc: Global,
-        lines: &mut Lines,
-        row_name: &str,
-        number: usize,
-        is_last: bool,
-    ) -> Result<(), AllocError> {
-        let letter = if self.has_value() { "a" } else { "()" };
-        let innermost = if is_last {
-            format!(in alloc; "Last({letter})")?
-        } else {
-            format!(in alloc; "Nth::This({letter})")?
-        };
-        let pattern = self.of(alloc, row_name, "a")?;
-        if number < 4 {
-            let argument = next_of(alloc, number, innermost.as_str())?;
-            return lines.add_arm(&Arm {
-                indent: "            ",
-                pattern: pattern.as_str(),
-                fields: &[],
-                function: "parts.push",
-                argument: argument.as_str(),
-            });
-        }
-        lines.put(format!(in alloc;
-            "            {pattern} => {{
-                let value = {innermost};"
-        ))?;
-        for _ in 0..number {
-            lines.add("                let value = Nth::Next(value);")?;
-        }
-        lines.add("                parts.push(value)\n            }")
-    }
-
-    // Adds the arm that makes a value from a row.
-    fn add_value_made(
-        &self,
-        alloc: Global,
-        lines: &mut Lines,
-        own: &str,
-        row_name: &str,
-    ) -> Result<(), AllocError> {
-        let pattern = self.of(alloc, row_name, "a")?;
-        if !self.has_value() {
-            let value = format!(in alloc; "{own}::{}", self.name)?;
-            return lines.add_arm(&Arm {
-                indent: "            ",
-                pattern: pattern.as_str(),
-                fields: &[],
-                function: "Ok",
-                argument: value.as_str(),
-            });
-        }
-        lines.put(format!(in alloc;
-            "            {pattern} => {{
-                let a = <{}>::from_row(alloc, a)?;",
-            self.kind
-        ))?;
-        if self.kinds.len() > 1 {
-            lines.put(format!(in alloc; "                let {} = a;", self.value))?;
-        }
-        self.add_made(alloc, lines, own)?;
-        lines.add("            }")
-    }
-
-    // Adds the value, made from the letters of its fields.
-    fn add_made(&self, alloc: Global, lines: &mut Lines, own: &str) -> Result<(), AllocError> {
-        let name = self.name.as_str();
-        if self.fields.is_empty() {
-            let list = joined(alloc, self.letters.as_slice(), ", ")?;
-            return lines.put(format!(in alloc; "                Ok({own}::{name}({list}))"));
-        }
-        let before = format!(in alloc; "Ok({own}::{name} ")?;
-        lines.add_braces(
-            "                ",
-            before.as_str(),
-            self.fields.as_slice(),
-            ")",
-        )
-    }
-}
-
-// Returns a field that is bound to its letter.
-fn named(alloc: Global, field: &Field, letter: &str) -> Result<String, AllocError> {
-    let name = field.name.as_str();
-    if name == letter {
-        String::from_str(alloc, name)
-    } else {
-        format!(in alloc; "{name}: {letter}")
-    }
-}
-
-// Wraps a text in `depth` times `Nth::Next`.
-fn next_of(alloc: Global, depth: usize, text: &str) -> Result<String, AllocError> {
-    let mut all = String::new(alloc);
-    for _ in 0..depth {
-        all.push_str("Nth::Next(")?;
-    }
-    all.push_str(text)?;
-    for _ in 0..depth {
-        all.push(')')?;
-    }
-    Ok(all)
-}
-
 impl EnumPage {
-    /// Makes a page without code. Clauses name the items of the enum's file under the path `place`.
+    /// Makes a page without code. `prefix` begins the names of aliases. Clauses name the items of the enum's file under
+    /// the path `place`.
     pub fn new(
         alloc: Global,
         own: &str,
+        prefix: &str,
         variants: &[Variant],
         place: &str,
     ) -> Result<EnumPage, AllocError> {
@@ -315,7 +49,7 @@ impl EnumPage {
                     param
                 }
             };
-            let case = Case::new(alloc, variant, param)?;
+            let case = Case::new(alloc, prefix, variant, param)?;
             match cases.push(case) {
                 Ok(()) => {}
                 Err(error) => return Err(AllocError::from(error)),
@@ -328,6 +62,9 @@ impl EnumPage {
             own: String::from_str(alloc, own)?,
             row_name: format!(in alloc; "{own}Reference")?,
             row: format!(in alloc; "{own}Reference{angles}")?,
+            prefix: String::from_str(alloc, prefix)?,
+            parts: format!(in alloc; "{prefix}Parts")?,
+            rows: format!(in alloc; "{prefix}Rows{angles}")?,
             cases,
             params,
             angles,
@@ -352,21 +89,11 @@ impl EnumPage {
         Ok(lines.into_text())
     }
 
-    // Adds the head of the file: the column, and the columns of its parts.
+    // Adds the column, and the columns of its parts.
     fn add_head(&mut self) -> Result<(), AllocError> {
         let own = self.own.as_str();
         self.lines.put(format!(in self.alloc;
-            "//! Rows of `{own}`, as `columnar_derive` writes them.
-use super::*;
-use columnar::fault::{{GrowError, OwnError}};
-use columnar::names::PartNames;
-use columnar::sums::variants::{{Last, Nth, Variants}};
-use columnar::{{
-    Columnar, ContainerOf, FromRow, Item, LendRow, MakeRow, OwnRow, OwnRows, Push, PushParts,
-}};
-use std::alloc::Global;
-
-/// A column of values of `{own}`.
+            "/// A column of values of `{own}`.
 pub type {own}Container = ContainerOf<{own}>;
 
 // The columns of the values, of each variant and of those after it"
@@ -381,6 +108,7 @@ pub type {own}Container = ContainerOf<{own}>;
 
     // Adds the columns from each variant on, the last first, and the column of the variants.
     fn add_columns(&mut self) -> Result<(), AllocError> {
+        let prefix = self.prefix.as_str();
         let mut after: Option<String> = None;
         for case in self.cases.iter().rev() {
             let name = case.name.as_str();
@@ -390,16 +118,17 @@ pub type {own}Container = ContainerOf<{own}>;
             if let Some(others) = after {
                 keep(&mut columns, others)?;
             }
-            let before = format!(in self.alloc; "type ColumnsFrom{name} = ")?;
+            let before = format!(in self.alloc; "type {prefix}ColumnsFrom{name} = ")?;
             self.lines
                 .add_tuple("", before.as_str(), columns.as_slice(), ";")?;
             self.lines.add("")?;
-            after = Some(format!(in self.alloc; "ColumnsFrom{name}")?);
+            after = Some(format!(in self.alloc; "{prefix}ColumnsFrom{name}")?);
         }
         match after {
-            Some(name) => self
-                .lines
-                .put(format!(in self.alloc; "type Parts = Variants<{name}>;\n")),
+            Some(name) => self.lines.put(format!(in self.alloc;
+                "type {} = Variants<{name}>;\n",
+                self.parts
+            )),
             None => Ok(()),
         }
     }
@@ -417,7 +146,10 @@ pub type {own}Container = ContainerOf<{own}>;
                 begun = true;
             }
             let kinds = each(self.alloc, case.kinds.as_slice(), before, "")?;
-            let line = format!(in self.alloc; "type {name}{}{angles} = ", case.name)?;
+            let line = format!(in self.alloc;
+                "type {}{name}{}{angles} = ",
+                self.prefix, case.name
+            )?;
             self.lines
                 .add_tuple("", line.as_str(), kinds.as_slice(), ";")?;
             self.lines.add("")?;
@@ -437,7 +169,7 @@ pub type {own}Container = ContainerOf<{own}>;
         let Some(last) = items.pop() else {
             return Ok(());
         };
-        let before = format!(in self.alloc; "type Rows{} = ", self.angles)?;
+        let before = format!(in self.alloc; "type {} = ", self.rows)?;
         let last = format!(in self.alloc; "Last<{last}>")?;
         self.lines.add("// What a row is read as")?;
         self.lines
@@ -530,15 +262,15 @@ pub enum {} {{",
         self.lines.add_header(&Header {
             params: params.as_slice(),
             trait_name: "MakeRow",
-            of: &[format!(in self.alloc; "Rows{}", self.angles)?],
+            of: &[String::from_str(self.alloc, self.rows.as_str())?],
             own: self.own.as_str(),
             after: " {",
         })?;
         self.lines.put(format!(in self.alloc;
             "    type Row = {};
 
-    fn make_row(row: Rows{}) -> Self::Row {{",
-            self.row, self.angles
+    fn make_row(row: {}) -> Self::Row {{",
+            self.row, self.rows
         ))?;
         let count = self.cases.len();
         for (i, case) in self.cases.iter().enumerate() {
@@ -575,7 +307,7 @@ pub enum {} {{",
         }
         self.add_kinds("// What they are made of, lent", "LentOf", "&'x ")?;
         self.lines.add("// A value, lent")?;
-        let before = format!(in self.alloc; "type Lent<'x> = {}<", self.row_name)?;
+        let before = format!(in self.alloc; "type {}Lent<'x> = {}<", self.prefix, self.row_name)?;
         self.lines
             .add_list("", before.as_str(), lent.as_slice(), ">;", WIDTH)?;
         self.lines.add("")
@@ -587,7 +319,9 @@ pub enum {} {{",
         let own = self.own.as_str();
         let row_name = self.row_name.as_str();
         let has_value = self.cases.iter().any(|case| case.has_value());
-        let lent = if has_value { "Lent<'x>" } else { row_name };
+        let lent = format!(in self.alloc; "{}Lent<'x>", self.prefix)?;
+        let lent = if has_value { lent.as_str() } else { row_name };
+        let parts = self.parts.as_str();
         self.lines.put(format!(in self.alloc;
             "impl<'x> LendRow<'x> for {own} {{
     type Lent = {lent};
@@ -603,9 +337,9 @@ pub enum {} {{",
     }}
 }}
 
-impl PushParts<Parts, {own}> for {own} {{
-    fn push_parts(&self, parts: &mut Parts) -> Result<(), GrowError> {{
-        self.push_lent::<Parts, {own}>(parts)
+impl PushParts<{parts}, {own}> for {own} {{
+    fn push_parts(&self, parts: &mut {parts}) -> Result<(), GrowError> {{
+        self.push_lent::<{parts}, {own}>(parts)
     }}
 }}
 "
@@ -615,7 +349,7 @@ impl PushParts<Parts, {own}> for {own} {{
     // Adds the impl that pushes rows.
     fn add_pushed_rows(&mut self) -> Result<(), AllocError> {
         let mut params = each(self.alloc, self.params.as_slice(), "", ": Copy + Item")?;
-        let pushes = format!(in self.alloc; "P: Push<Rows{}>", self.angles)?;
+        let pushes = format!(in self.alloc; "P: Push<{}>", self.rows)?;
         keep(&mut params, pushes)?;
         self.lines.add_header(&Header {
             params: params.as_slice(),
@@ -683,6 +417,7 @@ impl PushParts<Parts, {own}> for {own} {{
         for _ in 0..begun {
             unfit.push(')')?;
         }
+        let parts = self.parts.as_str();
         let imports = if self.params.is_empty() {
             unfit.push_str("false")?;
             "    ghost use Rattle.std.specs.Prelude.{false};"
@@ -698,7 +433,7 @@ impl PushParts<Parts, {own}> for {own} {{
 
     ghost unfit = {{ λ u r. {unfit} }};
 
-    type Container = OwnRows<Parts, {own}>;
+    type Container = OwnRows<{parts}, {own}>;
 }}
 "
         ))
@@ -723,7 +458,7 @@ impl PushParts<Parts, {own}> for {own} {{
 
     // Adds the beginning of the function that makes values from rows.
     fn add_from_row(&mut self) -> Result<(), AllocError> {
-        let row = format!(in self.alloc; "OwnRow<Rows{}, {}>", self.angles, self.own)?;
+        let row = format!(in self.alloc; "OwnRow<{}, {}>", self.rows, self.own)?;
         let mut of = Vec::new(self.alloc);
         let alloc = if self.params.is_empty() {
             "_alloc"

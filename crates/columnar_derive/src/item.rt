@@ -14,10 +14,10 @@ pub struct Description {
 /// The fields of a struct, or the variants of an enum.
 #[derive(Debug, Drop)]
 pub enum Body {
-    /// The fields of a struct, one to ten.
-    Fields(Vec<Field>),
+    /// The fields of a struct, at most ten.
+    Struct(Value),
     /// The variants of an enum, one to 256.
-    Variants(Vec<Variant>),
+    Enum(Vec<Variant>),
 }
 
 /// A field: its name, and its type as written.
@@ -34,12 +34,13 @@ pub struct Variant {
     pub value: Value,
 }
 
-/// The fields of a value of a variant.
+/// The fields of a struct, or of a value of a variant.
 #[derive(Debug, Drop)]
 pub enum Value {
     Nothing,
-    /// One or more types, each as written.
+    /// One or more types without names, each as written.
     Types(Vec<String>),
+    /// One or more fields with names.
     Fields(Vec<Field>),
 }
 
@@ -51,7 +52,6 @@ pub enum Why {
     Parameters,
     Lifetime,
     Where,
-    TupleStruct,
     NoFields,
     TooManyFields,
     NoVariants,
@@ -72,7 +72,6 @@ impl fmt::Display for Why {
             Why::Parameters => write!(f, "it has parameters"),
             Why::Lifetime => write!(f, "a lifetime or a reference"),
             Why::Where => write!(f, "it has a where clause"),
-            Why::TupleStruct => write!(f, "the fields of a struct must have names"),
             Why::NoFields => write!(f, "it has no fields"),
             Why::TooManyFields => write!(f, "more than 10 fields"),
             Why::NoVariants => write!(f, "it has no variants"),

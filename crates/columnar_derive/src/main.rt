@@ -1,9 +1,11 @@
 //! Writes the code that makes your own struct or enum the rows of a column:
-//! `columnar_derive FILE NAME [CRATE::MODULE]`.
+//! `columnar_derive FILE NAME.. [CRATE::MODULE]`.
 #![tactic(auto)]
 
+mod cases;
 mod cli;
 mod enums;
+mod head;
 mod item;
 mod lines;
 mod names;

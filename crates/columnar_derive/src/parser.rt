@@ -155,16 +155,21 @@ impl<'t> Reader<'t> {
         }
         if word == "enum" {
             self.expect('{')?;
-            return Ok(Body::Variants(self.variants()?));
+            return Ok(Body::Enum(self.variants()?));
+        }
+        if self.eat(';') {
+            return Ok(Body::Struct(Value::Nothing));
         }
         if self.is_at('(') {
-            return Err(self.refused(Why::TupleStruct));
-        }
-        if self.is_at(';') {
-            return Err(self.refused(Why::NoFields));
+            let value = self.value()?;
+            if self.is_at_word("where") {
+                return Err(self.refused(Why::Where));
+            }
+            self.expect(';')?;
+            return Ok(Body::Struct(value));
         }
         self.expect('{')?;
-        Ok(Body::Fields(self.fields()?))
+        Ok(Body::Struct(Value::Fields(self.fields()?)))
     }
 
     // Skips attributes, and then `pub` with its parentheses.
@@ -287,7 +292,7 @@ impl<'t> Reader<'t> {
         Ok(variants)
     }
 
-    // Reads the fields of a variant, if any; refuses empty braces and parentheses.
+    // Reads the fields of a variant or of a struct without names, if any; refuses empty braces and parentheses.
     fn value(&mut self) -> Result<Value, Unread> {
         if self.eat('(') {
             let types = self.types()?;

@@ -1,17 +1,32 @@
 //! The code for a struct.
-use crate::item::Field;
-use crate::lines::{Header, Lines, WIDTH, each, in_clause, in_tuple, joined, keep, parameter};
+use crate::item::Value;
+use crate::lines::{
+    Header, ITEMS, Lines, WIDTH, each, in_angles, in_clause, in_tuple, joined, keep, parameter,
+};
 use crate::names::add_names;
 use std::alloc::{AllocError, Global};
+
+// How the fields of a struct are written.
+#[derive(Clone, Copy, Debug, PartialEq, Eq)]
+enum Style {
+    Unit,
+    Numbered,
+    Named,
+}
 
 /// The code for a struct, and the names in it.
 #[derive(Drop)]
 pub struct Page {
     alloc: Global,
     lines: Lines,
-    // The name of the struct, and the type of its rows.
+    style: Style,
+    // The name of the struct, that of the struct of its rows, and the type of its rows.
     own: String,
+    row_name: String,
     row: String,
+    // The alias of the tuple of the fields, or of `()`.
+    parts: String,
+    // The names or the numbers of the fields, and their types.
     fields: Vec<String>,
     kinds: Vec<String>,
     // A type parameter for each field, and their tuple.
@@ -20,23 +35,41 @@ pub struct Page {
 }
 
 impl Page {
-    /// Makes a page without code for a struct of this name.
-    pub fn new(alloc: Global, own: &str, fields: &[Field]) -> Result<Page, AllocError> {
+    /// Makes a page without code for a struct of this name. `prefix` begins the names of aliases.
+    pub fn new(alloc: Global, own: &str, prefix: &str, value: &Value) -> Result<Page, AllocError> {
         let mut names = Vec::new(alloc);
         let mut kinds = Vec::new(alloc);
+        let style = match value {
+            Value::Nothing => Style::Unit,
+            Value::Types(types) => {
+                for (i, kind) in types.iter().enumerate() {
+                    keep(&mut names, format!(in alloc; "{i}")?)?;
+                    keep(&mut kinds, String::from_str(alloc, kind.as_str())?)?;
+                }
+                Style::Numbered
+            }
+            Value::Fields(fields) => {
+                for field in fields {
+                    keep(&mut names, String::from_str(alloc, field.name.as_str())?)?;
+                    keep(&mut kinds, String::from_str(alloc, field.kind.as_str())?)?;
+                }
+                Style::Named
+            }
+        };
         let mut params = Vec::new(alloc);
-        for (i, field) in fields.iter().enumerate() {
-            keep(&mut names, String::from_str(alloc, field.name.as_str())?)?;
-            keep(&mut kinds, String::from_str(alloc, field.kind.as_str())?)?;
+        for (i, _) in kinds.iter().enumerate() {
             keep(&mut params, parameter(alloc, i)?)?;
         }
-        let list = joined(alloc, params.as_slice(), ", ")?;
+        let angles = in_angles(alloc, params.as_slice())?;
         let tuple = in_tuple(alloc, params.as_slice())?;
         Ok(Page {
             alloc,
             lines: Lines::new(alloc),
+            style,
             own: String::from_str(alloc, own)?,
-            row: format!(in alloc; "{own}Reference<{list}>")?,
+            row_name: format!(in alloc; "{own}Reference")?,
+            row: format!(in alloc; "{own}Reference{angles}")?,
+            parts: format!(in alloc; "{prefix}Parts")?,
             fields: names,
             kinds,
             params,
@@ -48,71 +81,86 @@ impl Page {
     pub fn printed(self) -> Result<String, AllocError> {
         let mut page = self;
         page.add_head()?;
+        page.add_row()?;
         page.add_items()?;
         page.add_made_rows()?;
-        page.add_pushes()?;
+        page.add_pushed_values()?;
+        page.add_pushed_rows()?;
         page.add_names()?;
         page.add_owned()?;
+        page.add_values_of_rows()?;
         let Page { lines, .. } = page;
         Ok(lines.into_text())
     }
 
-    // Adds the head of the file: the column, and the struct of the rows.
+    // Adds the column, and the tuple of the fields.
     fn add_head(&mut self) -> Result<(), AllocError> {
         let own = self.own.as_str();
-        let row = self.row.as_str();
-        let head = format!(in self.alloc;
-            "//! Rows of `{own}`, as `columnar_derive` writes them.
-use super::*;
-use columnar::fault::{{GrowError, OwnError}};
-use columnar::names::PartNames;
-use columnar::{{Columnar, ContainerOf, FromRow, Item, MakeRow, OwnRow, OwnRows, Push, PushParts}};
-use std::alloc::Global;
-
-/// A column of values of `{own}`.
+        self.lines.put(format!(in self.alloc;
+            "/// A column of values of `{own}`.
 pub type {own}Container = ContainerOf<{own}>;
 
 // The fields, in their order"
-        )?;
-        let row = format!(in self.alloc;
+        ))?;
+        let before = format!(in self.alloc; "type {} = ", self.parts)?;
+        self.lines
+            .add_tuple("", before.as_str(), self.kinds.as_slice(), ";")
+    }
+
+    // Adds the struct of the rows.
+    fn add_row(&mut self) -> Result<(), AllocError> {
+        let row = self.row.as_str();
+        self.lines.put(format!(in self.alloc;
             "
-/// What stands for a value of `{own}` in a column.
-#[derive(Clone, Copy, Debug)]
-pub struct {row} {{"
-        )?;
-        self.lines.add(head.as_str())?;
-        let kinds = self.kinds.as_slice();
-        self.lines.add_tuple("", "type Parts = ", kinds, ";")?;
-        self.lines.add(row.as_str())?;
-        for (name, param) in self.fields.iter().zip(self.params.iter()) {
-            self.lines
-                .put(format!(in self.alloc; "    pub {name}: {param},"))?;
+/// What stands for a value of `{}` in a column.
+#[derive(Clone, Copy, Debug)]",
+            self.own
+        ))?;
+        match self.style {
+            Style::Unit => self
+                .lines
+                .put(format!(in self.alloc; "pub struct {row};\n")),
+            Style::Numbered => {
+                let before = format!(in self.alloc; "pub struct {row}(")?;
+                let items = each(self.alloc, self.params.as_slice(), "pub ", "")?;
+                self.lines
+                    .add_list("", before.as_str(), items.as_slice(), ");\n", WIDTH)
+            }
+            Style::Named => {
+                self.lines
+                    .put(format!(in self.alloc; "pub struct {row} {{"))?;
+                for (name, param) in self.fields.iter().zip(self.params.iter()) {
+                    self.lines
+                        .put(format!(in self.alloc; "    pub {name}: {param},"))?;
+                }
+                self.lines.add("}\n")
+            }
         }
-        self.lines.add("}\n")
+    }
+
+    // Returns the tuple of the fields of `e`, in the syntax of clauses.
+    fn tuple_in_clause(&self) -> Result<String, AllocError> {
+        if self.style == Style::Unit {
+            return String::from_str(self.alloc, "tt");
+        }
+        let fields = each(self.alloc, self.fields.as_slice(), "e.", "")?;
+        in_clause(self.alloc, fields.as_slice())
     }
 
     // Adds the meaning of values and rows: that of the tuple of their fields.
     fn add_items(&mut self) -> Result<(), AllocError> {
+        let fields = self.tuple_in_clause()?;
         let own = self.own.as_str();
+        let parts = self.parts.as_str();
         let tuple = self.tuple.as_str();
-        let fields = each(self.alloc, self.fields.as_slice(), "e.", "")?;
-        let fields = in_clause(self.alloc, fields.as_slice())?;
-        let of_values = format!(in self.alloc;
+        self.lines.put(format!(in self.alloc;
             "impl Item for {own} {{
-    ghost meaning = {{ λ e. ⟦<Parts as Item>⟧.meaning {fields} }};
+    ghost meaning = {{ λ e. ⟦<{parts} as Item>⟧.meaning {fields} }};
 
-    ghost valid = {{ λ e. ⟦<Parts as Item>⟧.valid {fields} }};
+    ghost valid = {{ λ e. ⟦<{parts} as Item>⟧.valid {fields} }};
 }}
 "
-        )?;
-        let of_rows = format!(in self.alloc;
-            "    ghost meaning = {{ λ e. ⟦<{tuple} as Item>⟧.meaning {fields} }};
-
-    ghost valid = {{ λ e. ⟦<{tuple} as Item>⟧.valid {fields} }};
-}}
-"
-        )?;
-        self.lines.add(of_values.as_str())?;
+        ))?;
         let params = each(self.alloc, self.params.as_slice(), "", ": Item")?;
         self.lines.add_header(&Header {
             params: params.as_slice(),
@@ -121,22 +169,44 @@ pub struct {row} {{"
             own: self.row.as_str(),
             after: " {",
         })?;
-        self.lines.add(of_rows.as_str())
+        self.lines.put(format!(in self.alloc;
+            "    ghost meaning = {{ λ e. ⟦<{tuple} as Item>⟧.meaning {fields} }};
+
+    ghost valid = {{ λ e. ⟦<{tuple} as Item>⟧.valid {fields} }};
+}}
+"
+        ))
     }
 
-    // Adds a literal of the struct or of its row, with these values of the fields.
+    // Adds a value of the struct or of its row, with these values of the fields.
     fn add_struct(
         &mut self,
         before: &str,
+        name: &str,
         values: &[String],
         after: &str,
     ) -> Result<(), AllocError> {
-        let mut items = Vec::new(self.alloc);
-        for (name, value) in self.fields.iter().zip(values.iter()) {
-            keep(&mut items, format!(in self.alloc; "{name}: {value}")?)?;
+        let indent = "        ";
+        match self.style {
+            Style::Unit => self
+                .lines
+                .put(format!(in self.alloc; "{indent}{before}{name}{after}")),
+            Style::Numbered => {
+                let before = format!(in self.alloc; "{before}{name}(")?;
+                let after = format!(in self.alloc; "){after}")?;
+                self.lines
+                    .add_list(indent, before.as_str(), values, after.as_str(), ITEMS)
+            }
+            Style::Named => {
+                let mut items = Vec::new(self.alloc);
+                for (name, value) in self.fields.iter().zip(values.iter()) {
+                    keep(&mut items, format!(in self.alloc; "{name}: {value}")?)?;
+                }
+                let before = format!(in self.alloc; "{before}{name} ")?;
+                self.lines
+                    .add_braces(indent, before.as_str(), items.as_slice(), after)
+            }
         }
-        self.lines
-            .add_braces("        ", before, items.as_slice(), after)
     }
 
     // Returns the parts of a tuple, by number.
@@ -158,50 +228,57 @@ pub struct {row} {{"
             own: self.own.as_str(),
             after: " {",
         })?;
-        let own = self.own.as_str();
-        let tuple = self.tuple.as_str();
-        let row = self.row.as_str();
-        let begun = format!(in self.alloc;
-            "    type Row = {row};
+        let unused = if self.style == Style::Unit { "_" } else { "" };
+        self.lines.put(format!(in self.alloc;
+            "    type Row = {};
 
-    fn make_row(row: {tuple}) -> Self::Row {{"
-        )?;
-        let name = format!(in self.alloc; "{own}Reference ")?;
-        self.lines.add(begun.as_str())?;
+    fn make_row({unused}row: {}) -> Self::Row {{",
+            self.row, self.tuple
+        ))?;
+        let name = String::from_str(self.alloc, self.row_name.as_str())?;
         let parts = self.parts_of("row")?;
-        self.add_struct(name.as_str(), parts.as_slice(), "")?;
+        self.add_struct("", name.as_str(), parts.as_slice(), "")?;
         self.lines.add("    }\n}\n")
     }
 
-    // Adds the impls that push values and rows.
-    fn add_pushes(&mut self) -> Result<(), AllocError> {
-        let own = self.own.as_str();
-        let tuple = self.tuple.as_str();
-        self.lines.put(format!(in self.alloc;
-            "impl PushParts<ContainerOf<Parts>, {own}> for {own} {{
-    fn push_parts(&self, parts: &mut ContainerOf<Parts>) -> Result<(), GrowError> {{"
-        ))?;
-        let lent = each(self.alloc, self.fields.as_slice(), "&self.", "")?;
+    // Adds a push of the fields, each after `before`.
+    fn add_push(&mut self, before: &str) -> Result<(), AllocError> {
+        let fields = each(self.alloc, self.fields.as_slice(), before, "")?;
         self.lines
-            .add_values("        ", "parts.push(", lent.as_slice(), ")")?;
-        self.lines.add("    }\n}\n")?;
+            .add_values("        ", "parts.push(", fields.as_slice(), ")")?;
+        self.lines.add("    }\n}\n")
+    }
+
+    // Adds the impl that pushes values.
+    fn add_pushed_values(&mut self) -> Result<(), AllocError> {
+        let own = self.own.as_str();
+        let parts = self.parts.as_str();
+        self.lines.put(format!(in self.alloc;
+            "impl PushParts<ContainerOf<{parts}>, {own}> for {own} {{
+    fn push_parts(&self, parts: &mut ContainerOf<{parts}>) -> Result<(), GrowError> {{"
+        ))?;
+        self.add_push("&self.")
+    }
+
+    // Adds the impl that pushes rows.
+    fn add_pushed_rows(&mut self) -> Result<(), AllocError> {
         let mut params = each(self.alloc, self.params.as_slice(), "", ": Copy + Item")?;
-        keep(&mut params, format!(in self.alloc; "P: Push<{tuple}>")?)?;
+        keep(
+            &mut params,
+            format!(in self.alloc; "P: Push<{}>", self.tuple)?,
+        )?;
         self.lines.add_header(&Header {
             params: params.as_slice(),
             trait_name: "PushParts",
             of: &[
                 String::from_str(self.alloc, "P")?,
-                String::from_str(self.alloc, own)?,
+                String::from_str(self.alloc, self.own.as_str())?,
             ],
             own: self.row.as_str(),
             after: " {",
         })?;
         self.lines.add("    fn push_parts(&self, parts: &mut P) -> Result<(), GrowError> {")?;
-        let copied = each(self.alloc, self.fields.as_slice(), "self.", "")?;
-        self.lines
-            .add_values("        ", "parts.push(", copied.as_slice(), ")")?;
-        self.lines.add("    }\n}\n")
+        self.add_push("self.")
     }
 
     // Adds the names of the fields.
@@ -214,31 +291,40 @@ pub struct {row} {{"
         )
     }
 
-    // Adds the column of the values, and the impl that makes a value from a row.
+    // Adds the column of the values.
     fn add_owned(&mut self) -> Result<(), AllocError> {
         let own = self.own.as_str();
-        let tuple = self.tuple.as_str();
-        let columnar = format!(in self.alloc;
+        let parts = self.parts.as_str();
+        self.lines.put(format!(in self.alloc;
             "impl Columnar for {own} {{
-    ghost unfit = {{ ⟦<Parts as Columnar>⟧.unfit }};
+    ghost unfit = {{ ⟦<{parts} as Columnar>⟧.unfit }};
 
-    type Container = OwnRows<ContainerOf<Parts>, {own}>;
+    type Container = OwnRows<ContainerOf<{parts}>, {own}>;
 }}
 "
-        )?;
-        let from_row = format!(in self.alloc;
+        ))
+    }
+
+    // Adds the impl that makes a value from a row.
+    fn add_values_of_rows(&mut self) -> Result<(), AllocError> {
+        let own = self.own.as_str();
+        let parts = self.parts.as_str();
+        let name = if self.style == Style::Unit {
+            "_parts"
+        } else {
+            "parts"
+        };
+        self.lines.put(format!(in self.alloc;
             "impl<R: Item> FromRow<OwnRow<R, {own}>> for {own}
 where
-    Parts: FromRow<R>,
+    {parts}: FromRow<R>,
 {{
     fn from_row(alloc: Global, row: OwnRow<R, {own}>) -> Result<Self, OwnError> {{
-        let parts = Parts::from_row(alloc, row.parts)?;"
-        )?;
-        self.lines.add(columnar.as_str())?;
-        self.lines.add(from_row.as_str())?;
-        let made = format!(in self.alloc; "Ok({} ", self.own)?;
+        let {name} = {parts}::from_row(alloc, row.parts)?;"
+        ))?;
+        let own = String::from_str(self.alloc, self.own.as_str())?;
         let parts = self.parts_of("parts")?;
-        self.add_struct(made.as_str(), parts.as_slice(), ")")?;
+        self.add_struct("Ok(", own.as_str(), parts.as_slice(), ")")?;
         self.lines.add("    }\n}")
     }
 }

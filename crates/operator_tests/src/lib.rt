@@ -10,6 +10,8 @@ mod hashes;
 #[cfg(test)]
 mod numbers;
 #[cfg(test)]
+mod place;
+#[cfg(test)]
 mod reading;
 #[cfg(test)]
 mod refused;

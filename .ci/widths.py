@@ -19,13 +19,14 @@ sys.path.insert(0, os.path.join(ROOT, ".ci", "widths"))
 
 import cells
 import earlier
+import fields
 import names_of_tuples
 import ordered
 import same
 import tuples
 import types_of_tuples
 
-KINDS = (tuples, ordered, same, earlier, cells, types_of_tuples, names_of_tuples)
+KINDS = (tuples, ordered, same, earlier, cells, fields, types_of_tuples, names_of_tuples)
 
 
 def make(folder):

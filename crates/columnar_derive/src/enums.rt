@@ -2,7 +2,8 @@
 use crate::cases::Case;
 use crate::item::{Value, Variant};
 use crate::lines::{Header, Lines, WIDTH, each, in_angles, joined, keep, parameter};
-use crate::names::add_names;
+use crate::names::{add_names, method_name};
+use crate::views::{View, Views};
 use std::alloc::{AllocError, Global};
 
 /// The code for an enum, and the names in it.
@@ -85,6 +86,8 @@ impl EnumPage {
         page.add_names()?;
         page.add_owned()?;
         page.add_values_of_rows()?;
+        page.add_places()?;
+        page.add_views()?;
         let EnumPage { lines, .. } = page;
         Ok(lines.into_text())
     }
@@ -495,5 +498,87 @@ impl PushParts<{parts}, {own}> for {own} {{
             case.add_value_made(self.alloc, &mut self.lines, own, row_name)?;
         }
         self.lines.add("        }\n    }\n}")
+    }
+
+    // Adds the places of the variants, and the columns of their values in a view.
+    fn add_places(&mut self) -> Result<(), AllocError> {
+        let params = self.view_params()?;
+        self.lines.add("\n// The places of the variants")?;
+        let prefix = self.prefix.as_str();
+        let mut before: Option<&str> = None;
+        for case in &self.cases {
+            let name = case.name.as_str();
+            let place = match before {
+                None => String::from_str(self.alloc, "Zero")?,
+                Some(before) => format!(in self.alloc; "Next<{prefix}At{before}>")?,
+            };
+            let alias = format!(in self.alloc; "type {prefix}At{name} =")?;
+            let place = format!(in self.alloc; "columnar::sums::variants::{place};\n")?;
+            self.lines.add_alias(alias.as_str(), place.as_str())?;
+            before = Some(name);
+        }
+        let before = format!(in self.alloc;
+            "type {prefix}Views{} = ",
+            in_angles(self.alloc, params.as_slice())?
+        )?;
+        self.lines
+            .add("// The values of a view, a column for each variant")?;
+        self.lines.add_pairs(before.as_str(), params.as_slice())
+    }
+
+    // Returns a type parameter for each variant.
+    fn view_params(&self) -> Result<Vec<String>, AllocError> {
+        let mut params = Vec::new(self.alloc);
+        for (i, _) in self.cases.iter().enumerate() {
+            keep(&mut params, parameter(self.alloc, i)?)?;
+        }
+        Ok(params)
+    }
+
+    // Returns the parts of a view: the values of each variant.
+    fn views(&self) -> Result<Vec<View>, AllocError> {
+        let mut views = Vec::new(self.alloc);
+        for (i, case) in self.cases.iter().enumerate() {
+            let name = case.name.as_str();
+            let view = View {
+                method: method_name(self.alloc, name)?,
+                told: format!(in self.alloc; "the values of `{name}`")?,
+                rows: format!(in self.alloc; "of_case {i}")?,
+                value: format!(in self.alloc;
+                    "values_at::<{}At{name}, _, _, _>(self.parts)",
+                    self.prefix
+                )?,
+            };
+            match views.push(view) {
+                Ok(()) => {}
+                Err(error) => return Err(AllocError::from(error)),
+            }
+        }
+        Ok(views)
+    }
+
+    // Adds the trait that names the values of the variants of a view.
+    fn add_views(&mut self) -> Result<(), AllocError> {
+        let parts = self.views()?;
+        let params = self.view_params()?;
+        let own = self.own.as_str();
+        let told = format!(in self.alloc;
+            "The values of each variant of `{own}` in a view, by name."
+        )?;
+        let angles = in_angles(self.alloc, params.as_slice())?;
+        let of = format!(in self.alloc;
+            "OwnRows<Variants<{}Views{angles}, &'x [u8], columnar::common::View<'x, u64>>, {own}>",
+            self.prefix
+        )?;
+        let views = Views {
+            own,
+            told: told.as_str(),
+            imports: "Rattle.columnar.specs.Variants.{of_case}",
+            params: params.as_slice(),
+            others: &[String::from_str(self.alloc, "'x")?],
+            of: of.as_str(),
+            parts: parts.as_slice(),
+        };
+        views.add(self.alloc, &mut self.lines)
     }
 }

@@ -9,6 +9,8 @@ pub struct Types<'x> {
     pub names: &'x [String],
     /// Whether one of them is an enum.
     pub has_enum: bool,
+    /// Whether one of them has a part.
+    pub has_parts: bool,
 }
 
 // Returns the names in a sentence: `A`, `A` and `B`, or `A`, `B` and `C`.
@@ -37,9 +39,16 @@ use columnar::names::PartNames;"
     ))?;
     if types.has_enum {
         lines.add(
-            "use columnar::sums::variants::{Last, Nth, Variants};
+            "use columnar::sums::variants::{Last, Nth, Variants, values_at};
 use columnar::{
-    Columnar, ContainerOf, FromRow, Item, LendRow, MakeRow, OwnRow, OwnRows, Push, PushParts,
+    Column, Columnar, ContainerOf, FromRow, Item, LendRow, MakeRow, OwnRow, OwnRows, Push,
+    PushParts,
+};",
+        )?;
+    } else if types.has_parts {
+        lines.add(
+            "use columnar::{
+    Column, Columnar, ContainerOf, FromRow, Item, MakeRow, OwnRow, OwnRows, Push, PushParts,
 };",
         )?;
     } else {

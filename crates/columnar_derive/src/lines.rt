@@ -147,6 +147,22 @@ fn nested(alloc: Global, items: &[String], from: usize, last: &str) -> Result<St
     Ok(text)
 }
 
+// Returns the nested pairs of the items from `from` on, on one line.
+fn paired(alloc: Global, items: &[String], from: usize) -> Result<String, AllocError> {
+    let mut text = String::new(alloc);
+    for (i, item) in items.iter().enumerate().skip(from) {
+        let is_last = i.saturating_add(1) == items.len();
+        write!(text, "({item},")?;
+        if !is_last {
+            text.push(' ')?;
+        }
+    }
+    for _ in items.iter().skip(from) {
+        text.push(')')?;
+    }
+    Ok(text)
+}
+
 // Returns the number of characters of a text.
 fn width(text: &str) -> usize {
     text.chars().count()
@@ -312,6 +328,37 @@ impl Lines {
         self.end_nest(items.len())
     }
 
+    /// Adds `before`, nested pairs of the items, and a semicolon: the first item and the pairs of the others, down to a
+    /// tuple of the last.
+    pub fn add_pairs(&mut self, before: &str, items: &[String]) -> Result<(), AllocError> {
+        let mut begun = String::from_str(self.alloc, before)?;
+        let mut indent = String::new(self.alloc);
+        let mut depth = 0usize;
+        for (i, item) in items.iter().enumerate() {
+            let pairs = paired(self.alloc, items, i)?;
+            let after = if i == 0 { ";" } else { "," };
+            let line = format!(in self.alloc; "{indent}{begun}{pairs}{after}")?;
+            if fits(line.as_str()) {
+                self.add(line.as_str())?;
+                break;
+            }
+            self.put(format!(in self.alloc;
+                "{indent}{begun}(
+    {indent}{item},"
+            ))?;
+            begun = String::new(self.alloc);
+            indent.push_str("    ")?;
+            depth = depth.saturating_add(1);
+        }
+        for left in (0..depth).rev() {
+            for _ in 0..left {
+                self.text.push_str("    ")?;
+            }
+            self.add(if left == 0 { ");" } else { ")," })?;
+        }
+        Ok(())
+    }
+
     // Adds the ends of `depth` nests, the innermost first.
     fn end_nest(&mut self, depth: usize) -> Result<(), AllocError> {
         for left in (0..depth).rev() {
@@ -370,6 +417,15 @@ impl Lines {
             "{indent}{pattern} =>
 {indent}    {value},"
         ))
+    }
+
+    /// Adds an alias: on one line, or with the type on a line of its own.
+    pub fn add_alias(&mut self, alias: &str, kind: &str) -> Result<(), AllocError> {
+        let line = format!(in self.alloc; "{alias} {kind}")?;
+        if fits(line.as_str().trim_end()) {
+            return self.add(line.as_str());
+        }
+        self.put(format!(in self.alloc; "{alias}\n    {kind}"))
     }
 
     /// Adds the header of an impl.

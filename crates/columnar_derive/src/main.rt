@@ -14,6 +14,7 @@ mod place;
 mod printer;
 mod structs;
 mod tokens;
+mod views;
 
 use std::env;
 use std::process::ExitCode;

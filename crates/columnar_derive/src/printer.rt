@@ -1,7 +1,7 @@
 //! The code that makes structs and enums the rows of columns.
 use crate::enums::EnumPage;
 use crate::head::{Types, add_head};
-use crate::item::{Body, Description};
+use crate::item::{Body, Description, Value};
 use crate::lines::{Lines, keep};
 use crate::structs::Page;
 use std::alloc::{AllocError, Global};
@@ -43,9 +43,17 @@ pub fn printed(
 fn head(alloc: Global, lines: &mut Lines, types: &[Description]) -> Result<(), AllocError> {
     let mut names = Vec::new(alloc);
     let mut has_enum = false;
+    let mut has_parts = false;
     for one in types {
         keep(&mut names, String::from_str(alloc, one.name.as_str())?)?;
-        has_enum = has_enum || matches!(&one.body, Body::Enum(_));
+        match &one.body {
+            Body::Enum(_) => {
+                has_enum = true;
+                has_parts = true;
+            }
+            Body::Struct(Value::Nothing) => {}
+            Body::Struct(_) => has_parts = true,
+        }
     }
     add_head(
         alloc,
@@ -53,6 +61,7 @@ fn head(alloc: Global, lines: &mut Lines, types: &[Description]) -> Result<(), A
         &Types {
             names: names.as_slice(),
             has_enum,
+            has_parts,
         },
     )
 }

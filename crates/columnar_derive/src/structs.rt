@@ -4,6 +4,7 @@ use crate::lines::{
     Header, ITEMS, Lines, WIDTH, each, in_angles, in_clause, in_tuple, joined, keep, parameter,
 };
 use crate::names::add_names;
+use crate::views::{View, Views};
 use std::alloc::{AllocError, Global};
 
 // How the fields of a struct are written.
@@ -89,6 +90,7 @@ impl Page {
         page.add_names()?;
         page.add_owned()?;
         page.add_values_of_rows()?;
+        page.add_views()?;
         let Page { lines, .. } = page;
         Ok(lines.into_text())
     }
@@ -326,5 +328,88 @@ where
         let parts = self.parts_of("parts")?;
         self.add_struct("Ok(", own.as_str(), parts.as_slice(), ")")?;
         self.lines.add("    }\n}")
+    }
+
+    // Returns the parts of a view: the column of each field.
+    fn views(&self) -> Result<Vec<View>, AllocError> {
+        let mut views = Vec::new(self.alloc);
+        let count = self.fields.len();
+        let function = function_of(count);
+        for (i, field) in self.fields.iter().enumerate() {
+            let is_last = i.saturating_add(1) == count;
+            let rows = if count == 1 {
+                String::from_str(self.alloc, "rows_of_only")?
+            } else if is_last {
+                format!(in self.alloc; "rows_of_last {i}")?
+            } else {
+                format!(in self.alloc; "rows_of_field {i}")?
+            };
+            let method = if self.style == Style::Named {
+                String::from_str(self.alloc, field.as_str())?
+            } else {
+                format!(in self.alloc; "field_{i}")?
+            };
+            let value = if count == 1 {
+                format!(in self.alloc; "columnar::own::{function}(self.parts)")?
+            } else {
+                format!(in self.alloc; "columnar::own::{function}(self.parts).{i}")?
+            };
+            let told = format!(in self.alloc; "the column of `{field}`")?;
+            let view = View {
+                method,
+                told,
+                rows,
+                value,
+            };
+            match views.push(view) {
+                Ok(()) => {}
+                Err(error) => return Err(AllocError::from(error)),
+            }
+        }
+        Ok(views)
+    }
+
+    // Adds the trait that names the columns of the fields of a view, if there are fields.
+    fn add_views(&mut self) -> Result<(), AllocError> {
+        if self.style == Style::Unit {
+            return Ok(());
+        }
+        let parts = self.views()?;
+        let own = self.own.as_str();
+        let told = format!(in self.alloc;
+            "The columns of the fields of `{own}` in a view, by name."
+        )?;
+        let of = format!(in self.alloc; "OwnRows<{}, {own}>", self.tuple)?;
+        let imports = if self.fields.len() == 1 {
+            "Rattle.columnar.specs.Fields.{rows_of_only}"
+        } else {
+            "Rattle.columnar.specs.Fields.{rows_of_field, rows_of_last}"
+        };
+        let views = Views {
+            own,
+            told: told.as_str(),
+            imports,
+            params: self.params.as_slice(),
+            others: &[],
+            of: of.as_str(),
+            parts: parts.as_slice(),
+        };
+        views.add(self.alloc, &mut self.lines)
+    }
+}
+
+// Returns the function that splits a view of so many fields, from one to ten.
+fn function_of(count: usize) -> &'static str {
+    match count {
+        1 => "field_of_one",
+        2 => "fields_of_two",
+        3 => "fields_of_three",
+        4 => "fields_of_four",
+        5 => "fields_of_five",
+        6 => "fields_of_six",
+        7 => "fields_of_seven",
+        8 => "fields_of_eight",
+        9 => "fields_of_nine",
+        _ => "fields_of_ten",
     }
 }

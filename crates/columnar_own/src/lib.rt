@@ -2,6 +2,7 @@
 #![tactic(auto)]
 
 pub mod bytes;
+pub mod fields;
 pub mod grow;
 pub mod push;
 pub mod rows;

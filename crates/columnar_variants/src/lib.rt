@@ -8,5 +8,6 @@ pub mod copy;
 pub mod count;
 pub mod dual;
 pub mod fronts;
+pub mod nth;
 pub mod run;
 pub mod variants;

@@ -2,9 +2,9 @@
 use super::*;
 use columnar::fault::{GrowError, OwnError};
 use columnar::names::PartNames;
-use columnar::sums::variants::{Last, Nth, Variants};
+use columnar::sums::variants::{Last, Nth, Variants, values_at};
 use columnar::{
-    Columnar, ContainerOf, FromRow, Item, LendRow, MakeRow, OwnRow, OwnRows, Push, PushParts,
+    Column, Columnar, ContainerOf, FromRow, Item, LendRow, MakeRow, OwnRow, OwnRows, Push, PushParts,
 };
 use std::alloc::Global;
 
@@ -75,6 +75,28 @@ where
     }
 }
 
+/// The columns of the fields of `Meters` in a view, by name.
+pub trait MetersColumns<A: Column>: Column {
+    ghost use Rattle.std.specs.Prelude.{◌≡◌};
+    ghost use Rattle.columnar.specs.Format.{IsSound};
+    ghost use Rattle.columnar.specs.Fields.{rows_of_only};
+
+    /// Returns the column of `0`.
+    ///
+    /// # Requires
+    /// A well-formed view.
+    fn field_0(self) -> A
+        requires { IsSound Self.format (Self.content self) }
+        ensures sound { IsSound A.format (A.content result) }
+        ensures rows { A.format.rows (A.content result) ≡ rows_of_only (Self.format.rows (Self.content self)) };
+}
+
+impl<A: Column + Copy> MetersColumns<A> for OwnRows<(A,), Meters> {
+    fn field_0(self) -> A {
+        columnar::own::field_of_one(self.parts)
+    }
+}
+
 /// A column of values of `Place`.
 pub type PlaceContainer = ContainerOf<Place>;
 
@@ -140,6 +162,41 @@ where
     fn from_row(alloc: Global, row: OwnRow<R, Place>) -> Result<Self, OwnError> {
         let parts = PlaceParts::from_row(alloc, row.parts)?;
         Ok(Place(parts.0, parts.1))
+    }
+}
+
+/// The columns of the fields of `Place` in a view, by name.
+pub trait PlaceColumns<A: Column, B: Column>: Column {
+    ghost use Rattle.std.specs.Prelude.{◌≡◌};
+    ghost use Rattle.columnar.specs.Format.{IsSound};
+    ghost use Rattle.columnar.specs.Fields.{rows_of_field, rows_of_last};
+
+    /// Returns the column of `0`.
+    ///
+    /// # Requires
+    /// A well-formed view.
+    fn field_0(self) -> A
+        requires { IsSound Self.format (Self.content self) }
+        ensures sound { IsSound A.format (A.content result) }
+        ensures rows { A.format.rows (A.content result) ≡ rows_of_field 0 (Self.format.rows (Self.content self)) };
+
+    /// Returns the column of `1`.
+    ///
+    /// # Requires
+    /// A well-formed view.
+    fn field_1(self) -> B
+        requires { IsSound Self.format (Self.content self) }
+        ensures sound { IsSound B.format (B.content result) }
+        ensures rows { B.format.rows (B.content result) ≡ rows_of_last 1 (Self.format.rows (Self.content self)) };
+}
+
+impl<A: Column + Copy, B: Column + Copy> PlaceColumns<A, B> for OwnRows<(A, B), Place> {
+    fn field_0(self) -> A {
+        columnar::own::fields_of_two(self.parts).0
+    }
+
+    fn field_1(self) -> B {
+        columnar::own::fields_of_two(self.parts).1
     }
 }
 
@@ -327,5 +384,49 @@ where
                 Ok(Found::Lost(a))
             }
         }
+    }
+}
+
+// The places of the variants
+type FoundAtAt = columnar::sums::variants::Zero;
+
+type FoundAtLost = columnar::sums::variants::Next<FoundAtAt>;
+
+// The values of a view, a column for each variant
+type FoundViews<A, B> = (A, (B,));
+
+/// The values of each variant of `Found` in a view, by name.
+pub trait FoundColumns<A: Column, B: Column>: Column {
+    ghost use Rattle.std.specs.Prelude.{◌≡◌};
+    ghost use Rattle.columnar.specs.Format.{IsSound};
+    ghost use Rattle.columnar.specs.Variants.{of_case};
+
+    /// Returns the values of `At`.
+    ///
+    /// # Requires
+    /// A well-formed view.
+    fn at(self) -> A
+        requires { IsSound Self.format (Self.content self) }
+        ensures sound { IsSound A.format (A.content result) }
+        ensures rows { A.format.rows (A.content result) ≡ of_case 0 (Self.format.rows (Self.content self)) };
+
+    /// Returns the values of `Lost`.
+    ///
+    /// # Requires
+    /// A well-formed view.
+    fn lost(self) -> B
+        requires { IsSound Self.format (Self.content self) }
+        ensures sound { IsSound B.format (B.content result) }
+        ensures rows { B.format.rows (B.content result) ≡ of_case 1 (Self.format.rows (Self.content self)) };
+}
+
+impl<'x, A: Column + Copy, B: Column + Copy> FoundColumns<A, B>
+    for OwnRows<Variants<FoundViews<A, B>, &'x [u8], columnar::common::View<'x, u64>>, Found> {
+    fn at(self) -> A {
+        values_at::<FoundAtAt, _, _, _>(self.parts)
+    }
+
+    fn lost(self) -> B {
+        values_at::<FoundAtLost, _, _, _>(self.parts)
     }
 }

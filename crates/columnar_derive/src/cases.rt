@@ -14,6 +14,8 @@ pub struct Case {
     pub kinds: Vec<String>,
     pub kind: String,
     pub lent: String,
+    /// The column of the values.
+    pub column: String,
     // A letter for each field, and the value made of the letters.
     letters: Vec<String>,
     value: String,
@@ -60,30 +62,28 @@ impl Case {
         let mut kinds = Vec::new(alloc);
         let mut fields = Vec::new(alloc);
         let mut letters = Vec::new(alloc);
-        match &variant.value {
-            Value::Nothing => {}
-            Value::Types(types) => {
-                for (i, kind) in types.iter().enumerate() {
-                    keep(&mut kinds, String::from_str(alloc, kind.as_str())?)?;
-                    keep(&mut letters, letter(alloc, i)?)?;
-                }
+        let (of, have_names) = match &variant.value {
+            Value::Nothing => (&[] as &[Field], false),
+            Value::Types(of) => (of.as_slice(), false),
+            Value::Fields(of) => (of.as_slice(), true),
+        };
+        for (i, field) in of.iter().enumerate() {
+            let letter = letter(alloc, i)?;
+            keep(&mut kinds, String::from_str(alloc, field.kind.as_str())?)?;
+            if have_names {
+                keep(&mut fields, named(alloc, field, letter.as_str())?)?;
             }
-            Value::Fields(of) => {
-                for (i, field) in of.iter().enumerate() {
-                    let letter = letter(alloc, i)?;
-                    keep(&mut kinds, String::from_str(alloc, field.kind.as_str())?)?;
-                    keep(&mut fields, named(alloc, field, letter.as_str())?)?;
-                    keep(&mut letters, letter)?;
-                }
-            }
+            keep(&mut letters, letter)?;
         }
         let name = variant.name.as_str();
         let (kind, lent) = value_types(alloc, prefix, name, kinds.as_slice())?;
+        let column = column_of(alloc, of, kind.as_str())?;
         Ok(Case {
             name: String::from_str(alloc, name)?,
             param,
             kind,
             lent,
+            column,
             kinds,
             value: one_or_tuple(alloc, letters.as_slice())?,
             letters,
@@ -263,6 +263,18 @@ impl Case {
             ")",
         )
     }
+}
+
+// Returns the column of a variant's value of this type, which has these fields.
+fn column_of(alloc: Global, fields: &[Field], kind: &str) -> Result<String, AllocError> {
+    if !fields.iter().any(|field| field.column.is_some()) {
+        return format!(in alloc; "ContainerOf<{kind}>");
+    }
+    let mut columns = Vec::new(alloc);
+    for field in fields {
+        keep(&mut columns, field.container(alloc)?)?;
+    }
+    one_or_tuple(alloc, columns.as_slice())
 }
 
 // Returns a field that is bound to its letter.

@@ -1,4 +1,5 @@
 //! The code for an enum.
+use crate::attributes::derived;
 use crate::cases::Case;
 use crate::item::{Value, Variant};
 use crate::lines::{Header, Lines, WIDTH, each, in_angles, joined, keep, parameter};
@@ -15,6 +16,8 @@ pub struct EnumPage {
     own: String,
     row_name: String,
     row: String,
+    // What the enum of the rows derives.
+    derives: String,
     // Begins the names of aliases; empty if the file has one type.
     prefix: String,
     // The type of the column of all parts, and the type as which its rows are read.
@@ -36,6 +39,7 @@ impl EnumPage {
         alloc: Global,
         own: &str,
         prefix: &str,
+        derives: &[String],
         variants: &[Variant],
         place: &str,
     ) -> Result<EnumPage, AllocError> {
@@ -63,6 +67,7 @@ impl EnumPage {
             own: String::from_str(alloc, own)?,
             row_name: format!(in alloc; "{own}Reference")?,
             row: format!(in alloc; "{own}Reference{angles}")?,
+            derives: derived(alloc, derives)?,
             prefix: String::from_str(alloc, prefix)?,
             parts: format!(in alloc; "{prefix}Parts")?,
             rows: format!(in alloc; "{prefix}Rows{angles}")?,
@@ -116,8 +121,10 @@ pub type {own}Container = ContainerOf<{own}>;
         for case in self.cases.iter().rev() {
             let name = case.name.as_str();
             let mut columns = Vec::new(self.alloc);
-            let own = format!(in self.alloc; "ContainerOf<{}>", case.kind)?;
-            keep(&mut columns, own)?;
+            keep(
+                &mut columns,
+                String::from_str(self.alloc, case.column.as_str())?,
+            )?;
             if let Some(others) = after {
                 keep(&mut columns, others)?;
             }
@@ -184,9 +191,9 @@ pub type {own}Container = ContainerOf<{own}>;
         self.lines.put(format!(in self.alloc;
             "
 /// What stands for a value of `{}` in a column.
-#[derive(Clone, Copy, Debug)]
+#[derive({})]
 pub enum {} {{",
-            self.own, self.row
+            self.own, self.derives, self.row
         ))?;
         for case in &self.cases {
             let name = case.name.as_str();

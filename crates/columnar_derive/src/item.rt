@@ -1,5 +1,5 @@
 //! The description of a struct or an enum, and why one is refused.
-use std::alloc::AllocError;
+use std::alloc::{AllocError, Global};
 use std::fmt;
 
 /// The parts of a struct or an enum that its rows need.
@@ -7,6 +7,8 @@ use std::fmt;
 pub struct Description {
     /// The name of the type.
     pub name: String,
+    /// What the struct or enum of its rows derives besides `Clone`, `Copy` and `Debug`.
+    pub derives: Vec<String>,
     /// Its fields or variants.
     pub body: Body,
 }
@@ -20,11 +22,22 @@ pub enum Body {
     Enum(Vec<Variant>),
 }
 
-/// A field: its name, and its type as written.
+/// A field: its name or its number, its type as written, and its column, if an attribute names it.
 #[derive(Debug, Drop)]
 pub struct Field {
     pub name: String,
     pub kind: String,
+    pub column: Option<String>,
+}
+
+impl Field {
+    /// Returns the column of the field: the one that is named, or that of its type.
+    pub fn container(&self, alloc: Global) -> Result<String, AllocError> {
+        match &self.column {
+            Some(column) => String::from_str(alloc, column.as_str()),
+            None => format!(in alloc; "ContainerOf<{}>", self.kind),
+        }
+    }
 }
 
 /// A variant: its name, and the fields of its values.
@@ -38,10 +51,18 @@ pub struct Variant {
 #[derive(Debug, Drop)]
 pub enum Value {
     Nothing,
-    /// One or more types without names, each as written.
-    Types(Vec<String>),
+    /// One or more fields without names.
+    Types(Vec<Field>),
     /// One or more fields with names.
     Fields(Vec<Field>),
+}
+
+/// What an attribute belongs to.
+#[derive(Clone, Copy, Debug, PartialEq, Eq)]
+pub enum Owner {
+    Type,
+    Field,
+    Variant,
 }
 
 /// Why a type is refused.
@@ -58,6 +79,15 @@ pub enum Why {
     TooManyVariants,
     Ghost,
     Discriminant,
+    Attribute(Owner),
+    Derive,
+    DeriveTwice,
+    /// A derive, and another that it needs.
+    DeriveNeeds(&'static str, &'static str),
+    DefaultOfEnum,
+    ColumnTwice,
+    Column,
+    SameMethod,
     Type,
     NameExpected,
     Expected(char),
@@ -78,6 +108,25 @@ impl fmt::Display for Why {
             Why::TooManyVariants => write!(f, "more than 256 variants"),
             Why::Ghost => write!(f, "a ghost field, which a row would not keep"),
             Why::Discriminant => write!(f, "a variant has a number of its own"),
+            Why::Attribute(Owner::Type) => write!(
+                f,
+                "above a type, `columnar(..)` takes only `derive(..)`"
+            ),
+            Why::Attribute(Owner::Field) => write!(
+                f,
+                "on a field, `columnar(..)` takes only `column = \"..\"`"
+            ),
+            Why::Attribute(Owner::Variant) => write!(f, "a variant takes no `columnar(..)`"),
+            Why::Derive => write!(
+                f,
+                "rows derive only PartialEq, Eq, PartialOrd, Ord, Hash and Default, and always Clone, Copy and Debug"
+            ),
+            Why::DeriveTwice => write!(f, "a derive that was named before"),
+            Why::DeriveNeeds(one, other) => write!(f, "`{one}` needs `{other}`"),
+            Why::DefaultOfEnum => write!(f, "the rows of an enum have no default"),
+            Why::ColumnTwice => write!(f, "a second column of a field"),
+            Why::Column => write!(f, "the text of `column` is no type"),
+            Why::SameMethod => write!(f, "two variants whose names are the same in lower case"),
             Why::Type => write!(
                 f,
                 "a type that is not read: only paths, tuples and arrays are"

@@ -2,6 +2,7 @@
 //! `columnar_derive FILE NAME.. [CRATE::MODULE]`.
 #![tactic(auto)]
 
+mod attributes;
 mod cases;
 mod cli;
 mod enums;

@@ -24,13 +24,17 @@ pub fn printed(
             ""
         };
         let text = match &one.body {
-            Body::Struct(value) => Page::new(alloc, one.name.as_str(), prefix, value)?.printed()?,
+            Body::Struct(value) => {
+                let own = one.name.as_str();
+                Page::new(alloc, own, prefix, one.derives.as_slice(), value)?.printed()?
+            }
             Body::Enum(variants) => {
                 let Some(place) = place else {
                     return Ok(None);
                 };
                 let own = one.name.as_str();
-                EnumPage::new(alloc, own, prefix, variants.as_slice(), place)?.printed()?
+                let derives = one.derives.as_slice();
+                EnumPage::new(alloc, own, prefix, derives, variants.as_slice(), place)?.printed()?
             }
         };
         lines.add("")?;

@@ -1,5 +1,6 @@
 //! The code for a struct.
-use crate::item::Value;
+use crate::attributes::derived;
+use crate::item::{Field, Value};
 use crate::lines::{
     Header, ITEMS, Lines, WIDTH, each, in_angles, in_clause, in_tuple, joined, keep, parameter,
 };
@@ -25,8 +26,13 @@ pub struct Page {
     own: String,
     row_name: String,
     row: String,
+    // What the struct of the rows derives.
+    derives: String,
     // The alias of the tuple of the fields, or of `()`.
     parts: String,
+    // The column of the parts, and the column of each field, if an attribute names one.
+    container: String,
+    columns: Vec<String>,
     // The names or the numbers of the fields, and their types.
     fields: Vec<String>,
     kinds: Vec<String>,
@@ -37,30 +43,28 @@ pub struct Page {
 
 impl Page {
     /// Makes a page without code for a struct of this name. `prefix` begins the names of aliases.
-    pub fn new(alloc: Global, own: &str, prefix: &str, value: &Value) -> Result<Page, AllocError> {
+    pub fn new(
+        alloc: Global,
+        own: &str,
+        prefix: &str,
+        derives: &[String],
+        value: &Value,
+    ) -> Result<Page, AllocError> {
         let mut names = Vec::new(alloc);
         let mut kinds = Vec::new(alloc);
-        let style = match value {
-            Value::Nothing => Style::Unit,
-            Value::Types(types) => {
-                for (i, kind) in types.iter().enumerate() {
-                    keep(&mut names, format!(in alloc; "{i}")?)?;
-                    keep(&mut kinds, String::from_str(alloc, kind.as_str())?)?;
-                }
-                Style::Numbered
-            }
-            Value::Fields(fields) => {
-                for field in fields {
-                    keep(&mut names, String::from_str(alloc, field.name.as_str())?)?;
-                    keep(&mut kinds, String::from_str(alloc, field.kind.as_str())?)?;
-                }
-                Style::Named
-            }
-        };
         let mut params = Vec::new(alloc);
-        for (i, _) in kinds.iter().enumerate() {
+        let (style, fields) = match value {
+            Value::Nothing => (Style::Unit, &[] as &[Field]),
+            Value::Types(fields) => (Style::Numbered, fields.as_slice()),
+            Value::Fields(fields) => (Style::Named, fields.as_slice()),
+        };
+        for (i, field) in fields.iter().enumerate() {
+            keep(&mut names, String::from_str(alloc, field.name.as_str())?)?;
+            keep(&mut kinds, String::from_str(alloc, field.kind.as_str())?)?;
             keep(&mut params, parameter(alloc, i)?)?;
         }
+        let parts = format!(in alloc; "{prefix}Parts")?;
+        let columns = columns_of(alloc, fields)?;
         let angles = in_angles(alloc, params.as_slice())?;
         let tuple = in_tuple(alloc, params.as_slice())?;
         Ok(Page {
@@ -70,7 +74,14 @@ impl Page {
             own: String::from_str(alloc, own)?,
             row_name: format!(in alloc; "{own}Reference")?,
             row: format!(in alloc; "{own}Reference{angles}")?,
-            parts: format!(in alloc; "{prefix}Parts")?,
+            derives: derived(alloc, derives)?,
+            container: if columns.is_empty() {
+                format!(in alloc; "ContainerOf<{parts}>")?
+            } else {
+                format!(in alloc; "{prefix}PartColumns")?
+            },
+            columns,
+            parts,
             fields: names,
             kinds,
             params,
@@ -106,7 +117,14 @@ pub type {own}Container = ContainerOf<{own}>;
         ))?;
         let before = format!(in self.alloc; "type {} = ", self.parts)?;
         self.lines
-            .add_tuple("", before.as_str(), self.kinds.as_slice(), ";")
+            .add_tuple("", before.as_str(), self.kinds.as_slice(), ";")?;
+        if self.columns.is_empty() {
+            return Ok(());
+        }
+        self.lines.add("\n// Their columns")?;
+        let before = format!(in self.alloc; "type {} = ", self.container)?;
+        self.lines
+            .add_tuple("", before.as_str(), self.columns.as_slice(), ";")
     }
 
     // Adds the struct of the rows.
@@ -115,8 +133,8 @@ pub type {own}Container = ContainerOf<{own}>;
         self.lines.put(format!(in self.alloc;
             "
 /// What stands for a value of `{}` in a column.
-#[derive(Clone, Copy, Debug)]",
-            self.own
+#[derive({})]",
+            self.own, self.derives
         ))?;
         match self.style {
             Style::Unit => self
@@ -254,10 +272,10 @@ pub type {own}Container = ContainerOf<{own}>;
     // Adds the impl that pushes values.
     fn add_pushed_values(&mut self) -> Result<(), AllocError> {
         let own = self.own.as_str();
-        let parts = self.parts.as_str();
+        let container = self.container.as_str();
         self.lines.put(format!(in self.alloc;
-            "impl PushParts<ContainerOf<{parts}>, {own}> for {own} {{
-    fn push_parts(&self, parts: &mut ContainerOf<{parts}>) -> Result<(), GrowError> {{"
+            "impl PushParts<{container}, {own}> for {own} {{
+    fn push_parts(&self, parts: &mut {container}) -> Result<(), GrowError> {{"
         ))?;
         self.add_push("&self.")
     }
@@ -301,9 +319,10 @@ pub type {own}Container = ContainerOf<{own}>;
             "impl Columnar for {own} {{
     ghost unfit = {{ ⟦<{parts} as Columnar>⟧.unfit }};
 
-    type Container = OwnRows<ContainerOf<{parts}>, {own}>;
+    type Container = OwnRows<{}, {own}>;
 }}
-"
+",
+            self.container
         ))
     }
 
@@ -396,6 +415,17 @@ where
         };
         views.add(self.alloc, &mut self.lines)
     }
+}
+
+// Returns the column of each field, if an attribute names one of them; otherwise nothing.
+fn columns_of(alloc: Global, fields: &[Field]) -> Result<Vec<String>, AllocError> {
+    let mut columns = Vec::new(alloc);
+    if fields.iter().any(|field| field.column.is_some()) {
+        for field in fields {
+            keep(&mut columns, field.container(alloc)?)?;
+        }
+    }
+    Ok(columns)
 }
 
 // Returns the function that splits a view of so many fields, from one to ten.

@@ -15,3 +15,5 @@ mod place;
 mod reading;
 #[cfg(test)]
 mod refused;
+#[cfg(test)]
+mod sample;

@@ -4,7 +4,8 @@ use columnar::fault::{GrowError, OwnError};
 use columnar::names::PartNames;
 use columnar::sums::variants::{Last, Nth, Variants, values_at};
 use columnar::{
-    Column, Columnar, ContainerOf, FromRow, Item, LendRow, MakeRow, OwnRow, OwnRows, Push, PushParts,
+    Column, Columnar, ContainerOf, FromRow, Item, LendRow, MakeRow, OwnRow, OwnRows, Push,
+    PushParts,
 };
 use std::alloc::Global;
 

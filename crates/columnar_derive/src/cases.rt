@@ -1,4 +1,5 @@
 //! The variants of an enum, and the code for each.
+use crate::generics::Generics;
 use crate::item::{Field, Value, Variant};
 use crate::lines::{Arm, Lines, in_tuple, joined, keep, letter};
 use std::alloc::{AllocError, Global};
@@ -35,9 +36,12 @@ fn one_or_tuple(alloc: Global, texts: &[String]) -> Result<String, AllocError> {
 fn value_types(
     alloc: Global,
     prefix: &str,
+    generics: &Generics,
     name: &str,
     kinds: &[String],
 ) -> Result<(String, String), AllocError> {
+    let of_value = generics.to_alias(alloc, &[], kinds)?;
+    let of_lent = generics.to_alias(alloc, &[String::from_str(alloc, "'x")?], kinds)?;
     match kinds {
         [] => Ok((in_tuple(alloc, &[])?, String::new(alloc))),
         [kind] => Ok((
@@ -45,8 +49,8 @@ fn value_types(
             format!(in alloc; "&'x {kind}")?,
         )),
         _ => Ok((
-            format!(in alloc; "{prefix}ValueOf{name}")?,
-            format!(in alloc; "{prefix}LentOf{name}<'x>")?,
+            format!(in alloc; "{prefix}ValueOf{name}{of_value}")?,
+            format!(in alloc; "{prefix}LentOf{name}{of_lent}")?,
         )),
     }
 }
@@ -56,6 +60,7 @@ impl Case {
     pub fn new(
         alloc: Global,
         prefix: &str,
+        generics: &Generics,
         variant: &Variant,
         param: String,
     ) -> Result<Case, AllocError> {
@@ -76,7 +81,7 @@ impl Case {
             keep(&mut letters, letter)?;
         }
         let name = variant.name.as_str();
-        let (kind, lent) = value_types(alloc, prefix, name, kinds.as_slice())?;
+        let (kind, lent) = value_types(alloc, prefix, generics, name, kinds.as_slice())?;
         let column = column_of(alloc, of, kind.as_str())?;
         Ok(Case {
             name: String::from_str(alloc, name)?,
@@ -162,16 +167,10 @@ impl Case {
         let indent = "            ";
         let name = self.name.as_str();
         let function = format!(in alloc; "{row_name}::{name}")?;
+        let pattern = self.pattern(alloc, own)?;
         if !self.has_value() {
-            let pattern = format!(in alloc; "{own}::{name}")?;
             return lines.add_path_arm(indent, pattern.as_str(), function.as_str());
         }
-        let pattern = if self.fields.is_empty() {
-            let list = joined(alloc, self.letters.as_slice(), ", ")?;
-            format!(in alloc; "{own}::{name}({list})")?
-        } else {
-            format!(in alloc; "{own}::{name}")?
-        };
         lines.add_arm(&Arm {
             indent,
             pattern: pattern.as_str(),
@@ -179,6 +178,57 @@ impl Case {
             function: function.as_str(),
             argument: self.value.as_str(),
         })
+    }
+
+    /// Adds the arm that pushes a value of variant `number` by the references to its fields, with `push`.
+    pub fn add_push_of_refs(
+        &self,
+        alloc: Global,
+        lines: &mut Lines,
+        own: &str,
+        number: usize,
+        is_last: bool,
+        push: &str,
+    ) -> Result<(), AllocError> {
+        let indent = "            ";
+        let pattern = self.pattern(alloc, own)?;
+        if self.fields.is_empty() {
+            lines.put(format!(in alloc; "{indent}{pattern} => {{"))?;
+        } else {
+            let before = format!(in alloc; "{pattern} ")?;
+            lines.add_braces(indent, before.as_str(), self.fields.as_slice(), " => {")?;
+        }
+        let refs = if self.has_value() {
+            self.value.as_str()
+        } else {
+            "&()"
+        };
+        let this = if is_last { "Last" } else { "Nth::This" };
+        lines.put(format!(in alloc; "{indent}    let value = {this}(ByRefs({refs}));"))?;
+        for _ in 0..number {
+            lines.put(format!(in alloc; "{indent}    let value = Nth::Next(value);"))?;
+        }
+        lines.put(format!(in alloc; "{indent}    {push}(parts, value)\n{indent}}}"))
+    }
+
+    // Returns the pattern of a value, without the fields in braces.
+    fn pattern(&self, alloc: Global, own: &str) -> Result<String, AllocError> {
+        let name = self.name.as_str();
+        if self.has_value() && self.fields.is_empty() {
+            let list = joined(alloc, self.letters.as_slice(), ", ")?;
+            format!(in alloc; "{own}::{name}({list})")
+        } else {
+            format!(in alloc; "{own}::{name}")
+        }
+    }
+
+    /// Returns the type of the references to the fields.
+    pub fn refs(&self, alloc: Global) -> Result<String, AllocError> {
+        if self.has_value() {
+            format!(in alloc; "ByRefs<{}>", self.lent)
+        } else {
+            String::from_str(alloc, "ByRefs<&'x ()>")
+        }
     }
 
     /// Adds the arm that pushes a row of variant `number`.
@@ -224,6 +274,7 @@ impl Case {
         lines: &mut Lines,
         own: &str,
         row_name: &str,
+        is_generic: bool,
     ) -> Result<(), AllocError> {
         let pattern = self.of(alloc, row_name, "a")?;
         if !self.has_value() {
@@ -236,10 +287,15 @@ impl Case {
                 argument: value.as_str(),
             });
         }
+        let kind = self.kind.as_str();
+        let made = if is_generic {
+            format!(in alloc; "let a: {kind} = a.into_value(alloc)?;")?
+        } else {
+            format!(in alloc; "let a = <{kind}>::from_row(alloc, a)?;")?
+        };
         lines.put(format!(in alloc;
             "            {pattern} => {{
-                let a = <{}>::from_row(alloc, a)?;",
-            self.kind
+                {made}"
         ))?;
         if self.kinds.len() > 1 {
             lines.put(format!(in alloc; "                let {} = a;", self.value))?;

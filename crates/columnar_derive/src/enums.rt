@@ -1,18 +1,21 @@
 //! The code for an enum.
 use crate::attributes::derived;
 use crate::cases::Case;
-use crate::item::{Value, Variant};
-use crate::lines::{Header, Lines, WIDTH, each, in_angles, joined, keep, parameter};
+use crate::generics::Generics;
+use crate::item::{Description, Value, Variant};
+use crate::lines::{Header, Lines, WIDTH, each, in_angles, joined, keep};
 use crate::names::{add_names, method_name};
 use crate::views::{View, Views};
 use std::alloc::{AllocError, Global};
 
 /// The code for an enum, and the names in it.
 #[derive(Drop)]
-pub struct EnumPage {
+pub struct EnumPage<'x> {
     alloc: Global,
     lines: Lines,
-    // The name of the enum, that of the enum of its rows, and the type of its rows.
+    generics: &'x Generics,
+    // The name of the enum, the enum with its parameters, the name of the enum of its rows, and that with its parameters.
+    name: String,
     own: String,
     row_name: String,
     row: String,
@@ -32,44 +35,86 @@ pub struct EnumPage {
     place: String,
 }
 
-impl EnumPage {
-    /// Makes a page without code. `prefix` begins the names of aliases. Clauses name the items of the enum's file under
-    /// the path `place`.
+// Returns a type parameter for each variant with a value.
+fn params_of(
+    alloc: Global,
+    generics: &Generics,
+    variants: &[Variant],
+) -> Result<Vec<String>, AllocError> {
+    let mut count = 0usize;
+    let mut taken = Vec::new(alloc);
+    for variant in variants {
+        keep(&mut taken, String::from_str(alloc, variant.name.as_str())?)?;
+        if !matches!(&variant.value, Value::Nothing) {
+            count = count.saturating_add(1);
+        }
+    }
+    generics.letters(alloc, count, taken.as_slice())
+}
+
+// Returns the variants, which are read as these parameters.
+fn cases_of(
+    alloc: Global,
+    prefix: &str,
+    generics: &Generics,
+    variants: &[Variant],
+    params: &[String],
+) -> Result<Vec<Case>, AllocError> {
+    let mut cases = Vec::new(alloc);
+    let mut left = params.iter();
+    for variant in variants {
+        let param = match &variant.value {
+            Value::Nothing => "()",
+            _ => left.next().map_or("()", |param| param.as_str()),
+        };
+        let param = String::from_str(alloc, param)?;
+        let case = Case::new(alloc, prefix, generics, variant, param)?;
+        match cases.push(case) {
+            Ok(()) => {}
+            Err(error) => return Err(AllocError::from(error)),
+        }
+    }
+    Ok(cases)
+}
+
+// Returns the columns of the variants.
+fn columns_of(alloc: Global, cases: &[Case]) -> Result<Vec<String>, AllocError> {
+    let mut columns = Vec::new(alloc);
+    for case in cases {
+        keep(&mut columns, String::from_str(alloc, case.column.as_str())?)?;
+    }
+    Ok(columns)
+}
+
+impl<'x> EnumPage<'x> {
+    /// Makes a page without code for an enum with these variants. `prefix` begins the names of aliases. Clauses name the
+    /// items of the enum's file under the path `place`.
     pub fn new(
         alloc: Global,
-        own: &str,
         prefix: &str,
-        derives: &[String],
+        description: &'x Description,
         variants: &[Variant],
         place: &str,
-    ) -> Result<EnumPage, AllocError> {
-        let mut cases = Vec::new(alloc);
-        let mut params = Vec::new(alloc);
-        for variant in variants {
-            let param = match variant.value {
-                Value::Nothing => String::from_str(alloc, "()")?,
-                _ => {
-                    let param = parameter(alloc, params.len())?;
-                    keep(&mut params, String::from_str(alloc, param.as_str())?)?;
-                    param
-                }
-            };
-            let case = Case::new(alloc, prefix, variant, param)?;
-            match cases.push(case) {
-                Ok(()) => {}
-                Err(error) => return Err(AllocError::from(error)),
-            }
-        }
+    ) -> Result<EnumPage<'x>, AllocError> {
+        let name = description.name.as_str();
+        let generics = &description.generics;
+        let params = params_of(alloc, generics, variants)?;
+        let cases = cases_of(alloc, prefix, generics, variants, params.as_slice())?;
+        let columns = columns_of(alloc, cases.as_slice())?;
+        let used = generics.to_alias(alloc, &[], columns.as_slice())?;
+        let given = in_angles(alloc, generics.names(alloc)?.as_slice())?;
         let angles = in_angles(alloc, params.as_slice())?;
         Ok(EnumPage {
             alloc,
             lines: Lines::new(alloc),
-            own: String::from_str(alloc, own)?,
-            row_name: format!(in alloc; "{own}Reference")?,
-            row: format!(in alloc; "{own}Reference{angles}")?,
-            derives: derived(alloc, derives)?,
+            generics,
+            name: String::from_str(alloc, name)?,
+            own: format!(in alloc; "{name}{given}")?,
+            row_name: format!(in alloc; "{name}Reference")?,
+            row: format!(in alloc; "{name}Reference{angles}")?,
+            derives: derived(alloc, description.derives.as_slice())?,
             prefix: String::from_str(alloc, prefix)?,
-            parts: format!(in alloc; "{prefix}Parts")?,
+            parts: format!(in alloc; "{prefix}Parts{used}")?,
             rows: format!(in alloc; "{prefix}Rows{angles}")?,
             cases,
             params,
@@ -99,10 +144,12 @@ impl EnumPage {
 
     // Adds the column, and the columns of its parts.
     fn add_head(&mut self) -> Result<(), AllocError> {
-        let own = self.own.as_str();
+        let (name, own) = (self.name.as_str(), self.own.as_str());
+        let all = self.generics.names(self.alloc)?;
+        let params = self.generics.of_alias(self.alloc, &[], all.as_slice())?;
         self.lines.put(format!(in self.alloc;
-            "/// A column of values of `{own}`.
-pub type {own}Container = ContainerOf<{own}>;
+            "/// A column of values of `{name}`.
+pub type {name}Container{params} = ContainerOf<{own}>;
 
 // The columns of the values, of each variant and of those after it"
         ))?;
@@ -116,28 +163,30 @@ pub type {own}Container = ContainerOf<{own}>;
 
     // Adds the columns from each variant on, the last first, and the column of the variants.
     fn add_columns(&mut self) -> Result<(), AllocError> {
+        let (alloc, generics) = (self.alloc, self.generics);
         let prefix = self.prefix.as_str();
         let mut after: Option<String> = None;
+        let mut used = Vec::new(alloc);
         for case in self.cases.iter().rev() {
             let name = case.name.as_str();
-            let mut columns = Vec::new(self.alloc);
-            keep(
-                &mut columns,
-                String::from_str(self.alloc, case.column.as_str())?,
-            )?;
+            let mut columns = Vec::new(alloc);
+            keep(&mut columns, String::from_str(alloc, case.column.as_str())?)?;
+            keep(&mut used, String::from_str(alloc, case.column.as_str())?)?;
             if let Some(others) = after {
                 keep(&mut columns, others)?;
             }
-            let before = format!(in self.alloc; "type {prefix}ColumnsFrom{name} = ")?;
+            let params = generics.of_alias(alloc, &[], used.as_slice())?;
+            let before = format!(in alloc; "type {prefix}ColumnsFrom{name}{params} = ")?;
             self.lines
                 .add_tuple("", before.as_str(), columns.as_slice(), ";")?;
             self.lines.add("")?;
-            after = Some(format!(in self.alloc; "{prefix}ColumnsFrom{name}")?);
+            let args = generics.to_alias(alloc, &[], used.as_slice())?;
+            after = Some(format!(in alloc; "{prefix}ColumnsFrom{name}{args}")?);
         }
+        let params = generics.of_alias(alloc, &[], used.as_slice())?;
         match after {
-            Some(name) => self.lines.put(format!(in self.alloc;
-                "type {} = Variants<{name}>;\n",
-                self.parts
+            Some(name) => self.lines.put(format!(in alloc;
+                "type {prefix}Parts{params} = Variants<{name}>;\n"
             )),
             None => Ok(()),
         }
@@ -145,7 +194,10 @@ pub type {own}Container = ContainerOf<{own}>;
 
     // Adds a type alias for the tuple of fields of each variant with several fields.
     fn add_kinds(&mut self, head: &str, name: &str, before: &str) -> Result<(), AllocError> {
-        let angles = if before.is_empty() { "" } else { "<'x>" };
+        let mut first = Vec::new(self.alloc);
+        if !before.is_empty() {
+            keep(&mut first, String::from_str(self.alloc, "'x")?)?;
+        }
         let mut begun = false;
         for case in &self.cases {
             if case.kinds.len() < 2 {
@@ -156,8 +208,11 @@ pub type {own}Container = ContainerOf<{own}>;
                 begun = true;
             }
             let kinds = each(self.alloc, case.kinds.as_slice(), before, "")?;
+            let params = self
+                .generics
+                .of_alias(self.alloc, first.as_slice(), kinds.as_slice())?;
             let line = format!(in self.alloc;
-                "type {}{name}{}{angles} = ",
+                "type {}{name}{}{params} = ",
                 self.prefix, case.name
             )?;
             self.lines
@@ -193,7 +248,7 @@ pub type {own}Container = ContainerOf<{own}>;
 /// What stands for a value of `{}` in a column.
 #[derive({})]
 pub enum {} {{",
-            self.own, self.derives, self.row
+            self.name, self.derives, self.row
         ))?;
         for case in &self.cases {
             let name = case.name.as_str();
@@ -230,7 +285,7 @@ pub enum {} {{",
         let has_all = self.cases.iter().all(|case| case.has_value());
         let names = joined(self.alloc, self.names()?.as_slice(), ", ")?;
         let rows = if has_all { "Row" } else { "Row, unit" };
-        let mut own = String::from_str(self.alloc, self.own.as_str())?;
+        let mut own = String::from_str(self.alloc, self.name.as_str())?;
         if is_row {
             own.push_str("Reference")?;
         }
@@ -252,8 +307,16 @@ pub enum {} {{",
     }
 
     fn add_items(&mut self) -> Result<(), AllocError> {
-        self.lines
-            .put(format!(in self.alloc; "impl Item for {} {{", self.own))?;
+        self.lines.add_impl(
+            &Header {
+                params: self.generics.declared(self.alloc, "")?.as_slice(),
+                trait_name: "Item",
+                of: &[],
+                own: self.own.as_str(),
+                after: "",
+            },
+            self.generics.bounds.as_slice(),
+        )?;
         self.add_item(false)?;
         let params = each(self.alloc, self.params.as_slice(), "", ": Item")?;
         self.lines.add_header(&Header {
@@ -266,16 +329,29 @@ pub enum {} {{",
         self.add_item(true)
     }
 
+    // Returns the parameters of the enum, each type with one more bound unless it is empty, and then those of its row with
+    // these bounds.
+    fn all_params(&self, more: &str, bounds: &str) -> Result<Vec<String>, AllocError> {
+        let mut all = self.generics.declared(self.alloc, more)?;
+        for param in &self.params {
+            keep(&mut all, format!(in self.alloc; "{param}{bounds}")?)?;
+        }
+        Ok(all)
+    }
+
     // Adds the impl that makes rows, variant by variant.
     fn add_made_rows(&mut self) -> Result<(), AllocError> {
-        let params = each(self.alloc, self.params.as_slice(), "", ": Item")?;
-        self.lines.add_header(&Header {
-            params: params.as_slice(),
-            trait_name: "MakeRow",
-            of: &[String::from_str(self.alloc, self.rows.as_str())?],
-            own: self.own.as_str(),
-            after: " {",
-        })?;
+        let params = self.all_params("", ": Item")?;
+        self.lines.add_impl(
+            &Header {
+                params: params.as_slice(),
+                trait_name: "MakeRow",
+                of: &[String::from_str(self.alloc, self.rows.as_str())?],
+                own: self.own.as_str(),
+                after: "",
+            },
+            self.generics.bounds.as_slice(),
+        )?;
         self.lines.put(format!(in self.alloc;
             "    type Row = {};
 
@@ -323,8 +399,61 @@ pub enum {} {{",
         self.lines.add("")
     }
 
+    // Adds the impl that pushes a value of a generic enum, by the references to its fields.
+    fn add_pushed_refs(&mut self) -> Result<(), AllocError> {
+        self.add_kinds("// What they are made of, lent", "LentOf", "&'x ")?;
+        let alloc = self.alloc;
+        let mut items = Vec::new(alloc);
+        for case in &self.cases {
+            keep(&mut items, case.refs(alloc)?)?;
+        }
+        let lifetime = &[String::from_str(alloc, "'x")?];
+        let params = self.generics.of_alias(alloc, lifetime, items.as_slice())?;
+        let elided = &[String::from_str(alloc, "'_")?];
+        let args = self.generics.to_alias(alloc, elided, items.as_slice())?;
+        self.lines.add("// A value as the row that is pushed")?;
+        let before = format!(in alloc; "type {}LentRows{params} = ", self.prefix)?;
+        let last = match items.pop() {
+            Some(last) => format!(in alloc; "Last<{last}>")?,
+            None => return Ok(()),
+        };
+        self.lines
+            .add_nest(before.as_str(), items.as_slice(), last.as_str())?;
+        self.lines.add("")?;
+        let bounds = self.generics.pushes(alloc)?;
+        self.lines.add_impl(
+            &Header {
+                params: self.generics.declared(alloc, "")?.as_slice(),
+                trait_name: "PushParts",
+                of: &[
+                    String::from_str(alloc, self.parts.as_str())?,
+                    String::from_str(alloc, self.own.as_str())?,
+                ],
+                own: self.own.as_str(),
+                after: "",
+            },
+            bounds.as_slice(),
+        )?;
+        self.lines.put(format!(in alloc;
+            "    fn push_parts(&self, parts: &mut {}) -> Result<(), GrowError> {{
+        match self {{",
+            self.parts
+        ))?;
+        let push = format!(in alloc; "push_into_variants::<{}LentRows{args}, _>", self.prefix)?;
+        let count = self.cases.len();
+        for (number, case) in self.cases.iter().enumerate() {
+            let is_last = number.saturating_add(1) == count;
+            let own = self.name.as_str();
+            case.add_push_of_refs(alloc, &mut self.lines, own, number, is_last, push.as_str())?;
+        }
+        self.lines.add("        }\n    }\n}\n")
+    }
+
     // Adds the impls that push a value, as the row of its lent fields.
     fn add_pushed_values(&mut self) -> Result<(), AllocError> {
+        if !self.generics.is_none() {
+            return self.add_pushed_refs();
+        }
         self.add_lent_type()?;
         let own = self.own.as_str();
         let row_name = self.row_name.as_str();
@@ -358,23 +487,27 @@ impl PushParts<{parts}, {own}> for {own} {{
 
     // Adds the impl that pushes rows.
     fn add_pushed_rows(&mut self) -> Result<(), AllocError> {
-        let mut params = each(self.alloc, self.params.as_slice(), "", ": Copy + Item")?;
-        let pushes = format!(in self.alloc; "P: Push<{}>", self.rows)?;
+        let mut params = self.all_params("", ": Copy + Item")?;
+        let columns = self.generics.fresh(self.alloc, "P")?;
+        let pushes = format!(in self.alloc; "{columns}: Push<{}>", self.rows)?;
         keep(&mut params, pushes)?;
-        self.lines.add_header(&Header {
-            params: params.as_slice(),
-            trait_name: "PushParts",
-            of: &[
-                String::from_str(self.alloc, "P")?,
-                String::from_str(self.alloc, self.own.as_str())?,
-            ],
-            own: self.row.as_str(),
-            after: " {",
-        })?;
-        self.lines.add(
-            "    fn push_parts(&self, parts: &mut P) -> Result<(), GrowError> {
-        match *self {",
+        self.lines.add_impl(
+            &Header {
+                params: params.as_slice(),
+                trait_name: "PushParts",
+                of: &[
+                    String::from_str(self.alloc, columns.as_str())?,
+                    String::from_str(self.alloc, self.own.as_str())?,
+                ],
+                own: self.row.as_str(),
+                after: "",
+            },
+            self.generics.bounds.as_slice(),
         )?;
+        self.lines.put(format!(in self.alloc;
+            "    fn push_parts(&self, parts: &mut {columns}) -> Result<(), GrowError> {{
+        match *self {{"
+        ))?;
         let row_name = self.row_name.as_str();
         let count = self.cases.len();
         for (number, case) in self.cases.iter().enumerate() {
@@ -402,6 +535,7 @@ impl PushParts<{parts}, {own}> for {own} {{
             self.alloc,
             &mut self.lines,
             self.own.as_str(),
+            self.generics,
             names.as_slice(),
         )
     }
@@ -437,9 +571,18 @@ impl PushParts<{parts}, {own}> for {own} {{
             "    ghost use Rattle.std.specs.Prelude.{◌||◌};
     ghost use Rattle.columnar.specs.Variants.{of_variant};"
         };
+        self.lines.add_impl(
+            &Header {
+                params: self.generics.declared(self.alloc, "")?.as_slice(),
+                trait_name: "Columnar",
+                of: &[],
+                own,
+                after: "",
+            },
+            self.generics.bounds.as_slice(),
+        )?;
         self.lines.put(format!(in self.alloc;
-            "impl Columnar for {own} {{
-{imports}
+            "{imports}
 
     ghost unfit = {{ λ u r. {unfit} }};
 
@@ -449,25 +592,25 @@ impl PushParts<{parts}, {own}> for {own} {{
         ))
     }
 
-    // Adds the bounds: the value of each variant can be made from a row.
-    fn add_bounds(&mut self) -> Result<(), AllocError> {
-        if self.params.is_empty() {
-            return Ok(());
+    // Returns the bounds: the value of each variant can be made from a row.
+    fn from_bounds(&self) -> Result<Vec<String>, AllocError> {
+        let mut bounds = self.generics.where_bounds(self.alloc)?;
+        for case in self.cases.iter().filter(|case| case.has_value()) {
+            let (kind, param) = (case.kind.as_str(), case.param.as_str());
+            let bound = if self.generics.is_none() {
+                format!(in self.alloc; "{kind}: FromRow<{param}>")?
+            } else {
+                format!(in self.alloc; "{param}: IntoValue<{kind}>")?
+            };
+            keep(&mut bounds, bound)?;
         }
-        self.lines.add("where")?;
-        for case in &self.cases {
-            if case.has_value() {
-                self.lines.put(format!(in self.alloc;
-                    "    {}: FromRow<{}>,",
-                    case.kind, case.param
-                ))?;
-            }
-        }
-        self.lines.add("{")
+        Ok(bounds)
     }
 
     // Adds the beginning of the function that makes values from rows.
     fn add_from_row(&mut self) -> Result<(), AllocError> {
+        let bounds = self.from_bounds()?;
+        let params = self.all_params("Drop", ": Item")?;
         let row = format!(in self.alloc; "OwnRow<{}, {}>", self.rows, self.own)?;
         let mut of = Vec::new(self.alloc);
         let alloc = if self.params.is_empty() {
@@ -477,15 +620,16 @@ impl PushParts<{parts}, {own}> for {own} {{
         };
         keep(&mut of, format!(in self.alloc; "{alloc}: Global")?)?;
         keep(&mut of, format!(in self.alloc; "row: {row}")?)?;
-        let params = each(self.alloc, self.params.as_slice(), "", ": Item")?;
-        self.lines.add_header(&Header {
-            params: params.as_slice(),
-            trait_name: "FromRow",
-            of: &[row],
-            own: self.own.as_str(),
-            after: if self.params.is_empty() { " {" } else { "" },
-        })?;
-        self.add_bounds()?;
+        self.lines.add_impl(
+            &Header {
+                params: params.as_slice(),
+                trait_name: "FromRow",
+                of: &[row],
+                own: self.own.as_str(),
+                after: "",
+            },
+            bounds.as_slice(),
+        )?;
         self.lines.add_list(
             "    ",
             "fn from_row(",
@@ -499,10 +643,11 @@ impl PushParts<{parts}, {own}> for {own} {{
     fn add_values_of_rows(&mut self) -> Result<(), AllocError> {
         self.add_from_row()?;
         self.lines.add("        match row.show() {")?;
-        let own = self.own.as_str();
+        let is_generic = !self.generics.is_none();
+        let own = self.name.as_str();
         let row_name = self.row_name.as_str();
         for case in &self.cases {
-            case.add_value_made(self.alloc, &mut self.lines, own, row_name)?;
+            case.add_value_made(self.alloc, &mut self.lines, own, row_name, is_generic)?;
         }
         self.lines.add("        }\n    }\n}")
     }
@@ -524,22 +669,26 @@ impl PushParts<{parts}, {own}> for {own} {{
             self.lines.add_alias(alias.as_str(), place.as_str())?;
             before = Some(name);
         }
-        let before = format!(in self.alloc;
-            "type {prefix}Views{} = ",
-            in_angles(self.alloc, params.as_slice())?
-        )?;
+        let list = joined(self.alloc, params.as_slice(), ", ")?;
+        let before = format!(in self.alloc; "type {prefix}ViewsOfValues<{list}> = ")?;
+        self.lines.add("// A view: that of the values of each variant, and those of the variants")?;
+        self.lines.add_pairs(before.as_str(), params.as_slice())?;
+        self.lines.add("")?;
+        let before = format!(in self.alloc; "type {prefix}ViewOfAll<'x, {list}> = Variants<")?;
+        let parts = [
+            format!(in self.alloc; "{prefix}ViewsOfValues<{list}>")?,
+            String::from_str(self.alloc, "&'x [u8]")?,
+            String::from_str(self.alloc, "columnar::common::View<'x, u64>")?,
+        ];
         self.lines
-            .add("// The values of a view, a column for each variant")?;
-        self.lines.add_pairs(before.as_str(), params.as_slice())
+            .add_list("", before.as_str(), parts.as_slice(), ">;", WIDTH)
     }
 
     // Returns a type parameter for each variant.
     fn view_params(&self) -> Result<Vec<String>, AllocError> {
-        let mut params = Vec::new(self.alloc);
-        for (i, _) in self.cases.iter().enumerate() {
-            keep(&mut params, parameter(self.alloc, i)?)?;
-        }
-        Ok(params)
+        let taken = self.names()?;
+        self.generics
+            .letters(self.alloc, self.cases.len(), taken.as_slice())
     }
 
     // Returns the parts of a view: the values of each variant.
@@ -568,21 +717,27 @@ impl PushParts<{parts}, {own}> for {own} {{
     fn add_views(&mut self) -> Result<(), AllocError> {
         let parts = self.views()?;
         let params = self.view_params()?;
-        let own = self.own.as_str();
+        let name = self.name.as_str();
         let told = format!(in self.alloc;
-            "The values of each variant of `{own}` in a view, by name."
+            "The values of each variant of `{name}` in a view, by name."
         )?;
-        let angles = in_angles(self.alloc, params.as_slice())?;
+        let list = joined(self.alloc, params.as_slice(), ", ")?;
         let of = format!(in self.alloc;
-            "OwnRows<Variants<{}Views{angles}, &'x [u8], columnar::common::View<'x, u64>>, {own}>",
-            self.prefix
+            "OwnRows<{}ViewOfAll<'x, {list}>, {}>",
+            self.prefix, self.own
         )?;
+        let mut others = Vec::new(self.alloc);
+        keep(&mut others, String::from_str(self.alloc, "'x")?)?;
+        for param in self.generics.declared(self.alloc, "")? {
+            keep(&mut others, param)?;
+        }
         let views = Views {
-            own,
+            own: name,
             told: told.as_str(),
             imports: "Rattle.columnar.specs.Variants.{of_case}",
             params: params.as_slice(),
-            others: &[String::from_str(self.alloc, "'x")?],
+            others: others.as_slice(),
+            bounds: self.generics.bounds.as_slice(),
             of: of.as_str(),
             parts: parts.as_slice(),
         };

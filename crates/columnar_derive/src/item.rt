@@ -1,4 +1,5 @@
 //! The description of a struct or an enum, and why one is refused.
+use crate::generics::Generics;
 use std::alloc::{AllocError, Global};
 use std::fmt;
 
@@ -9,6 +10,8 @@ pub struct Description {
     pub name: String,
     /// What the struct or enum of its rows derives besides `Clone`, `Copy` and `Debug`.
     pub derives: Vec<String>,
+    /// Its parameters.
+    pub generics: Generics,
     /// Its fields or variants.
     pub body: Body,
 }
@@ -70,9 +73,10 @@ pub enum Owner {
 pub enum Why {
     NotFound,
     Union,
-    Parameters,
     Lifetime,
-    Where,
+    Parameter,
+    Default,
+    Bound,
     NoFields,
     TooManyFields,
     NoVariants,
@@ -99,9 +103,10 @@ impl fmt::Display for Why {
         match self {
             Why::NotFound => write!(f, "no struct or enum of this name stands in the file"),
             Why::Union => write!(f, "a union has no rows"),
-            Why::Parameters => write!(f, "it has parameters"),
             Why::Lifetime => write!(f, "a lifetime or a reference"),
-            Why::Where => write!(f, "it has a where clause"),
+            Why::Parameter => write!(f, "a parameter whose name was given before"),
+            Why::Default => write!(f, "a parameter with a default"),
+            Why::Bound => write!(f, "a bound that is not read: only paths are"),
             Why::NoFields => write!(f, "it has no fields"),
             Why::TooManyFields => write!(f, "more than 10 fields"),
             Why::NoVariants => write!(f, "it has no variants"),

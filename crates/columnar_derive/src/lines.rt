@@ -25,7 +25,7 @@ pub struct Header<'x> {
     pub of: &'x [String],
     /// The type.
     pub own: &'x str,
-    /// The text that follows on the same line.
+    /// The text that follows on the same line, unless bounds follow.
     pub after: &'x str,
 }
 
@@ -230,6 +230,36 @@ impl Lines {
         self.put(format!(in self.alloc; "{indent}{after}"))
     }
 
+    /// Adds the import of names from a path; if one line cannot hold them, they share lines.
+    pub fn add_import(&mut self, path: &str, names: &[String]) -> Result<(), AllocError> {
+        let list = joined(self.alloc, names, ", ")?;
+        let line = format!(in self.alloc; "use {path}::{{{list}}};")?;
+        if fits(line.as_str()) {
+            return self.add(line.as_str());
+        }
+        self.put(format!(in self.alloc; "use {path}::{{"))?;
+        self.add_filled("   ", names)?;
+        self.add("};")
+    }
+
+    // Adds items, each with a comma after it, which share lines. The first line begins with `begun`, whose length and one
+    // is the indent of the others.
+    fn add_filled(&mut self, begun: &str, items: &[String]) -> Result<(), AllocError> {
+        let mut line = String::from_str(self.alloc, begun)?;
+        for (i, item) in items.iter().enumerate() {
+            // A space follows each comma but the last.
+            let after = usize::from(i.saturating_add(1) < items.len());
+            let longer = format!(in self.alloc; "{line} {item},")?;
+            if width(longer.as_str()).saturating_add(after) <= WIDTH {
+                line = longer;
+            } else {
+                self.add(line.as_str())?;
+                line = format!(in self.alloc; "{begun} {item},")?;
+            }
+        }
+        self.add(line.as_str())
+    }
+
     /// Adds the tuple of values between two texts, like `add_list`; short values share lines.
     pub fn add_values(
         &mut self,
@@ -244,19 +274,8 @@ impl Lines {
             return self.add_tuple(indent, before, values, after);
         }
         self.put(format!(in self.alloc; "{indent}{before}("))?;
-        let mut line = format!(in self.alloc; "{indent}   ")?;
-        for (i, value) in values.iter().enumerate() {
-            // A space follows each comma but the last.
-            let after = usize::from(i.saturating_add(1) < values.len());
-            let longer = format!(in self.alloc; "{line} {value},")?;
-            if width(longer.as_str()).saturating_add(after) <= WIDTH {
-                line = longer;
-            } else {
-                self.add(line.as_str())?;
-                line = format!(in self.alloc; "{indent}    {value},")?;
-            }
-        }
-        self.add(line.as_str())?;
+        let begun = format!(in self.alloc; "{indent}   ")?;
+        self.add_filled(begun.as_str(), values)?;
         self.put(format!(in self.alloc; "{indent}){after}"))
     }
 
@@ -447,6 +466,19 @@ impl Lines {
         self.add_items("", header.params)?;
         let begun = format!(in self.alloc; "> {trait_name}{of}")?;
         self.add_target(begun.as_str(), header)
+    }
+
+    /// Adds the header of an impl with these bounds, and its opening brace.
+    pub fn add_impl(&mut self, header: &Header<'_>, bounds: &[String]) -> Result<(), AllocError> {
+        let after = if bounds.is_empty() { " {" } else { "" };
+        let header = Header { after, ..*header };
+        self.add_header(&header)?;
+        if bounds.is_empty() {
+            return Ok(());
+        }
+        self.add("where")?;
+        self.add_items("", bounds)?;
+        self.add("{")
     }
 
     // Adds the beginning of a header, and the type: on the same line if it holds both.

@@ -6,6 +6,7 @@ mod attributes;
 mod cases;
 mod cli;
 mod enums;
+mod generics;
 mod head;
 mod item;
 mod lines;

@@ -1,5 +1,6 @@
 //! The names of parts: of the fields of a struct, or of the variants of an enum.
-use crate::lines::Lines;
+use crate::generics::Generics;
+use crate::lines::{Header, Lines};
 use std::alloc::{AllocError, Global};
 
 /// Adds the impl that names the parts of a type, in order.
@@ -7,11 +8,21 @@ pub fn add_names(
     alloc: Global,
     lines: &mut Lines,
     own: &str,
+    generics: &Generics,
     names: &[String],
 ) -> Result<(), AllocError> {
+    lines.add_impl(
+        &Header {
+            params: generics.declared(alloc, "")?.as_slice(),
+            trait_name: "PartNames",
+            of: &[],
+            own,
+            after: "",
+        },
+        generics.bounds.as_slice(),
+    )?;
     let begun = format!(in alloc;
-        "impl PartNames for {own} {{
-    fn part_name(index: usize) -> &'static str {{
+        "    fn part_name(index: usize) -> &'static str {{
         match index {{"
     )?;
     lines.add(begun.as_str())?;

@@ -1,5 +1,6 @@
 //! A reader that finds a struct or enum by its name in the tokens of a file.
 use crate::attributes::{Attributes, may_derive, needs};
+use crate::generics::{Generics, Parameter};
 use crate::item::{Body, Description, Field, Owner, Unread, Value, Variant, Why};
 use crate::names::method_name;
 use crate::tokens::{Kind, Token, tokens_of};
@@ -101,6 +102,10 @@ impl<'t> Reader<'t> {
         }
     }
 
+    fn is_at_one(&self, marks: &[char]) -> bool {
+        marks.iter().any(|mark| self.is_at(*mark))
+    }
+
     fn is_at_word(&self, word: &str) -> bool {
         match self.peek() {
             Some(Kind::Word(other)) => other.as_str() == word,
@@ -152,26 +157,23 @@ impl<'t> Reader<'t> {
     fn description(&mut self, word: &str, begun: usize, name: &str) -> Result<Description, Unread> {
         let Attributes { named, .. } = self.attributes(Owner::Type, word == "enum")?;
         self.at = begun.saturating_add(2);
-        let body = self.body(word)?;
+        if word == "union" {
+            return Err(self.refused(Why::Union));
+        }
+        let mut generics = self.generics()?;
+        let body = self.body(word, &mut generics)?;
         let name = String::from_str(self.alloc, name)?;
         Ok(Description {
             name,
             derives: named,
+            generics,
             body,
         })
     }
 
-    // Reads what follows the name. `word` comes before the name.
-    fn body(&mut self, word: &str) -> Result<Body, Unread> {
-        if word == "union" {
-            return Err(self.refused(Why::Union));
-        }
-        if self.is_at('<') {
-            return Err(self.refused(Why::Parameters));
-        }
-        if self.is_at_word("where") {
-            return Err(self.refused(Why::Where));
-        }
+    // Reads what follows the parameters, and the where clause. `word` comes before the name.
+    fn body(&mut self, word: &str, generics: &mut Generics) -> Result<Body, Unread> {
+        self.where_clause(generics)?;
         if word == "enum" {
             self.expect('{')?;
             return Ok(Body::Enum(self.variants()?));
@@ -181,14 +183,103 @@ impl<'t> Reader<'t> {
         }
         if self.is_at('(') {
             let value = self.value()?;
-            if self.is_at_word("where") {
-                return Err(self.refused(Why::Where));
-            }
+            self.where_clause(generics)?;
             self.expect(';')?;
             return Ok(Body::Struct(value));
         }
         self.expect('{')?;
         Ok(Body::Struct(Value::Fields(self.fields()?)))
+    }
+
+    // Reads the parameters in `<` and `>`, if there are any.
+    fn generics(&mut self) -> Result<Generics, Unread> {
+        let mut generics = Generics::none(self.alloc);
+        if !self.eat('<') {
+            return Ok(generics);
+        }
+        for _ in 0..self.tokens.len() {
+            if self.is_at('>') {
+                break;
+            }
+            let param = self.parameter()?;
+            if generics.has(param.name.as_str()) {
+                return Err(self.refused(Why::Parameter));
+            }
+            add(&mut generics.params, param)?;
+            if !self.eat(',') {
+                break;
+            }
+        }
+        self.expect('>')?;
+        Ok(generics)
+    }
+
+    // Reads a parameter with its bounds or its type.
+    fn parameter(&mut self) -> Result<Parameter, Unread> {
+        if matches!(self.peek(), Some(Kind::Lifetime)) {
+            return Err(self.refused(Why::Lifetime));
+        }
+        let is_const = self.is_at_word("const");
+        if is_const {
+            self.next();
+        }
+        let name = self.name()?;
+        let mut bounds = Vec::new(self.alloc);
+        let mut kind = None;
+        if is_const {
+            self.expect(':')?;
+            kind = Some(self.kind_to(&['>', '='])?);
+        } else if self.eat(':') {
+            bounds = self.bounds(&['>', '='])?;
+        }
+        if self.is_at('=') {
+            return Err(self.refused(Why::Default));
+        }
+        Ok(Parameter { name, bounds, kind })
+    }
+
+    // Reads bounds with `+` between them, up to a comma or one of the ends.
+    fn bounds(&mut self, ends: &[char]) -> Result<Vec<String>, Unread> {
+        let mut bounds = Vec::new(self.alloc);
+        for _ in 0..self.tokens.len() {
+            if self.is_at(',') || self.is_at_one(ends) {
+                break;
+            }
+            let bound = match self.kind_to(&['+', '>', '=', '{', ';']) {
+                Ok(bound) => bound,
+                Err(Unread::Refused(line, Why::Type)) => {
+                    return Err(Unread::Refused(line, Why::Bound));
+                }
+                Err(error) => return Err(error),
+            };
+            add(&mut bounds, bound)?;
+            if !self.eat('+') {
+                break;
+            }
+        }
+        Ok(bounds)
+    }
+
+    // Reads a where clause, if there is one. Bounds of a parameter become its own.
+    fn where_clause(&mut self, generics: &mut Generics) -> Result<(), Unread> {
+        if !self.is_at_word("where") {
+            return Ok(());
+        }
+        self.next();
+        for _ in 0..self.tokens.len() {
+            if self.is_at_one(&['{', ';']) {
+                break;
+            }
+            let kind = self.kind_to(&[':'])?;
+            self.expect(':')?;
+            for bound in self.bounds(&['{', ';'])? {
+                generics.bind(self.alloc, kind.as_str(), bound)?;
+            }
+            if !self.eat(',') {
+                break;
+            }
+        }
+        Ok(())
     }
 
     // Reads attributes. Skips those of other programs.
@@ -445,9 +536,24 @@ impl<'t> Reader<'t> {
 
     // Reads a type as written, up to a comma or `end`.
     fn kind(&mut self, end: char) -> Result<String, Unread> {
+        self.kind_to(&[end])
+    }
+
+    // Returns whether a mark ends a type. Two colons do not.
+    fn is_at_end(&self, ends: &[char]) -> bool {
+        let colons = self.is_at(':')
+            && match self.tokens.get(self.at.saturating_add(1)) {
+                Some(token) => matches!(&token.kind, Kind::Mark(':')),
+                None => false,
+            };
+        self.is_at(',') || (self.is_at_one(ends) && !colons)
+    }
+
+    // Reads a type as written, up to a comma or one of the ends.
+    fn kind_to(&mut self, ends: &[char]) -> Result<String, Unread> {
         let mut text = TypeText::new(self.alloc);
         for _ in 0..self.tokens.len() {
-            if text.is_whole() && (self.is_at(',') || self.is_at(end)) {
+            if text.is_whole() && self.is_at_end(ends) {
                 break;
             }
             let taken = match self.peek() {

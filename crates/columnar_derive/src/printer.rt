@@ -1,6 +1,6 @@
 //! The code that makes structs and enums the rows of columns.
 use crate::enums::EnumPage;
-use crate::head::{Types, add_head};
+use crate::head::{Kinds, add_head};
 use crate::item::{Body, Description, Value};
 use crate::lines::{Lines, keep};
 use crate::structs::Page;
@@ -24,17 +24,12 @@ pub fn printed(
             ""
         };
         let text = match &one.body {
-            Body::Struct(value) => {
-                let own = one.name.as_str();
-                Page::new(alloc, own, prefix, one.derives.as_slice(), value)?.printed()?
-            }
+            Body::Struct(value) => Page::new(alloc, prefix, one, value)?.printed()?,
             Body::Enum(variants) => {
                 let Some(place) = place else {
                     return Ok(None);
                 };
-                let own = one.name.as_str();
-                let derives = one.derives.as_slice();
-                EnumPage::new(alloc, own, prefix, derives, variants.as_slice(), place)?.printed()?
+                EnumPage::new(alloc, prefix, one, variants.as_slice(), place)?.printed()?
             }
         };
         lines.add("")?;
@@ -46,26 +41,17 @@ pub fn printed(
 // Adds the head of the file of these types.
 fn head(alloc: Global, lines: &mut Lines, types: &[Description]) -> Result<(), AllocError> {
     let mut names = Vec::new(alloc);
-    let mut has_enum = false;
-    let mut has_parts = false;
+    let mut of = Kinds::default();
     for one in types {
         keep(&mut names, String::from_str(alloc, one.name.as_str())?)?;
+        let is_generic = !one.generics.is_none();
         match &one.body {
-            Body::Enum(_) => {
-                has_enum = true;
-                has_parts = true;
-            }
+            Body::Enum(_) if is_generic => of.has_generic_enum = true,
+            Body::Enum(_) => of.has_enum = true,
             Body::Struct(Value::Nothing) => {}
-            Body::Struct(_) => has_parts = true,
+            Body::Struct(_) if is_generic => of.has_generic_struct = true,
+            Body::Struct(_) => of.has_struct = true,
         }
     }
-    add_head(
-        alloc,
-        lines,
-        &Types {
-            names: names.as_slice(),
-            has_enum,
-            has_parts,
-        },
-    )
+    add_head(alloc, lines, names.as_slice(), of)
 }

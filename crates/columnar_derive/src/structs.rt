@@ -1,9 +1,8 @@
 //! The code for a struct.
 use crate::attributes::derived;
-use crate::item::{Field, Value};
-use crate::lines::{
-    Header, ITEMS, Lines, WIDTH, each, in_angles, in_clause, in_tuple, joined, keep, parameter,
-};
+use crate::generics::Generics;
+use crate::item::{Description, Field, Value};
+use crate::lines::{Header, ITEMS, Lines, WIDTH, each, in_angles, in_clause, in_tuple, keep};
 use crate::names::add_names;
 use crate::views::{View, Views};
 use std::alloc::{AllocError, Global};
@@ -18,16 +17,21 @@ enum Style {
 
 /// The code for a struct, and the names in it.
 #[derive(Drop)]
-pub struct Page {
+pub struct Page<'x> {
     alloc: Global,
     lines: Lines,
     style: Style,
-    // The name of the struct, that of the struct of its rows, and the type of its rows.
+    generics: &'x Generics,
+    // The name of the struct, the struct with its parameters, the name of the struct of its rows, and that with its
+    // parameters.
+    name: String,
     own: String,
     row_name: String,
     row: String,
     // What the struct of the rows derives.
     derives: String,
+    // Begins the names of aliases; empty if the file has one type.
+    prefix: String,
     // The alias of the tuple of the fields, or of `()`.
     parts: String,
     // The column of the parts, and the column of each field, if an attribute names one.
@@ -41,45 +45,51 @@ pub struct Page {
     tuple: String,
 }
 
-impl Page {
-    /// Makes a page without code for a struct of this name. `prefix` begins the names of aliases.
+impl<'x> Page<'x> {
+    /// Makes a page without code for a struct with this value. `prefix` begins the names of aliases.
     pub fn new(
         alloc: Global,
-        own: &str,
         prefix: &str,
-        derives: &[String],
+        description: &'x Description,
         value: &Value,
-    ) -> Result<Page, AllocError> {
+    ) -> Result<Page<'x>, AllocError> {
+        let name = description.name.as_str();
+        let generics = &description.generics;
         let mut names = Vec::new(alloc);
         let mut kinds = Vec::new(alloc);
-        let mut params = Vec::new(alloc);
         let (style, fields) = match value {
             Value::Nothing => (Style::Unit, &[] as &[Field]),
             Value::Types(fields) => (Style::Numbered, fields.as_slice()),
             Value::Fields(fields) => (Style::Named, fields.as_slice()),
         };
-        for (i, field) in fields.iter().enumerate() {
+        for field in fields {
             keep(&mut names, String::from_str(alloc, field.name.as_str())?)?;
             keep(&mut kinds, String::from_str(alloc, field.kind.as_str())?)?;
-            keep(&mut params, parameter(alloc, i)?)?;
         }
-        let parts = format!(in alloc; "{prefix}Parts")?;
+        let params = generics.letters(alloc, fields.len(), &[])?;
+        let given = in_angles(alloc, generics.names(alloc)?.as_slice())?;
+        let used = generics.to_alias(alloc, &[], kinds.as_slice())?;
+        let parts = format!(in alloc; "{prefix}Parts{used}")?;
         let columns = columns_of(alloc, fields)?;
+        let used = generics.to_alias(alloc, &[], columns.as_slice())?;
         let angles = in_angles(alloc, params.as_slice())?;
         let tuple = in_tuple(alloc, params.as_slice())?;
         Ok(Page {
             alloc,
             lines: Lines::new(alloc),
             style,
-            own: String::from_str(alloc, own)?,
-            row_name: format!(in alloc; "{own}Reference")?,
-            row: format!(in alloc; "{own}Reference{angles}")?,
-            derives: derived(alloc, derives)?,
+            generics,
+            name: String::from_str(alloc, name)?,
+            own: format!(in alloc; "{name}{given}")?,
+            row_name: format!(in alloc; "{name}Reference")?,
+            row: format!(in alloc; "{name}Reference{angles}")?,
+            derives: derived(alloc, description.derives.as_slice())?,
             container: if columns.is_empty() {
                 format!(in alloc; "ContainerOf<{parts}>")?
             } else {
-                format!(in alloc; "{prefix}PartColumns")?
+                format!(in alloc; "{prefix}PartColumns{used}")?
             },
+            prefix: String::from_str(alloc, prefix)?,
             columns,
             parts,
             fields: names,
@@ -108,21 +118,26 @@ impl Page {
 
     // Adds the column, and the tuple of the fields.
     fn add_head(&mut self) -> Result<(), AllocError> {
+        let (alloc, name) = (self.alloc, self.name.as_str());
+        let generics = self.generics;
         let own = self.own.as_str();
-        self.lines.put(format!(in self.alloc;
-            "/// A column of values of `{own}`.
-pub type {own}Container = ContainerOf<{own}>;
+        let params = generics.of_alias(alloc, &[], generics.names(alloc)?.as_slice())?;
+        self.lines.put(format!(in alloc;
+            "/// A column of values of `{name}`.
+pub type {name}Container{params} = ContainerOf<{own}>;
 
 // The fields, in their order"
         ))?;
-        let before = format!(in self.alloc; "type {} = ", self.parts)?;
+        let params = generics.of_alias(alloc, &[], self.kinds.as_slice())?;
+        let before = format!(in alloc; "type {}Parts{params} = ", self.prefix)?;
         self.lines
             .add_tuple("", before.as_str(), self.kinds.as_slice(), ";")?;
         if self.columns.is_empty() {
             return Ok(());
         }
         self.lines.add("\n// Their columns")?;
-        let before = format!(in self.alloc; "type {} = ", self.container)?;
+        let params = generics.of_alias(alloc, &[], self.columns.as_slice())?;
+        let before = format!(in alloc; "type {}PartColumns{params} = ", self.prefix)?;
         self.lines
             .add_tuple("", before.as_str(), self.columns.as_slice(), ";")
     }
@@ -134,7 +149,7 @@ pub type {own}Container = ContainerOf<{own}>;
             "
 /// What stands for a value of `{}` in a column.
 #[derive({})]",
-            self.own, self.derives
+            self.name, self.derives
         ))?;
         match self.style {
             Style::Unit => self
@@ -170,12 +185,20 @@ pub type {own}Container = ContainerOf<{own}>;
     // Adds the meaning of values and rows: that of the tuple of their fields.
     fn add_items(&mut self) -> Result<(), AllocError> {
         let fields = self.tuple_in_clause()?;
-        let own = self.own.as_str();
         let parts = self.parts.as_str();
         let tuple = self.tuple.as_str();
+        self.lines.add_impl(
+            &Header {
+                params: self.generics.declared(self.alloc, "")?.as_slice(),
+                trait_name: "Item",
+                of: &[],
+                own: self.own.as_str(),
+                after: "",
+            },
+            self.generics.bounds.as_slice(),
+        )?;
         self.lines.put(format!(in self.alloc;
-            "impl Item for {own} {{
-    ghost meaning = {{ λ e. ⟦<{parts} as Item>⟧.meaning {fields} }};
+            "    ghost meaning = {{ λ e. ⟦<{parts} as Item>⟧.meaning {fields} }};
 
     ghost valid = {{ λ e. ⟦<{parts} as Item>⟧.valid {fields} }};
 }}
@@ -238,16 +261,28 @@ pub type {own}Container = ContainerOf<{own}>;
         Ok(parts)
     }
 
+    // Returns the parameters of the struct, and then those of its row with these bounds.
+    fn all_params(&self, bounds: &str) -> Result<Vec<String>, AllocError> {
+        let mut all = self.generics.declared(self.alloc, "")?;
+        for param in &self.params {
+            keep(&mut all, format!(in self.alloc; "{param}{bounds}")?)?;
+        }
+        Ok(all)
+    }
+
     // Adds the impl that makes a row from the rows of the parts.
     fn add_made_rows(&mut self) -> Result<(), AllocError> {
-        let params = each(self.alloc, self.params.as_slice(), "", ": Item")?;
-        self.lines.add_header(&Header {
-            params: params.as_slice(),
-            trait_name: "MakeRow",
-            of: &[String::from_str(self.alloc, self.tuple.as_str())?],
-            own: self.own.as_str(),
-            after: " {",
-        })?;
+        let params = self.all_params(": Item")?;
+        self.lines.add_impl(
+            &Header {
+                params: params.as_slice(),
+                trait_name: "MakeRow",
+                of: &[String::from_str(self.alloc, self.tuple.as_str())?],
+                own: self.own.as_str(),
+                after: "",
+            },
+            self.generics.bounds.as_slice(),
+        )?;
         let unused = if self.style == Style::Unit { "_" } else { "" };
         self.lines.put(format!(in self.alloc;
             "    type Row = {};
@@ -271,33 +306,61 @@ pub type {own}Container = ContainerOf<{own}>;
 
     // Adds the impl that pushes values.
     fn add_pushed_values(&mut self) -> Result<(), AllocError> {
-        let own = self.own.as_str();
-        let container = self.container.as_str();
+        let bounds = self.generics.pushes(self.alloc)?;
+        self.lines.add_impl(
+            &Header {
+                params: self.generics.declared(self.alloc, "")?.as_slice(),
+                trait_name: "PushParts",
+                of: &[
+                    String::from_str(self.alloc, self.container.as_str())?,
+                    String::from_str(self.alloc, self.own.as_str())?,
+                ],
+                own: self.own.as_str(),
+                after: "",
+            },
+            bounds.as_slice(),
+        )?;
         self.lines.put(format!(in self.alloc;
-            "impl PushParts<{container}, {own}> for {own} {{
-    fn push_parts(&self, parts: &mut {container}) -> Result<(), GrowError> {{"
+            "    fn push_parts(&self, parts: &mut {}) -> Result<(), GrowError> {{",
+            self.container
         ))?;
-        self.add_push("&self.")
+        if self.generics.is_none() {
+            return self.add_push("&self.");
+        }
+        let fields = each(self.alloc, self.fields.as_slice(), "&self.", "")?;
+        self.lines.add_tuple(
+            "        ",
+            "ByRefs(",
+            fields.as_slice(),
+            ").push_into(parts)",
+        )?;
+        self.lines.add("    }\n}\n")
     }
 
     // Adds the impl that pushes rows.
     fn add_pushed_rows(&mut self) -> Result<(), AllocError> {
-        let mut params = each(self.alloc, self.params.as_slice(), "", ": Copy + Item")?;
+        let mut params = self.all_params(": Copy + Item")?;
+        let columns = self.generics.fresh(self.alloc, "P")?;
         keep(
             &mut params,
-            format!(in self.alloc; "P: Push<{}>", self.tuple)?,
+            format!(in self.alloc; "{columns}: Push<{}>", self.tuple)?,
         )?;
-        self.lines.add_header(&Header {
-            params: params.as_slice(),
-            trait_name: "PushParts",
-            of: &[
-                String::from_str(self.alloc, "P")?,
-                String::from_str(self.alloc, self.own.as_str())?,
-            ],
-            own: self.row.as_str(),
-            after: " {",
-        })?;
-        self.lines.add("    fn push_parts(&self, parts: &mut P) -> Result<(), GrowError> {")?;
+        self.lines.add_impl(
+            &Header {
+                params: params.as_slice(),
+                trait_name: "PushParts",
+                of: &[
+                    String::from_str(self.alloc, columns.as_str())?,
+                    String::from_str(self.alloc, self.own.as_str())?,
+                ],
+                own: self.row.as_str(),
+                after: "",
+            },
+            self.generics.bounds.as_slice(),
+        )?;
+        self.lines.put(format!(in self.alloc;
+            "    fn push_parts(&self, parts: &mut {columns}) -> Result<(), GrowError> {{"
+        ))?;
         self.add_push("self.")
     }
 
@@ -307,45 +370,78 @@ pub type {own}Container = ContainerOf<{own}>;
             self.alloc,
             &mut self.lines,
             self.own.as_str(),
+            self.generics,
             self.fields.as_slice(),
         )
     }
 
     // Adds the column of the values.
     fn add_owned(&mut self) -> Result<(), AllocError> {
-        let own = self.own.as_str();
-        let parts = self.parts.as_str();
+        self.lines.add_impl(
+            &Header {
+                params: self.generics.declared(self.alloc, "")?.as_slice(),
+                trait_name: "Columnar",
+                of: &[],
+                own: self.own.as_str(),
+                after: "",
+            },
+            self.generics.bounds.as_slice(),
+        )?;
         self.lines.put(format!(in self.alloc;
-            "impl Columnar for {own} {{
-    ghost unfit = {{ ⟦<{parts} as Columnar>⟧.unfit }};
+            "    ghost unfit = {{ ⟦<{} as Columnar>⟧.unfit }};
 
-    type Container = OwnRows<{}, {own}>;
+    type Container = OwnRows<{}, {}>;
 }}
 ",
-            self.container
+            self.parts, self.container, self.own
         ))
     }
 
     // Adds the impl that makes a value from a row.
     fn add_values_of_rows(&mut self) -> Result<(), AllocError> {
-        let own = self.own.as_str();
+        let row = self.generics.fresh(self.alloc, "R")?;
+        let mut params = self.generics.declared(self.alloc, "Drop")?;
+        keep(&mut params, format!(in self.alloc; "{row}: Item")?)?;
+        let mut bounds = self.generics.where_bounds(self.alloc)?;
+        let is_generic = !self.generics.is_none();
         let parts = self.parts.as_str();
-        let name = if self.style == Style::Unit {
+        let own = self.own.as_str();
+        let bound = if is_generic {
+            format!(in self.alloc; "{row}: IntoValue<{parts}>")?
+        } else {
+            format!(in self.alloc; "{parts}: FromRow<{row}>")?
+        };
+        keep(&mut bounds, bound)?;
+        self.lines.add_impl(
+            &Header {
+                params: params.as_slice(),
+                trait_name: "FromRow",
+                of: &[format!(in self.alloc; "OwnRow<{row}, {own}>")?],
+                own,
+                after: "",
+            },
+            bounds.as_slice(),
+        )?;
+        let made = if self.style == Style::Unit {
             "_parts"
         } else {
             "parts"
         };
         self.lines.put(format!(in self.alloc;
-            "impl<R: Item> FromRow<OwnRow<R, {own}>> for {own}
-where
-    {parts}: FromRow<R>,
-{{
-    fn from_row(alloc: Global, row: OwnRow<R, {own}>) -> Result<Self, OwnError> {{
-        let {name} = {parts}::from_row(alloc, row.parts)?;"
+            "    fn from_row(alloc: Global, row: OwnRow<{row}, {own}>) -> Result<Self, OwnError> {{"
         ))?;
-        let own = String::from_str(self.alloc, self.own.as_str())?;
+        if is_generic {
+            self.lines.put(format!(in self.alloc;
+                "        let {made}: {parts} = row.parts.into_value(alloc)?;"
+            ))?;
+        } else {
+            self.lines.put(format!(in self.alloc;
+                "        let {made} = {parts}::from_row(alloc, row.parts)?;"
+            ))?;
+        }
+        let name = String::from_str(self.alloc, self.name.as_str())?;
         let parts = self.parts_of("parts")?;
-        self.add_struct("Ok(", own.as_str(), parts.as_slice(), ")")?;
+        self.add_struct("Ok(", name.as_str(), parts.as_slice(), ")")?;
         self.lines.add("    }\n}")
     }
 
@@ -394,22 +490,24 @@ where
             return Ok(());
         }
         let parts = self.views()?;
-        let own = self.own.as_str();
+        let name = self.name.as_str();
         let told = format!(in self.alloc;
-            "The columns of the fields of `{own}` in a view, by name."
+            "The columns of the fields of `{name}` in a view, by name."
         )?;
-        let of = format!(in self.alloc; "OwnRows<{}, {own}>", self.tuple)?;
+        let of = format!(in self.alloc; "OwnRows<{}, {}>", self.tuple, self.own)?;
+        let others = self.generics.declared(self.alloc, "")?;
         let imports = if self.fields.len() == 1 {
             "Rattle.columnar.specs.Fields.{rows_of_only}"
         } else {
             "Rattle.columnar.specs.Fields.{rows_of_field, rows_of_last}"
         };
         let views = Views {
-            own,
+            own: name,
             told: told.as_str(),
             imports,
             params: self.params.as_slice(),
-            others: &[],
+            others: others.as_slice(),
+            bounds: self.generics.bounds.as_slice(),
             of: of.as_str(),
             parts: parts.as_slice(),
         };

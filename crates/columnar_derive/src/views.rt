@@ -26,8 +26,9 @@ pub struct Views<'x> {
     pub imports: &'x str,
     /// A type parameter for each part.
     pub params: &'x [String],
-    /// The other parameters of the impl.
+    /// The other parameters of the impl, and its bounds.
     pub others: &'x [String],
+    pub bounds: &'x [String],
     /// The type of the views.
     pub of: &'x str,
     /// The parts, in order.
@@ -80,13 +81,16 @@ impl Views<'_> {
             keep(&mut params, format!(in alloc; "{param}: Column + Copy")?)?;
         }
         let name = format!(in alloc; "{}Columns", self.own)?;
-        lines.add_header(&Header {
-            params: params.as_slice(),
-            trait_name: name.as_str(),
-            of: self.params,
-            own: self.of,
-            after: " {",
-        })?;
+        lines.add_impl(
+            &Header {
+                params: params.as_slice(),
+                trait_name: name.as_str(),
+                of: self.params,
+                own: self.of,
+                after: "",
+            },
+            self.bounds,
+        )?;
         for (i, (part, param)) in self.parts.iter().zip(self.params.iter()).enumerate() {
             if i > 0 {
                 lines.add("")?;

@@ -6,6 +6,8 @@ mod claims;
 #[cfg(test)]
 mod event;
 #[cfg(test)]
+mod generic;
+#[cfg(test)]
 mod hashes;
 #[cfg(test)]
 mod numbers;

@@ -148,8 +148,14 @@ type AtRest = columnar::sums::variants::Next<AtStart>;
 
 type AtStop = columnar::sums::variants::Next<AtRest>;
 
-// The values of a view, a column for each variant
-type Views<A, B, C> = (A, (B, (C,)));
+// A view: that of the values of each variant, and those of the variants
+type ViewsOfValues<A, B, C> = (A, (B, (C,)));
+
+type ViewOfAll<'x, A, B, C> = Variants<
+    ViewsOfValues<A, B, C>,
+    &'x [u8],
+    columnar::common::View<'x, u64>,
+>;
 
 /// The values of each variant of `Event` in a view, by name.
 pub trait EventColumns<A: Column, B: Column, C: Column>: Column {
@@ -186,7 +192,7 @@ pub trait EventColumns<A: Column, B: Column, C: Column>: Column {
 }
 
 impl<'x, A: Column + Copy, B: Column + Copy, C: Column + Copy> EventColumns<A, B, C>
-    for OwnRows<Variants<Views<A, B, C>, &'x [u8], columnar::common::View<'x, u64>>, Event> {
+    for OwnRows<ViewOfAll<'x, A, B, C>, Event> {
     fn start(self) -> A {
         values_at::<AtStart, _, _, _>(self.parts)
     }

@@ -393,8 +393,14 @@ type FoundAtAt = columnar::sums::variants::Zero;
 
 type FoundAtLost = columnar::sums::variants::Next<FoundAtAt>;
 
-// The values of a view, a column for each variant
-type FoundViews<A, B> = (A, (B,));
+// A view: that of the values of each variant, and those of the variants
+type FoundViewsOfValues<A, B> = (A, (B,));
+
+type FoundViewOfAll<'x, A, B> = Variants<
+    FoundViewsOfValues<A, B>,
+    &'x [u8],
+    columnar::common::View<'x, u64>,
+>;
 
 /// The values of each variant of `Found` in a view, by name.
 pub trait FoundColumns<A: Column, B: Column>: Column {
@@ -422,7 +428,7 @@ pub trait FoundColumns<A: Column, B: Column>: Column {
 }
 
 impl<'x, A: Column + Copy, B: Column + Copy> FoundColumns<A, B>
-    for OwnRows<Variants<FoundViews<A, B>, &'x [u8], columnar::common::View<'x, u64>>, Found> {
+    for OwnRows<FoundViewOfAll<'x, A, B>, Found> {
     fn at(self) -> A {
         values_at::<FoundAtAt, _, _, _>(self.parts)
     }

@@ -172,8 +172,14 @@ type AtSquare = columnar::sums::variants::Next<AtNamed>;
 
 type AtNothing = columnar::sums::variants::Next<AtSquare>;
 
-// The values of a view, a column for each variant
-type Views<A, B, C, D> = (A, (B, (C, (D,))));
+// A view: that of the values of each variant, and those of the variants
+type ViewsOfValues<A, B, C, D> = (A, (B, (C, (D,))));
+
+type ViewOfAll<'x, A, B, C, D> = Variants<
+    ViewsOfValues<A, B, C, D>,
+    &'x [u8],
+    columnar::common::View<'x, u64>,
+>;
 
 /// The values of each variant of `Shape` in a view, by name.
 pub trait ShapeColumns<A: Column, B: Column, C: Column, D: Column>: Column {
@@ -223,7 +229,7 @@ impl<'x, A: Column + Copy, B: Column + Copy, C: Column + Copy, D: Column + Copy>
     B,
     C,
     D,
-> for OwnRows<Variants<Views<A, B, C, D>, &'x [u8], columnar::common::View<'x, u64>>, Shape> {
+> for OwnRows<ViewOfAll<'x, A, B, C, D>, Shape> {
     fn circle(self) -> A {
         values_at::<AtCircle, _, _, _>(self.parts)
     }

@@ -147,12 +147,9 @@ impl<'x> EnumPage<'x> {
         let (name, own) = (self.name.as_str(), self.own.as_str());
         let all = self.generics.names(self.alloc)?;
         let params = self.generics.of_alias(self.alloc, &[], all.as_slice())?;
-        self.lines.put(format!(in self.alloc;
-            "/// A column of values of `{name}`.
-pub type {name}Container{params} = ContainerOf<{own}>;
-
-// The columns of the values, of each variant and of those after it"
-        ))?;
+        self.lines.put(format!(in self.alloc; "/// A column of values of `{name}`."))?;
+        self.lines.add_container(name, params.as_str(), own)?;
+        self.lines.add("// The columns of the values, of each variant and of those after it")?;
         self.add_columns()?;
         self.add_kinds(
             "// What values of several fields are made of",

@@ -8,7 +8,7 @@ use std::fmt;
 pub struct Description {
     /// The name of the type.
     pub name: String,
-    /// What the struct or enum of its rows derives besides `Clone`, `Copy` and `Debug`.
+    /// What the struct or enum of its rows derives in addition to `Clone`, `Copy` and `Debug`.
     pub derives: Vec<String>,
     /// Its parameters.
     pub generics: Generics,

@@ -6,7 +6,7 @@ use std::fmt::Write;
 pub const WIDTH: usize = 100;
 
 /// The greatest length of the items of a tuple or call on one line.
-pub const ITEMS: usize = 60;
+const ITEMS: usize = 60;
 
 // The greatest length of values that share lines if one line cannot hold them all.
 const SHORT: usize = 10;
@@ -268,15 +268,33 @@ impl Lines {
         values: &[String],
         after: &str,
     ) -> Result<(), AllocError> {
-        let list = joined(self.alloc, values, ", ")?;
-        let are_short = values.iter().all(|value| width(value.as_str()) <= SHORT);
-        if width(list.as_str()) <= ITEMS || !are_short {
+        if values.len() == 1 {
             return self.add_tuple(indent, before, values, after);
         }
-        self.put(format!(in self.alloc; "{indent}{before}("))?;
+        let before = format!(in self.alloc; "{before}(")?;
+        let after = format!(in self.alloc; "){after}")?;
+        self.add_arguments(indent, before.as_str(), values, after.as_str())
+    }
+
+    /// Adds values between two texts, such as `f(` and `)`, like `add_list`; short values share lines.
+    pub fn add_arguments(
+        &mut self,
+        indent: &str,
+        before: &str,
+        values: &[String],
+        after: &str,
+    ) -> Result<(), AllocError> {
+        let list = joined(self.alloc, values, ", ")?;
+        let line = format!(in self.alloc; "{indent}{before}{list}{after}")?;
+        let fits_one = width(list.as_str()) <= ITEMS && fits(line.as_str());
+        let are_short = values.iter().all(|value| width(value.as_str()) <= SHORT);
+        if fits_one || !are_short {
+            return self.add_list(indent, before, values, after, ITEMS);
+        }
+        self.put(format!(in self.alloc; "{indent}{before}"))?;
         let begun = format!(in self.alloc; "{indent}   ")?;
         self.add_filled(begun.as_str(), values)?;
-        self.put(format!(in self.alloc; "{indent}){after}"))
+        self.put(format!(in self.alloc; "{indent}{after}"))
     }
 
     /// Adds a tuple between two texts, like `add_list`.
@@ -436,6 +454,13 @@ impl Lines {
             "{indent}{pattern} =>
 {indent}    {value},"
         ))
+    }
+
+    /// Adds the alias of the column of a type of this name, which has these parameters.
+    pub fn add_container(&mut self, name: &str, params: &str, own: &str) -> Result<(), AllocError> {
+        let before = format!(in self.alloc; "pub type {name}Container{params} = ContainerOf<")?;
+        let of = [String::from_str(self.alloc, own)?];
+        self.add_list("", before.as_str(), of.as_slice(), ">;\n", WIDTH)
     }
 
     /// Adds an alias: on one line, or with the type on a line of its own.

@@ -2,7 +2,7 @@
 use crate::attributes::derived;
 use crate::generics::Generics;
 use crate::item::{Description, Field, Value};
-use crate::lines::{Header, ITEMS, Lines, WIDTH, each, in_angles, in_clause, in_tuple, keep};
+use crate::lines::{Header, Lines, WIDTH, each, in_angles, in_clause, in_tuple, keep};
 use crate::names::add_names;
 use crate::views::{View, Views};
 use std::alloc::{AllocError, Global};
@@ -122,12 +122,10 @@ impl<'x> Page<'x> {
         let generics = self.generics;
         let own = self.own.as_str();
         let params = generics.of_alias(alloc, &[], generics.names(alloc)?.as_slice())?;
-        self.lines.put(format!(in alloc;
-            "/// A column of values of `{name}`.
-pub type {name}Container{params} = ContainerOf<{own}>;
-
-// The fields, in their order"
-        ))?;
+        self.lines
+            .put(format!(in alloc; "/// A column of values of `{name}`."))?;
+        self.lines.add_container(name, params.as_str(), own)?;
+        self.lines.add("// The fields, in their order")?;
         let params = generics.of_alias(alloc, &[], self.kinds.as_slice())?;
         let before = format!(in alloc; "type {}Parts{params} = ", self.prefix)?;
         self.lines
@@ -238,7 +236,7 @@ pub type {name}Container{params} = ContainerOf<{own}>;
                 let before = format!(in self.alloc; "{before}{name}(")?;
                 let after = format!(in self.alloc; "){after}")?;
                 self.lines
-                    .add_list(indent, before.as_str(), values, after.as_str(), ITEMS)
+                    .add_arguments(indent, before.as_str(), values, after.as_str())
             }
             Style::Named => {
                 let mut items = Vec::new(self.alloc);
@@ -328,13 +326,9 @@ pub type {name}Container{params} = ContainerOf<{own}>;
             return self.add_push("&self.");
         }
         let fields = each(self.alloc, self.fields.as_slice(), "&self.", "")?;
-        self.lines.add_tuple(
-            "        ",
-            "ByRefs(",
-            fields.as_slice(),
-            ").push_into(parts)",
-        )?;
-        self.lines.add("    }\n}\n")
+        self.lines.add_values("        ", "let fields = ByRefs(", fields.as_slice(), ");")?;
+        self.lines
+            .add("        fields.push_into(parts)\n    }\n}\n")
     }
 
     // Adds the impl that pushes rows.
@@ -427,9 +421,17 @@ pub type {name}Container{params} = ContainerOf<{own}>;
         } else {
             "parts"
         };
-        self.lines.put(format!(in self.alloc;
-            "    fn from_row(alloc: Global, row: OwnRow<{row}, {own}>) -> Result<Self, OwnError> {{"
-        ))?;
+        let of = [
+            String::from_str(self.alloc, "alloc: Global")?,
+            format!(in self.alloc; "row: OwnRow<{row}, {own}>")?,
+        ];
+        self.lines.add_list(
+            "    ",
+            "fn from_row(",
+            of.as_slice(),
+            ") -> Result<Self, OwnError> {",
+            WIDTH,
+        )?;
         if is_generic {
             self.lines.put(format!(in self.alloc;
                 "        let {made}: {parts} = row.parts.into_value(alloc)?;"

@@ -15,7 +15,7 @@ use columnar_base::tuple::three::enter_three;
 use columnar_base::tuple::{ByRef, enter_two};
 
 /// A reference to an item, or a tuple of references to the fields of a struct.
-#[derive(Clone, Copy)]
+#[derive(Drop)]
 pub struct ByRefs<T>(pub T);
 
 /// It represents the same row as the references.

@@ -2,6 +2,7 @@
 ghost use Rattle.columnar.specs.Format.{IsSound};
 ghost use Rattle.columnar.specs.Stashes.{stash_content};
 
+mod refused;
 mod rows;
 
 use columnar::bytes::stash::Stash;

@@ -1,14 +1,15 @@
 // Columns of structs whose fields have no names, of a struct without fields, and of an enum of both.
 ghost use Rattle.columnar.specs.Format.{IsSound};
 
+mod refused;
 mod rows;
 
 use columnar::fault::OwnError;
 use columnar::sums::variants::{Last, Nth};
-use columnar::{Column, Columnar, Index, Len, OwnRow, Storage};
+use columnar::{Borrow, Column, Columnar, Index, Len, OwnRow, Storage};
 use rows::{
-    FoundContainer, FoundReference, MetersReference, NowhereContainer, NowhereReference,
-    PlaceContainer, PlaceReference,
+    FoundContainer, FoundReference, MetersColumns, MetersReference, NowhereContainer,
+    NowhereReference, PlaceColumns, PlaceContainer, PlaceReference,
 };
 use std::alloc::Global;
 use std::rt::HostRuntime;
@@ -77,6 +78,15 @@ impl Places {
         Some(Place::into_owned(alloc, self.column.get_checked(index)?))
     }
 
+    // The sum of the lengths, each a field of a field
+    fn far(&self) -> u64 {
+        let mut sum = 0u64;
+        for far in self.column.borrow().field_0().field_0().into_index_iter() {
+            sum = sum.saturating_add(far);
+        }
+        sum
+    }
+
     // The fields of a row, by its struct
     fn shown(&self, index: usize) -> Option<(u64, u32)> {
         let PlaceReference(meters, high) = self.column.get_checked(index)?.show();
@@ -89,6 +99,7 @@ fn fields_without_names_are_pushed_and_read(rt: HostRuntime) -> Result<(), Fail>
     let mut places = Places::empty(rt.alloc());
     holds!(rt; places.takes(13, 2) && places.takes_row(40, 1));
     holds!(rt; places.reads(&[place(13, 2), place(40, 1)]));
+    equal!(rt; places.far(), 53);
     equal!(rt; places.shown(1), Some((40, 1)));
     equal!(rt; places.shown(2), None);
     match places.place(rt.alloc(), 0) {
@@ -173,4 +184,12 @@ fn variants_of_such_structs_are_pushed_and_read(rt: HostRuntime) -> Result<(), F
     let far: FoundRow = OwnRow::new(Nth::This(place(8, 4)));
     holds!(rt; finds.reads(&[lost, near, far]));
     Ok(())
+}
+
+fn are(names: &[String], expected: &[&str]) -> bool {
+    names.len() == expected.len()
+        && names
+            .iter()
+            .zip(expected.iter())
+            .all(|(name, other)| name.as_str() == *other)
 }

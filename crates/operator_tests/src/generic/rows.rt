@@ -51,7 +51,8 @@ where
     ContainerOf<T>: Truncate + PushRef<T>,
 {
     fn push_parts(&self, parts: &mut ContainerOf<WindowParts<T>>) -> Result<(), GrowError> {
-        ByRefs((&self.start, &self.values)).push_into(parts)
+        let fields = ByRefs((&self.start, &self.values));
+        fields.push_into(parts)
     }
 }
 
@@ -424,7 +425,8 @@ impl<const N: usize, A: Item, B: Item> MakeRow<(A, B)> for Grid<N> {
 
 impl<const N: usize> PushParts<ContainerOf<GridParts<N>>, Grid<N>> for Grid<N> {
     fn push_parts(&self, parts: &mut ContainerOf<GridParts<N>>) -> Result<(), GrowError> {
-        ByRefs((&self.0, &self.1)).push_into(parts)
+        let fields = ByRefs((&self.0, &self.1));
+        fields.push_into(parts)
     }
 }
 

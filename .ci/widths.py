@@ -17,15 +17,17 @@ import tempfile
 ROOT = os.path.dirname(os.path.dirname(os.path.abspath(__file__)))
 sys.path.insert(0, os.path.join(ROOT, ".ci", "widths"))
 
+import by_refs
 import cells
 import earlier
+import fields
 import names_of_tuples
 import ordered
 import same
 import tuples
 import types_of_tuples
 
-KINDS = (tuples, ordered, same, earlier, cells, types_of_tuples, names_of_tuples)
+KINDS = (tuples, ordered, same, earlier, cells, fields, by_refs, types_of_tuples, names_of_tuples)
 
 
 def make(folder):

@@ -29,6 +29,7 @@ WITHIN = {
     "push_after": "push", "from_old": "try_from_either", "load_columns": "make_typed", "sizes_of_columns": "element_sizes",
     "reserve_columns": "reserve_for", "duplicate_columns": "duplicate", "columns_of_old": "try_from_either",
     "extend_columns": "extend_from_self", "push_with": "push", "push_ref_with": "push_ref", "clone_store": "clone",
+    "push_into_with": "push_ref", "push_into_case": "push_ref", "push_into_variants": "push_ref",
     "push_names": "slice_names", "push_parts_names": "slice_names", ("OwnRow", "push_parts"): "push",
 }
 

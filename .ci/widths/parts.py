@@ -64,5 +64,5 @@ def answers(name, said=lambda width: {}):
     """Yields each file of answers of a template: its path, the name of the template, and its text."""
     for folder, lowest, text in headed(name):
         for width in range(lowest, WIDTHS[-1] + 1):
-            path, made = answer_file(folder.format(width=NUMBERS[width], number=width), text, width, **said(width))
+            path, made = answer_file(folder.format(width=NUMBERS[width], number=width, refs="Ref" * width), text, width, **said(width))
             yield path, name, made

@@ -161,3 +161,4 @@ pub use Rattle.columnar_operators.specs.MergedLaws
 pub use Rattle.columnar_operators.specs.Searches
 pub use Rattle.columnar_operators.specs.SearchLaws
 pub use Rattle.columnar_operators.specs.SortLaws
+pub use Rattle.columnar_own.specs.Fields

@@ -47,4 +47,5 @@ pub use columnar_sums::discriminant::Discriminant;
 pub use columnar_sums::option::Options;
 pub use columnar_sums::rank_select::{RankSelect, RankSelectCursor};
 pub use columnar_sums::result::Results;
+pub use columnar_types::into_value::IntoValue;
 pub use columnar_types::types::{BorrowedOf, Columnar, ContainerOf, FromRow, Ref};

@@ -1,20 +1,31 @@
 //! The code for an enum.
-use crate::item::{Field, Value, Variant};
-use crate::lines::{
-    Arm, Header, Lines, WIDTH, each, in_angles, in_tuple, joined, keep, letter, parameter,
-};
-use crate::names::add_names;
+use crate::attributes::derived;
+use crate::cases::Case;
+use crate::generics::Generics;
+use crate::item::{Description, Value, Variant};
+use crate::lines::{Header, Lines, WIDTH, each, in_angles, joined, keep};
+use crate::names::{add_names, method_name};
+use crate::views::{View, Views};
 use std::alloc::{AllocError, Global};
 
 /// The code for an enum, and the names in it.
 #[derive(Drop)]
-pub struct EnumPage {
+pub struct EnumPage<'x> {
     alloc: Global,
     lines: Lines,
-    // The name of the enum, that of the enum of its rows, and the type of its rows.
+    generics: &'x Generics,
+    // The name of the enum, the enum with its parameters, the name of the enum of its rows, and that with its parameters.
+    name: String,
     own: String,
     row_name: String,
     row: String,
+    // What the enum of the rows derives.
+    derives: String,
+    // Begins the names of aliases; empty if the file has one type.
+    prefix: String,
+    // The type of the column of all parts, and the type as which its rows are read.
+    parts: String,
+    rows: String,
     cases: Vec<Case>,
     // A type parameter for each variant with a value.
     params: Vec<String>,
@@ -24,310 +35,87 @@ pub struct EnumPage {
     place: String,
 }
 
-// A variant.
-#[derive(Drop)]
-struct Case {
-    name: String,
-    // The type as which the value is read: a parameter, or `()` for a variant without a value.
-    param: String,
-    // The types of the fields; the type of the value, which is the one field or the tuple of all; and the type of the
-    // lent value.
-    kinds: Vec<String>,
-    kind: String,
-    lent: String,
-    // A letter for each field, and the value made of the letters.
-    letters: Vec<String>,
-    value: String,
-    // The patterns of named fields, which bind the letters.
-    fields: Vec<String>,
-}
-
-// Returns one text as it is, and several as a tuple.
-fn one_or_tuple(alloc: Global, texts: &[String]) -> Result<String, AllocError> {
-    match texts {
-        [text] => String::from_str(alloc, text.as_str()),
-        _ => in_tuple(alloc, texts),
-    }
-}
-
-// Returns the type of a variant's value, and the type of the lent value.
-fn value_types(
+// Returns a type parameter for each variant with a value.
+fn params_of(
     alloc: Global,
-    name: &str,
-    kinds: &[String],
-) -> Result<(String, String), AllocError> {
-    match kinds {
-        [] => Ok((in_tuple(alloc, &[])?, String::new(alloc))),
-        [kind] => Ok((
-            String::from_str(alloc, kind.as_str())?,
-            format!(in alloc; "&'x {kind}")?,
-        )),
-        _ => Ok((
-            format!(in alloc; "ValueOf{name}")?,
-            format!(in alloc; "LentOf{name}<'x>")?,
-        )),
+    generics: &Generics,
+    variants: &[Variant],
+) -> Result<Vec<String>, AllocError> {
+    let mut count = 0usize;
+    let mut taken = Vec::new(alloc);
+    for variant in variants {
+        keep(&mut taken, String::from_str(alloc, variant.name.as_str())?)?;
+        if !matches!(&variant.value, Value::Nothing) {
+            count = count.saturating_add(1);
+        }
     }
+    generics.letters(alloc, count, taken.as_slice())
 }
 
-impl Case {
-    fn new(alloc: Global, variant: &Variant, param: String) -> Result<Case, AllocError> {
-        let mut kinds = Vec::new(alloc);
-        let mut fields = Vec::new(alloc);
-        let mut letters = Vec::new(alloc);
-        match &variant.value {
-            Value::Nothing => {}
-            Value::Types(types) => {
-                for (i, kind) in types.iter().enumerate() {
-                    keep(&mut kinds, String::from_str(alloc, kind.as_str())?)?;
-                    keep(&mut letters, letter(alloc, i)?)?;
-                }
-            }
-            Value::Fields(of) => {
-                for (i, field) in of.iter().enumerate() {
-                    let letter = letter(alloc, i)?;
-                    keep(&mut kinds, String::from_str(alloc, field.kind.as_str())?)?;
-                    keep(&mut fields, named(alloc, field, letter.as_str())?)?;
-                    keep(&mut letters, letter)?;
-                }
-            }
-        }
-        let name = variant.name.as_str();
-        let (kind, lent) = value_types(alloc, name, kinds.as_slice())?;
-        Ok(Case {
-            name: String::from_str(alloc, name)?,
-            param,
-            kind,
-            lent,
-            kinds,
-            value: one_or_tuple(alloc, letters.as_slice())?,
-            letters,
-            fields,
-        })
-    }
-
-    fn has_value(&self) -> bool {
-        !self.letters.is_empty()
-    }
-
-    // Returns the variant of the enum or of its rows, with its value, if it has one.
-    fn of(&self, alloc: Global, name: &str, value: &str) -> Result<String, AllocError> {
-        let variant = self.name.as_str();
-        if self.has_value() {
-            format!(in alloc; "{name}::{variant}({value})")
-        } else {
-            format!(in alloc; "{name}::{variant}")
-        }
-    }
-
-    // Returns the meaning or the validity (`member`) of the value, for the enum or for its rows.
-    fn term(&self, alloc: Global, is_row: bool, member: &str) -> Result<String, AllocError> {
-        if is_row {
-            format!(in alloc; "{}.{member} a", self.param)
-        } else {
-            format!(in alloc; "⟦<{} as Item>⟧.{member} {}", self.kind, self.value)
-        }
-    }
-
-    // Returns the letters of the fields, or the one letter of a row's value.
-    fn letters(&self, alloc: Global, is_row: bool) -> Result<String, AllocError> {
-        if is_row {
-            String::from_str(alloc, "a")
-        } else {
-            joined(alloc, self.letters.as_slice(), " ")
-        }
-    }
-
-    // Returns the `elim` arm with the meaning of variant `number`.
-    fn meaning(&self, alloc: Global, number: usize, is_row: bool) -> Result<String, AllocError> {
-        let name = self.name.as_str();
-        if !self.has_value() {
-            return format!(in alloc; "{name} ↦ case {number} unit");
-        }
-        let letters = self.letters(alloc, is_row)?;
-        let term = self.term(alloc, is_row, "meaning")?;
-        format!(in alloc; "{name} {letters} ↦ case {number} ({term})")
-    }
-
-    // Returns the `elim` arm that says when the variant is valid.
-    fn valid(&self, alloc: Global, is_row: bool) -> Result<String, AllocError> {
-        let name = self.name.as_str();
-        if !self.has_value() {
-            return format!(in alloc; "{name} ↦ Unit {{0}}");
-        }
-        let letters = self.letters(alloc, is_row)?;
-        let term = self.term(alloc, is_row, "valid")?;
-        format!(in alloc; "{name} {letters} ↦ {term}")
-    }
-
-    // Adds the arm that lends a value as a row.
-    fn add_lent(
-        &self,
-        alloc: Global,
-        lines: &mut Lines,
-        own: &str,
-        row_name: &str,
-    ) -> Result<(), AllocError> {
-        let indent = "            ";
-        let name = self.name.as_str();
-        let function = format!(in alloc; "{row_name}::{name}")?;
-        if !self.has_value() {
-            let pattern = format!(in alloc; "{own}::{name}")?;
-            return lines.add_path_arm(indent, pattern.as_str(), function.as_str());
-        }
-        let pattern = if self.fields.is_empty() {
-            let list = joined(alloc, self.letters.as_slice(), ", ")?;
-            format!(in alloc; "{own}::{name}({list})")?
-        } else {
-            format!(in alloc; "{own}::{name}")?
+// Returns the variants, which are read as these parameters.
+fn cases_of(
+    alloc: Global,
+    prefix: &str,
+    generics: &Generics,
+    variants: &[Variant],
+    params: &[String],
+) -> Result<Vec<Case>, AllocError> {
+    let mut cases = Vec::new(alloc);
+    let mut left = params.iter();
+    for variant in variants {
+        let param = match &variant.value {
+            Value::Nothing => "()",
+            _ => left.next().map_or("()", |param| param.as_str()),
         };
-        lines.add_arm(&Arm {
-            indent,
-            pattern: pattern.as_str(),
-            fields: self.fields.as_slice(),
-            function: function.as_str(),
-            argument: self.value.as_str(),
-        })
+        let param = String::from_str(alloc, param)?;
+        let case = Case::new(alloc, prefix, generics, variant, param)?;
+        match cases.push(case) {
+            Ok(()) => {}
+            Err(error) => return Err(AllocError::from(error)),
+        }
     }
-
-    // Adds the arm that pushes a row of variant `number`.
-    fn add_push(
-        &self,
-        alloc: Global,
-        lines: &mut Lines,
-        row_name: &str,
-        number: usize,
-        is_last: bool,
-    ) -> Result<(), AllocError> {
-        let letter = if self.has_value() { "a" } else { "()" };
-        let innermost = if is_last {
-            format!(in alloc; "Last({letter})")?
-        } else {
-            format!(in alloc; "Nth::This({letter})")?
-        };
-        let pattern = self.of(alloc, row_name, "a")?;
-        if number < 4 {
-            let argument = next_of(alloc, number, innermost.as_str())?;
-            return lines.add_arm(&Arm {
-                indent: "            ",
-                pattern: pattern.as_str(),
-                fields: &[],
-                function: "parts.push",
-                argument: argument.as_str(),
-            });
-        }
-        lines.put(format!(in alloc;
-            "            {pattern} => {{
-                let value = {innermost};"
-        ))?;
-        for _ in 0..number {
-            lines.add("                let value = Nth::Next(value);")?;
-        }
-        lines.add("                parts.push(value)\n            }")
-    }
-
-    // Adds the arm that makes a value from a row.
-    fn add_value_made(
-        &self,
-        alloc: Global,
-        lines: &mut Lines,
-        own: &str,
-        row_name: &str,
-    ) -> Result<(), AllocError> {
-        let pattern = self.of(alloc, row_name, "a")?;
-        if !self.has_value() {
-            let value = format!(in alloc; "{own}::{}", self.name)?;
-            return lines.add_arm(&Arm {
-                indent: "            ",
-                pattern: pattern.as_str(),
-                fields: &[],
-                function: "Ok",
-                argument: value.as_str(),
-            });
-        }
-        lines.put(format!(in alloc;
-            "            {pattern} => {{
-                let a = <{}>::from_row(alloc, a)?;",
-            self.kind
-        ))?;
-        if self.kinds.len() > 1 {
-            lines.put(format!(in alloc; "                let {} = a;", self.value))?;
-        }
-        self.add_made(alloc, lines, own)?;
-        lines.add("            }")
-    }
-
-    // Adds the value, made from the letters of its fields.
-    fn add_made(&self, alloc: Global, lines: &mut Lines, own: &str) -> Result<(), AllocError> {
-        let name = self.name.as_str();
-        if self.fields.is_empty() {
-            let list = joined(alloc, self.letters.as_slice(), ", ")?;
-            return lines.put(format!(in alloc; "                Ok({own}::{name}({list}))"));
-        }
-        let before = format!(in alloc; "Ok({own}::{name} ")?;
-        lines.add_braces(
-            "                ",
-            before.as_str(),
-            self.fields.as_slice(),
-            ")",
-        )
-    }
+    Ok(cases)
 }
 
-// Returns a field that is bound to its letter.
-fn named(alloc: Global, field: &Field, letter: &str) -> Result<String, AllocError> {
-    let name = field.name.as_str();
-    if name == letter {
-        String::from_str(alloc, name)
-    } else {
-        format!(in alloc; "{name}: {letter}")
+// Returns the columns of the variants.
+fn columns_of(alloc: Global, cases: &[Case]) -> Result<Vec<String>, AllocError> {
+    let mut columns = Vec::new(alloc);
+    for case in cases {
+        keep(&mut columns, String::from_str(alloc, case.column.as_str())?)?;
     }
+    Ok(columns)
 }
 
-// Wraps a text in `depth` times `Nth::Next`.
-fn next_of(alloc: Global, depth: usize, text: &str) -> Result<String, AllocError> {
-    let mut all = String::new(alloc);
-    for _ in 0..depth {
-        all.push_str("Nth::Next(")?;
-    }
-    all.push_str(text)?;
-    for _ in 0..depth {
-        all.push(')')?;
-    }
-    Ok(all)
-}
-
-impl EnumPage {
-    /// Makes a page without code. Clauses name the items of the enum's file under the path `place`.
+impl<'x> EnumPage<'x> {
+    /// Makes a page without code for an enum with these variants. `prefix` begins the names of aliases. Clauses name the
+    /// items of the enum's file under the path `place`.
     pub fn new(
         alloc: Global,
-        own: &str,
+        prefix: &str,
+        description: &'x Description,
         variants: &[Variant],
         place: &str,
-    ) -> Result<EnumPage, AllocError> {
-        let mut cases = Vec::new(alloc);
-        let mut params = Vec::new(alloc);
-        for variant in variants {
-            let param = match variant.value {
-                Value::Nothing => String::from_str(alloc, "()")?,
-                _ => {
-                    let param = parameter(alloc, params.len())?;
-                    keep(&mut params, String::from_str(alloc, param.as_str())?)?;
-                    param
-                }
-            };
-            let case = Case::new(alloc, variant, param)?;
-            match cases.push(case) {
-                Ok(()) => {}
-                Err(error) => return Err(AllocError::from(error)),
-            }
-        }
+    ) -> Result<EnumPage<'x>, AllocError> {
+        let name = description.name.as_str();
+        let generics = &description.generics;
+        let params = params_of(alloc, generics, variants)?;
+        let cases = cases_of(alloc, prefix, generics, variants, params.as_slice())?;
+        let columns = columns_of(alloc, cases.as_slice())?;
+        let used = generics.to_alias(alloc, &[], columns.as_slice())?;
+        let given = in_angles(alloc, generics.names(alloc)?.as_slice())?;
         let angles = in_angles(alloc, params.as_slice())?;
         Ok(EnumPage {
             alloc,
             lines: Lines::new(alloc),
-            own: String::from_str(alloc, own)?,
-            row_name: format!(in alloc; "{own}Reference")?,
-            row: format!(in alloc; "{own}Reference{angles}")?,
+            generics,
+            name: String::from_str(alloc, name)?,
+            own: format!(in alloc; "{name}{given}")?,
+            row_name: format!(in alloc; "{name}Reference")?,
+            row: format!(in alloc; "{name}Reference{angles}")?,
+            derives: derived(alloc, description.derives.as_slice())?,
+            prefix: String::from_str(alloc, prefix)?,
+            parts: format!(in alloc; "{prefix}Parts{used}")?,
+            rows: format!(in alloc; "{prefix}Rows{angles}")?,
             cases,
             params,
             angles,
@@ -348,29 +136,20 @@ impl EnumPage {
         page.add_names()?;
         page.add_owned()?;
         page.add_values_of_rows()?;
+        page.add_places()?;
+        page.add_views()?;
         let EnumPage { lines, .. } = page;
         Ok(lines.into_text())
     }
 
-    // Adds the head of the file: the column, and the columns of its parts.
+    // Adds the column, and the columns of its parts.
     fn add_head(&mut self) -> Result<(), AllocError> {
-        let own = self.own.as_str();
-        self.lines.put(format!(in self.alloc;
-            "//! Rows of `{own}`, as `columnar_derive` writes them.
-use super::*;
-use columnar::fault::{{GrowError, OwnError}};
-use columnar::names::PartNames;
-use columnar::sums::variants::{{Last, Nth, Variants}};
-use columnar::{{
-    Columnar, ContainerOf, FromRow, Item, LendRow, MakeRow, OwnRow, OwnRows, Push, PushParts,
-}};
-use std::alloc::Global;
-
-/// A column of values of `{own}`.
-pub type {own}Container = ContainerOf<{own}>;
-
-// The columns of the values, of each variant and of those after it"
-        ))?;
+        let (name, own) = (self.name.as_str(), self.own.as_str());
+        let all = self.generics.names(self.alloc)?;
+        let params = self.generics.of_alias(self.alloc, &[], all.as_slice())?;
+        self.lines.put(format!(in self.alloc; "/// A column of values of `{name}`."))?;
+        self.lines.add_container(name, params.as_str(), own)?;
+        self.lines.add("// The columns of the values, of each variant and of those after it")?;
         self.add_columns()?;
         self.add_kinds(
             "// What values of several fields are made of",
@@ -381,32 +160,41 @@ pub type {own}Container = ContainerOf<{own}>;
 
     // Adds the columns from each variant on, the last first, and the column of the variants.
     fn add_columns(&mut self) -> Result<(), AllocError> {
+        let (alloc, generics) = (self.alloc, self.generics);
+        let prefix = self.prefix.as_str();
         let mut after: Option<String> = None;
+        let mut used = Vec::new(alloc);
         for case in self.cases.iter().rev() {
             let name = case.name.as_str();
-            let mut columns = Vec::new(self.alloc);
-            let own = format!(in self.alloc; "ContainerOf<{}>", case.kind)?;
-            keep(&mut columns, own)?;
+            let mut columns = Vec::new(alloc);
+            keep(&mut columns, String::from_str(alloc, case.column.as_str())?)?;
+            keep(&mut used, String::from_str(alloc, case.column.as_str())?)?;
             if let Some(others) = after {
                 keep(&mut columns, others)?;
             }
-            let before = format!(in self.alloc; "type ColumnsFrom{name} = ")?;
+            let params = generics.of_alias(alloc, &[], used.as_slice())?;
+            let before = format!(in alloc; "type {prefix}ColumnsFrom{name}{params} = ")?;
             self.lines
                 .add_tuple("", before.as_str(), columns.as_slice(), ";")?;
             self.lines.add("")?;
-            after = Some(format!(in self.alloc; "ColumnsFrom{name}")?);
+            let args = generics.to_alias(alloc, &[], used.as_slice())?;
+            after = Some(format!(in alloc; "{prefix}ColumnsFrom{name}{args}")?);
         }
+        let params = generics.of_alias(alloc, &[], used.as_slice())?;
         match after {
-            Some(name) => self
-                .lines
-                .put(format!(in self.alloc; "type Parts = Variants<{name}>;\n")),
+            Some(name) => self.lines.put(format!(in alloc;
+                "type {prefix}Parts{params} = Variants<{name}>;\n"
+            )),
             None => Ok(()),
         }
     }
 
     // Adds a type alias for the tuple of fields of each variant with several fields.
     fn add_kinds(&mut self, head: &str, name: &str, before: &str) -> Result<(), AllocError> {
-        let angles = if before.is_empty() { "" } else { "<'x>" };
+        let mut first = Vec::new(self.alloc);
+        if !before.is_empty() {
+            keep(&mut first, String::from_str(self.alloc, "'x")?)?;
+        }
         let mut begun = false;
         for case in &self.cases {
             if case.kinds.len() < 2 {
@@ -417,7 +205,13 @@ pub type {own}Container = ContainerOf<{own}>;
                 begun = true;
             }
             let kinds = each(self.alloc, case.kinds.as_slice(), before, "")?;
-            let line = format!(in self.alloc; "type {name}{}{angles} = ", case.name)?;
+            let params = self
+                .generics
+                .of_alias(self.alloc, first.as_slice(), kinds.as_slice())?;
+            let line = format!(in self.alloc;
+                "type {}{name}{}{params} = ",
+                self.prefix, case.name
+            )?;
             self.lines
                 .add_tuple("", line.as_str(), kinds.as_slice(), ";")?;
             self.lines.add("")?;
@@ -437,7 +231,7 @@ pub type {own}Container = ContainerOf<{own}>;
         let Some(last) = items.pop() else {
             return Ok(());
         };
-        let before = format!(in self.alloc; "type Rows{} = ", self.angles)?;
+        let before = format!(in self.alloc; "type {} = ", self.rows)?;
         let last = format!(in self.alloc; "Last<{last}>")?;
         self.lines.add("// What a row is read as")?;
         self.lines
@@ -449,9 +243,9 @@ pub type {own}Container = ContainerOf<{own}>;
         self.lines.put(format!(in self.alloc;
             "
 /// What stands for a value of `{}` in a column.
-#[derive(Clone, Copy, Debug)]
+#[derive({})]
 pub enum {} {{",
-            self.own, self.row
+            self.name, self.derives, self.row
         ))?;
         for case in &self.cases {
             let name = case.name.as_str();
@@ -488,7 +282,7 @@ pub enum {} {{",
         let has_all = self.cases.iter().all(|case| case.has_value());
         let names = joined(self.alloc, self.names()?.as_slice(), ", ")?;
         let rows = if has_all { "Row" } else { "Row, unit" };
-        let mut own = String::from_str(self.alloc, self.own.as_str())?;
+        let mut own = String::from_str(self.alloc, self.name.as_str())?;
         if is_row {
             own.push_str("Reference")?;
         }
@@ -510,8 +304,16 @@ pub enum {} {{",
     }
 
     fn add_items(&mut self) -> Result<(), AllocError> {
-        self.lines
-            .put(format!(in self.alloc; "impl Item for {} {{", self.own))?;
+        self.lines.add_impl(
+            &Header {
+                params: self.generics.declared(self.alloc, "")?.as_slice(),
+                trait_name: "Item",
+                of: &[],
+                own: self.own.as_str(),
+                after: "",
+            },
+            self.generics.bounds.as_slice(),
+        )?;
         self.add_item(false)?;
         let params = each(self.alloc, self.params.as_slice(), "", ": Item")?;
         self.lines.add_header(&Header {
@@ -524,21 +326,34 @@ pub enum {} {{",
         self.add_item(true)
     }
 
+    // Returns the parameters of the enum, each type with one more bound unless it is empty, and then those of its row with
+    // these bounds.
+    fn all_params(&self, more: &str, bounds: &str) -> Result<Vec<String>, AllocError> {
+        let mut all = self.generics.declared(self.alloc, more)?;
+        for param in &self.params {
+            keep(&mut all, format!(in self.alloc; "{param}{bounds}")?)?;
+        }
+        Ok(all)
+    }
+
     // Adds the impl that makes rows, variant by variant.
     fn add_made_rows(&mut self) -> Result<(), AllocError> {
-        let params = each(self.alloc, self.params.as_slice(), "", ": Item")?;
-        self.lines.add_header(&Header {
-            params: params.as_slice(),
-            trait_name: "MakeRow",
-            of: &[format!(in self.alloc; "Rows{}", self.angles)?],
-            own: self.own.as_str(),
-            after: " {",
-        })?;
+        let params = self.all_params("", ": Item")?;
+        self.lines.add_impl(
+            &Header {
+                params: params.as_slice(),
+                trait_name: "MakeRow",
+                of: &[String::from_str(self.alloc, self.rows.as_str())?],
+                own: self.own.as_str(),
+                after: "",
+            },
+            self.generics.bounds.as_slice(),
+        )?;
         self.lines.put(format!(in self.alloc;
             "    type Row = {};
 
-    fn make_row(row: Rows{}) -> Self::Row {{",
-            self.row, self.angles
+    fn make_row(row: {}) -> Self::Row {{",
+            self.row, self.rows
         ))?;
         let count = self.cases.len();
         for (i, case) in self.cases.iter().enumerate() {
@@ -575,19 +390,74 @@ pub enum {} {{",
         }
         self.add_kinds("// What they are made of, lent", "LentOf", "&'x ")?;
         self.lines.add("// A value, lent")?;
-        let before = format!(in self.alloc; "type Lent<'x> = {}<", self.row_name)?;
+        let before = format!(in self.alloc; "type {}Lent<'x> = {}<", self.prefix, self.row_name)?;
         self.lines
             .add_list("", before.as_str(), lent.as_slice(), ">;", WIDTH)?;
         self.lines.add("")
     }
 
+    // Adds the impl that pushes a value of a generic enum, by the references to its fields.
+    fn add_pushed_refs(&mut self) -> Result<(), AllocError> {
+        self.add_kinds("// What they are made of, lent", "LentOf", "&'x ")?;
+        let alloc = self.alloc;
+        let mut items = Vec::new(alloc);
+        for case in &self.cases {
+            keep(&mut items, case.refs(alloc)?)?;
+        }
+        let lifetime = &[String::from_str(alloc, "'x")?];
+        let params = self.generics.of_alias(alloc, lifetime, items.as_slice())?;
+        let elided = &[String::from_str(alloc, "'_")?];
+        let args = self.generics.to_alias(alloc, elided, items.as_slice())?;
+        self.lines.add("// A value as the row that is pushed")?;
+        let before = format!(in alloc; "type {}LentRows{params} = ", self.prefix)?;
+        let last = match items.pop() {
+            Some(last) => format!(in alloc; "Last<{last}>")?,
+            None => return Ok(()),
+        };
+        self.lines
+            .add_nest(before.as_str(), items.as_slice(), last.as_str())?;
+        self.lines.add("")?;
+        let bounds = self.generics.pushes(alloc)?;
+        self.lines.add_impl(
+            &Header {
+                params: self.generics.declared(alloc, "")?.as_slice(),
+                trait_name: "PushParts",
+                of: &[
+                    String::from_str(alloc, self.parts.as_str())?,
+                    String::from_str(alloc, self.own.as_str())?,
+                ],
+                own: self.own.as_str(),
+                after: "",
+            },
+            bounds.as_slice(),
+        )?;
+        self.lines.put(format!(in alloc;
+            "    fn push_parts(&self, parts: &mut {}) -> Result<(), GrowError> {{
+        match self {{",
+            self.parts
+        ))?;
+        let push = format!(in alloc; "push_into_variants::<{}LentRows{args}, _>", self.prefix)?;
+        let count = self.cases.len();
+        for (number, case) in self.cases.iter().enumerate() {
+            let is_last = number.saturating_add(1) == count;
+            let own = self.name.as_str();
+            case.add_push_of_refs(alloc, &mut self.lines, own, number, is_last, push.as_str())?;
+        }
+        self.lines.add("        }\n    }\n}\n")
+    }
+
     // Adds the impls that push a value, as the row of its lent fields.
     fn add_pushed_values(&mut self) -> Result<(), AllocError> {
+        if !self.generics.is_none() {
+            return self.add_pushed_refs();
+        }
         self.add_lent_type()?;
         let own = self.own.as_str();
         let row_name = self.row_name.as_str();
         let has_value = self.cases.iter().any(|case| case.has_value());
-        let lent = if has_value { "Lent<'x>" } else { row_name };
+        let lent = format!(in self.alloc; "{}Lent<'x>", self.prefix)?;
+        let lent = if has_value { lent.as_str() } else { row_name };
+        let parts = self.parts.as_str();
         self.lines.put(format!(in self.alloc;
             "impl<'x> LendRow<'x> for {own} {{
     type Lent = {lent};
@@ -603,9 +473,9 @@ pub enum {} {{",
     }}
 }}
 
-impl PushParts<Parts, {own}> for {own} {{
-    fn push_parts(&self, parts: &mut Parts) -> Result<(), GrowError> {{
-        self.push_lent::<Parts, {own}>(parts)
+impl PushParts<{parts}, {own}> for {own} {{
+    fn push_parts(&self, parts: &mut {parts}) -> Result<(), GrowError> {{
+        self.push_lent::<{parts}, {own}>(parts)
     }}
 }}
 "
@@ -614,23 +484,27 @@ impl PushParts<Parts, {own}> for {own} {{
 
     // Adds the impl that pushes rows.
     fn add_pushed_rows(&mut self) -> Result<(), AllocError> {
-        let mut params = each(self.alloc, self.params.as_slice(), "", ": Copy + Item")?;
-        let pushes = format!(in self.alloc; "P: Push<Rows{}>", self.angles)?;
+        let mut params = self.all_params("", ": Copy + Item")?;
+        let columns = self.generics.fresh(self.alloc, "P")?;
+        let pushes = format!(in self.alloc; "{columns}: Push<{}>", self.rows)?;
         keep(&mut params, pushes)?;
-        self.lines.add_header(&Header {
-            params: params.as_slice(),
-            trait_name: "PushParts",
-            of: &[
-                String::from_str(self.alloc, "P")?,
-                String::from_str(self.alloc, self.own.as_str())?,
-            ],
-            own: self.row.as_str(),
-            after: " {",
-        })?;
-        self.lines.add(
-            "    fn push_parts(&self, parts: &mut P) -> Result<(), GrowError> {
-        match *self {",
+        self.lines.add_impl(
+            &Header {
+                params: params.as_slice(),
+                trait_name: "PushParts",
+                of: &[
+                    String::from_str(self.alloc, columns.as_str())?,
+                    String::from_str(self.alloc, self.own.as_str())?,
+                ],
+                own: self.row.as_str(),
+                after: "",
+            },
+            self.generics.bounds.as_slice(),
         )?;
+        self.lines.put(format!(in self.alloc;
+            "    fn push_parts(&self, parts: &mut {columns}) -> Result<(), GrowError> {{
+        match *self {{"
+        ))?;
         let row_name = self.row_name.as_str();
         let count = self.cases.len();
         for (number, case) in self.cases.iter().enumerate() {
@@ -658,6 +532,7 @@ impl PushParts<Parts, {own}> for {own} {{
             self.alloc,
             &mut self.lines,
             self.own.as_str(),
+            self.generics,
             names.as_slice(),
         )
     }
@@ -683,6 +558,7 @@ impl PushParts<Parts, {own}> for {own} {{
         for _ in 0..begun {
             unfit.push(')')?;
         }
+        let parts = self.parts.as_str();
         let imports = if self.params.is_empty() {
             unfit.push_str("false")?;
             "    ghost use Rattle.std.specs.Prelude.{false};"
@@ -692,38 +568,47 @@ impl PushParts<Parts, {own}> for {own} {{
             "    ghost use Rattle.std.specs.Prelude.{◌||◌};
     ghost use Rattle.columnar.specs.Variants.{of_variant};"
         };
+        self.lines.add_impl(
+            &Header {
+                params: self.generics.declared(self.alloc, "")?.as_slice(),
+                trait_name: "Columnar",
+                of: &[],
+                own,
+                after: "",
+            },
+            self.generics.bounds.as_slice(),
+        )?;
         self.lines.put(format!(in self.alloc;
-            "impl Columnar for {own} {{
-{imports}
+            "{imports}
 
     ghost unfit = {{ λ u r. {unfit} }};
 
-    type Container = OwnRows<Parts, {own}>;
+    type Container = OwnRows<{parts}, {own}>;
 }}
 "
         ))
     }
 
-    // Adds the bounds: the value of each variant can be made from a row.
-    fn add_bounds(&mut self) -> Result<(), AllocError> {
-        if self.params.is_empty() {
-            return Ok(());
+    // Returns the bounds: the value of each variant can be made from a row.
+    fn from_bounds(&self) -> Result<Vec<String>, AllocError> {
+        let mut bounds = self.generics.where_bounds(self.alloc)?;
+        for case in self.cases.iter().filter(|case| case.has_value()) {
+            let (kind, param) = (case.kind.as_str(), case.param.as_str());
+            let bound = if self.generics.is_none() {
+                format!(in self.alloc; "{kind}: FromRow<{param}>")?
+            } else {
+                format!(in self.alloc; "{param}: IntoValue<{kind}>")?
+            };
+            keep(&mut bounds, bound)?;
         }
-        self.lines.add("where")?;
-        for case in &self.cases {
-            if case.has_value() {
-                self.lines.put(format!(in self.alloc;
-                    "    {}: FromRow<{}>,",
-                    case.kind, case.param
-                ))?;
-            }
-        }
-        self.lines.add("{")
+        Ok(bounds)
     }
 
     // Adds the beginning of the function that makes values from rows.
     fn add_from_row(&mut self) -> Result<(), AllocError> {
-        let row = format!(in self.alloc; "OwnRow<Rows{}, {}>", self.angles, self.own)?;
+        let bounds = self.from_bounds()?;
+        let params = self.all_params("Drop", ": Item")?;
+        let row = format!(in self.alloc; "OwnRow<{}, {}>", self.rows, self.own)?;
         let mut of = Vec::new(self.alloc);
         let alloc = if self.params.is_empty() {
             "_alloc"
@@ -732,15 +617,16 @@ impl PushParts<Parts, {own}> for {own} {{
         };
         keep(&mut of, format!(in self.alloc; "{alloc}: Global")?)?;
         keep(&mut of, format!(in self.alloc; "row: {row}")?)?;
-        let params = each(self.alloc, self.params.as_slice(), "", ": Item")?;
-        self.lines.add_header(&Header {
-            params: params.as_slice(),
-            trait_name: "FromRow",
-            of: &[row],
-            own: self.own.as_str(),
-            after: if self.params.is_empty() { " {" } else { "" },
-        })?;
-        self.add_bounds()?;
+        self.lines.add_impl(
+            &Header {
+                params: params.as_slice(),
+                trait_name: "FromRow",
+                of: &[row],
+                own: self.own.as_str(),
+                after: "",
+            },
+            bounds.as_slice(),
+        )?;
         self.lines.add_list(
             "    ",
             "fn from_row(",
@@ -754,11 +640,104 @@ impl PushParts<Parts, {own}> for {own} {{
     fn add_values_of_rows(&mut self) -> Result<(), AllocError> {
         self.add_from_row()?;
         self.lines.add("        match row.show() {")?;
-        let own = self.own.as_str();
+        let is_generic = !self.generics.is_none();
+        let own = self.name.as_str();
         let row_name = self.row_name.as_str();
         for case in &self.cases {
-            case.add_value_made(self.alloc, &mut self.lines, own, row_name)?;
+            case.add_value_made(self.alloc, &mut self.lines, own, row_name, is_generic)?;
         }
         self.lines.add("        }\n    }\n}")
+    }
+
+    // Adds the places of the variants, and the columns of their values in a view.
+    fn add_places(&mut self) -> Result<(), AllocError> {
+        let params = self.view_params()?;
+        self.lines.add("\n// The places of the variants")?;
+        let prefix = self.prefix.as_str();
+        let mut before: Option<&str> = None;
+        for case in &self.cases {
+            let name = case.name.as_str();
+            let place = match before {
+                None => String::from_str(self.alloc, "Zero")?,
+                Some(before) => format!(in self.alloc; "Next<{prefix}At{before}>")?,
+            };
+            let alias = format!(in self.alloc; "type {prefix}At{name} =")?;
+            let place = format!(in self.alloc; "columnar::sums::variants::{place};\n")?;
+            self.lines.add_alias(alias.as_str(), place.as_str())?;
+            before = Some(name);
+        }
+        let list = joined(self.alloc, params.as_slice(), ", ")?;
+        let before = format!(in self.alloc; "type {prefix}ViewsOfValues<{list}> = ")?;
+        self.lines.add("// A view: that of the values of each variant, and those of the variants")?;
+        self.lines.add_pairs(before.as_str(), params.as_slice())?;
+        self.lines.add("")?;
+        let before = format!(in self.alloc; "type {prefix}ViewOfAll<'x, {list}> = Variants<")?;
+        let parts = [
+            format!(in self.alloc; "{prefix}ViewsOfValues<{list}>")?,
+            String::from_str(self.alloc, "&'x [u8]")?,
+            String::from_str(self.alloc, "columnar::common::View<'x, u64>")?,
+        ];
+        self.lines
+            .add_list("", before.as_str(), parts.as_slice(), ">;", WIDTH)
+    }
+
+    // Returns a type parameter for each variant.
+    fn view_params(&self) -> Result<Vec<String>, AllocError> {
+        let taken = self.names()?;
+        self.generics
+            .letters(self.alloc, self.cases.len(), taken.as_slice())
+    }
+
+    // Returns the parts of a view: the values of each variant.
+    fn views(&self) -> Result<Vec<View>, AllocError> {
+        let mut views = Vec::new(self.alloc);
+        for (i, case) in self.cases.iter().enumerate() {
+            let name = case.name.as_str();
+            let view = View {
+                method: method_name(self.alloc, name)?,
+                told: format!(in self.alloc; "the values of `{name}`")?,
+                rows: format!(in self.alloc; "of_case {i}")?,
+                value: format!(in self.alloc;
+                    "values_at::<{}At{name}, _, _, _>(self.parts)",
+                    self.prefix
+                )?,
+            };
+            match views.push(view) {
+                Ok(()) => {}
+                Err(error) => return Err(AllocError::from(error)),
+            }
+        }
+        Ok(views)
+    }
+
+    // Adds the trait that names the values of the variants of a view.
+    fn add_views(&mut self) -> Result<(), AllocError> {
+        let parts = self.views()?;
+        let params = self.view_params()?;
+        let name = self.name.as_str();
+        let told = format!(in self.alloc;
+            "The values of each variant of `{name}` in a view, by name."
+        )?;
+        let list = joined(self.alloc, params.as_slice(), ", ")?;
+        let of = format!(in self.alloc;
+            "OwnRows<{}ViewOfAll<'x, {list}>, {}>",
+            self.prefix, self.own
+        )?;
+        let mut others = Vec::new(self.alloc);
+        keep(&mut others, String::from_str(self.alloc, "'x")?)?;
+        for param in self.generics.declared(self.alloc, "")? {
+            keep(&mut others, param)?;
+        }
+        let views = Views {
+            own: name,
+            told: told.as_str(),
+            imports: "Rattle.columnar.specs.Variants.{of_case}",
+            params: params.as_slice(),
+            others: others.as_slice(),
+            bounds: self.generics.bounds.as_slice(),
+            of: of.as_str(),
+            parts: parts.as_slice(),
+        };
+        views.add(self.alloc, &mut self.lines)
     }
 }

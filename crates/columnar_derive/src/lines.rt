@@ -25,7 +25,7 @@ pub struct Header<'x> {
     pub of: &'x [String],
     /// The type.
     pub own: &'x str,
-    /// The text that follows on the same line.
+    /// The text that follows on the same line, unless bounds follow.
     pub after: &'x str,
 }
 
@@ -147,6 +147,22 @@ fn nested(alloc: Global, items: &[String], from: usize, last: &str) -> Result<St
     Ok(text)
 }
 
+// Returns the nested pairs of the items from `from` on, on one line.
+fn paired(alloc: Global, items: &[String], from: usize) -> Result<String, AllocError> {
+    let mut text = String::new(alloc);
+    for (i, item) in items.iter().enumerate().skip(from) {
+        let is_last = i.saturating_add(1) == items.len();
+        write!(text, "({item},")?;
+        if !is_last {
+            text.push(' ')?;
+        }
+    }
+    for _ in items.iter().skip(from) {
+        text.push(')')?;
+    }
+    Ok(text)
+}
+
 // Returns the number of characters of a text.
 fn width(text: &str) -> usize {
     text.chars().count()
@@ -214,6 +230,36 @@ impl Lines {
         self.put(format!(in self.alloc; "{indent}{after}"))
     }
 
+    /// Adds the import of names from a path; if one line cannot hold them, they share lines.
+    pub fn add_import(&mut self, path: &str, names: &[String]) -> Result<(), AllocError> {
+        let list = joined(self.alloc, names, ", ")?;
+        let line = format!(in self.alloc; "use {path}::{{{list}}};")?;
+        if fits(line.as_str()) {
+            return self.add(line.as_str());
+        }
+        self.put(format!(in self.alloc; "use {path}::{{"))?;
+        self.add_filled("   ", names)?;
+        self.add("};")
+    }
+
+    // Adds items, each with a comma after it, which share lines. The first line begins with `begun`, whose length and one
+    // is the indent of the others.
+    fn add_filled(&mut self, begun: &str, items: &[String]) -> Result<(), AllocError> {
+        let mut line = String::from_str(self.alloc, begun)?;
+        for (i, item) in items.iter().enumerate() {
+            // A space follows each comma but the last.
+            let after = usize::from(i.saturating_add(1) < items.len());
+            let longer = format!(in self.alloc; "{line} {item},")?;
+            if width(longer.as_str()).saturating_add(after) <= WIDTH {
+                line = longer;
+            } else {
+                self.add(line.as_str())?;
+                line = format!(in self.alloc; "{begun} {item},")?;
+            }
+        }
+        self.add(line.as_str())
+    }
+
     /// Adds the tuple of values between two texts, like `add_list`; short values share lines.
     pub fn add_values(
         &mut self,
@@ -222,26 +268,33 @@ impl Lines {
         values: &[String],
         after: &str,
     ) -> Result<(), AllocError> {
-        let list = joined(self.alloc, values, ", ")?;
-        let are_short = values.iter().all(|value| width(value.as_str()) <= SHORT);
-        if width(list.as_str()) <= ITEMS || !are_short {
+        if values.len() == 1 {
             return self.add_tuple(indent, before, values, after);
         }
-        self.put(format!(in self.alloc; "{indent}{before}("))?;
-        let mut line = format!(in self.alloc; "{indent}   ")?;
-        for (i, value) in values.iter().enumerate() {
-            // A space follows each comma but the last.
-            let after = usize::from(i.saturating_add(1) < values.len());
-            let longer = format!(in self.alloc; "{line} {value},")?;
-            if width(longer.as_str()).saturating_add(after) <= WIDTH {
-                line = longer;
-            } else {
-                self.add(line.as_str())?;
-                line = format!(in self.alloc; "{indent}    {value},")?;
-            }
+        let before = format!(in self.alloc; "{before}(")?;
+        let after = format!(in self.alloc; "){after}")?;
+        self.add_arguments(indent, before.as_str(), values, after.as_str())
+    }
+
+    /// Adds values between two texts, such as `f(` and `)`, like `add_list`; short values share lines.
+    pub fn add_arguments(
+        &mut self,
+        indent: &str,
+        before: &str,
+        values: &[String],
+        after: &str,
+    ) -> Result<(), AllocError> {
+        let list = joined(self.alloc, values, ", ")?;
+        let line = format!(in self.alloc; "{indent}{before}{list}{after}")?;
+        let fits_one = width(list.as_str()) <= ITEMS && fits(line.as_str());
+        let are_short = values.iter().all(|value| width(value.as_str()) <= SHORT);
+        if fits_one || !are_short {
+            return self.add_list(indent, before, values, after, ITEMS);
         }
-        self.add(line.as_str())?;
-        self.put(format!(in self.alloc; "{indent}){after}"))
+        self.put(format!(in self.alloc; "{indent}{before}"))?;
+        let begun = format!(in self.alloc; "{indent}   ")?;
+        self.add_filled(begun.as_str(), values)?;
+        self.put(format!(in self.alloc; "{indent}{after}"))
     }
 
     /// Adds a tuple between two texts, like `add_list`.
@@ -312,6 +365,37 @@ impl Lines {
         self.end_nest(items.len())
     }
 
+    /// Adds `before`, nested pairs of the items, and a semicolon: the first item and the pairs of the others, down to a
+    /// tuple of the last.
+    pub fn add_pairs(&mut self, before: &str, items: &[String]) -> Result<(), AllocError> {
+        let mut begun = String::from_str(self.alloc, before)?;
+        let mut indent = String::new(self.alloc);
+        let mut depth = 0usize;
+        for (i, item) in items.iter().enumerate() {
+            let pairs = paired(self.alloc, items, i)?;
+            let after = if i == 0 { ";" } else { "," };
+            let line = format!(in self.alloc; "{indent}{begun}{pairs}{after}")?;
+            if fits(line.as_str()) {
+                self.add(line.as_str())?;
+                break;
+            }
+            self.put(format!(in self.alloc;
+                "{indent}{begun}(
+    {indent}{item},"
+            ))?;
+            begun = String::new(self.alloc);
+            indent.push_str("    ")?;
+            depth = depth.saturating_add(1);
+        }
+        for left in (0..depth).rev() {
+            for _ in 0..left {
+                self.text.push_str("    ")?;
+            }
+            self.add(if left == 0 { ");" } else { ")," })?;
+        }
+        Ok(())
+    }
+
     // Adds the ends of `depth` nests, the innermost first.
     fn end_nest(&mut self, depth: usize) -> Result<(), AllocError> {
         for left in (0..depth).rev() {
@@ -372,6 +456,22 @@ impl Lines {
         ))
     }
 
+    /// Adds the alias of the column of a type of this name, which has these parameters.
+    pub fn add_container(&mut self, name: &str, params: &str, own: &str) -> Result<(), AllocError> {
+        let before = format!(in self.alloc; "pub type {name}Container{params} = ContainerOf<")?;
+        let of = [String::from_str(self.alloc, own)?];
+        self.add_list("", before.as_str(), of.as_slice(), ">;\n", WIDTH)
+    }
+
+    /// Adds an alias: on one line, or with the type on a line of its own.
+    pub fn add_alias(&mut self, alias: &str, kind: &str) -> Result<(), AllocError> {
+        let line = format!(in self.alloc; "{alias} {kind}")?;
+        if fits(line.as_str().trim_end()) {
+            return self.add(line.as_str());
+        }
+        self.put(format!(in self.alloc; "{alias}\n    {kind}"))
+    }
+
     /// Adds the header of an impl.
     pub fn add_header(&mut self, header: &Header<'_>) -> Result<(), AllocError> {
         let trait_name = header.trait_name;
@@ -391,6 +491,19 @@ impl Lines {
         self.add_items("", header.params)?;
         let begun = format!(in self.alloc; "> {trait_name}{of}")?;
         self.add_target(begun.as_str(), header)
+    }
+
+    /// Adds the header of an impl with these bounds, and its opening brace.
+    pub fn add_impl(&mut self, header: &Header<'_>, bounds: &[String]) -> Result<(), AllocError> {
+        let after = if bounds.is_empty() { " {" } else { "" };
+        let header = Header { after, ..*header };
+        self.add_header(&header)?;
+        if bounds.is_empty() {
+            return Ok(());
+        }
+        self.add("where")?;
+        self.add_items("", bounds)?;
+        self.add("{")
     }
 
     // Adds the beginning of a header, and the type: on the same line if it holds both.

@@ -1,9 +1,13 @@
 //! Writes the code that makes your own struct or enum the rows of a column:
-//! `columnar_derive FILE NAME [CRATE::MODULE]`.
+//! `columnar_derive FILE NAME.. [CRATE::MODULE]`.
 #![tactic(auto)]
 
+mod attributes;
+mod cases;
 mod cli;
 mod enums;
+mod generics;
+mod head;
 mod item;
 mod lines;
 mod names;
@@ -12,6 +16,7 @@ mod place;
 mod printer;
 mod structs;
 mod tokens;
+mod views;
 
 use std::env;
 use std::process::ExitCode;

@@ -1,5 +1,6 @@
-//! The code that names the parts: the fields of a struct, or the variants of an enum.
-use crate::lines::Lines;
+//! The names of parts: of the fields of a struct, or of the variants of an enum.
+use crate::generics::Generics;
+use crate::lines::{Header, Lines};
 use std::alloc::{AllocError, Global};
 
 /// Adds the impl that names the parts of a type, in order.
@@ -7,11 +8,21 @@ pub fn add_names(
     alloc: Global,
     lines: &mut Lines,
     own: &str,
+    generics: &Generics,
     names: &[String],
 ) -> Result<(), AllocError> {
+    lines.add_impl(
+        &Header {
+            params: generics.declared(alloc, "")?.as_slice(),
+            trait_name: "PartNames",
+            of: &[],
+            own,
+            after: "",
+        },
+        generics.bounds.as_slice(),
+    )?;
     let begun = format!(in alloc;
-        "impl PartNames for {own} {{
-    fn part_name(index: usize) -> &'static str {{
+        "    fn part_name(index: usize) -> &'static str {{
         match index {{"
     )?;
     lines.add(begun.as_str())?;
@@ -21,4 +32,94 @@ pub fn add_names(
         lines.add(line.as_str())?;
     }
     lines.add("            _ => \"\",\n        }\n    }\n}\n")
+}
+
+// Returns whether the language reserves a name.
+fn is_reserved(name: &str) -> bool {
+    matches!(
+        name,
+        "abstract"
+            | "as"
+            | "async"
+            | "await"
+            | "become"
+            | "box"
+            | "break"
+            | "const"
+            | "continue"
+            | "crate"
+            | "deriving"
+            | "do"
+            | "dyn"
+            | "else"
+            | "ensures"
+            | "enum"
+            | "extern"
+            | "false"
+            | "final"
+            | "fn"
+            | "for"
+            | "gen"
+            | "ghost"
+            | "if"
+            | "impl"
+            | "in"
+            | "let"
+            | "loop"
+            | "macro"
+            | "match"
+            | "mod"
+            | "move"
+            | "mut"
+            | "override"
+            | "priv"
+            | "pub"
+            | "ref"
+            | "requires"
+            | "return"
+            | "self"
+            | "static"
+            | "struct"
+            | "super"
+            | "trait"
+            | "true"
+            | "try"
+            | "type"
+            | "typeof"
+            | "unsafe"
+            | "unsized"
+            | "use"
+            | "virtual"
+            | "where"
+            | "while"
+            | "yield"
+    )
+}
+
+// Returns whether a word of a name begins at character `i`: an upper-case letter after a lower-case one or a digit, or
+// before a lower-case one.
+fn begins_word(name: &str, i: usize, c: char) -> bool {
+    if i == 0 || !c.is_ascii_uppercase() {
+        return false;
+    }
+    let before = name.chars().nth(i.saturating_sub(1)).unwrap_or('_');
+    let after = name.chars().nth(i.saturating_add(1)).unwrap_or('_');
+    let follows = before.is_ascii_lowercase() || before.is_ascii_digit();
+    follows || (before.is_ascii_uppercase() && after.is_ascii_lowercase())
+}
+
+/// Returns the name of the method for a variant: its words in lower case, with `_` between them, and with `_` after a
+/// name that the language reserves.
+pub fn method_name(alloc: Global, variant: &str) -> Result<String, AllocError> {
+    let mut name = String::new(alloc);
+    for (i, c) in variant.chars().enumerate() {
+        if begins_word(variant, i, c) {
+            name.push('_')?;
+        }
+        name.push(c.to_ascii_lowercase())?;
+    }
+    if is_reserved(name.as_str()) {
+        name.push('_')?;
+    }
+    Ok(name)
 }

@@ -1,6 +1,9 @@
 //! A reader that finds a struct or enum by its name in the tokens of a file.
-use crate::item::{Body, Description, Field, Unread, Value, Variant, Why};
-use crate::tokens::{Kind, Token};
+use crate::attributes::{Attributes, may_derive, needs};
+use crate::generics::{Generics, Parameter};
+use crate::item::{Body, Description, Field, Owner, Unread, Value, Variant, Why};
+use crate::names::method_name;
+use crate::tokens::{Kind, Token, tokens_of};
 use std::alloc::{AllocError, Global};
 
 const MOST_FIELDS: usize = 10;
@@ -13,20 +16,24 @@ const MOST_VARIANTS: usize = 256;
 /// Out of memory, or the line that is refused, and the reason.
 pub fn described(alloc: Global, tokens: &[Token], name: &str) -> Result<Description, Unread> {
     let mut depth = 0usize;
+    // Where the attributes of the next item begin
+    let mut begun: Option<usize> = None;
     for (at, token) in tokens.iter().enumerate() {
         match &token.kind {
             Kind::Mark('{' | '(' | '[') => depth = depth.saturating_add(1),
             Kind::Mark('}' | ')' | ']') => depth = depth.saturating_sub(1),
-            Kind::Word(word) => {
-                if depth == 0 && is_named(tokens, at, name) {
+            Kind::Mark('#') if depth == 0 => begun = begun.or(Some(at)),
+            Kind::Word(word) if depth == 0 => {
+                if is_named(tokens, at, name) {
                     let mut reader = Reader {
                         alloc,
                         tokens,
-                        at: at.saturating_add(2),
+                        at: begun.unwrap_or(at),
                     };
-                    let body = reader.body(word.as_str())?;
-                    let name = String::from_str(alloc, name)?;
-                    return Ok(Description { name, body });
+                    return reader.description(word.as_str(), at, name);
+                }
+                if word.as_str() != "pub" {
+                    begun = None;
                 }
             }
             _ => {}
@@ -95,6 +102,10 @@ impl<'t> Reader<'t> {
         }
     }
 
+    fn is_at_one(&self, marks: &[char]) -> bool {
+        marks.iter().any(|mark| self.is_at(*mark))
+    }
+
     fn is_at_word(&self, word: &str) -> bool {
         match self.peek() {
             Some(Kind::Word(other)) => other.as_str() == word,
@@ -142,47 +153,251 @@ impl<'t> Reader<'t> {
         }
     }
 
-    // Reads what follows the name. `word` comes before the name.
-    fn body(&mut self, word: &str) -> Result<Body, Unread> {
+    // Reads the attributes and what follows the name. `word` stands at `begun`, before the name.
+    fn description(&mut self, word: &str, begun: usize, name: &str) -> Result<Description, Unread> {
+        let Attributes { named, .. } = self.attributes(Owner::Type, word == "enum")?;
+        self.at = begun.saturating_add(2);
         if word == "union" {
             return Err(self.refused(Why::Union));
         }
-        if self.is_at('<') {
-            return Err(self.refused(Why::Parameters));
-        }
-        if self.is_at_word("where") {
-            return Err(self.refused(Why::Where));
-        }
-        if word == "enum" {
-            self.expect('{')?;
-            return Ok(Body::Variants(self.variants()?));
-        }
-        if self.is_at('(') {
-            return Err(self.refused(Why::TupleStruct));
-        }
-        if self.is_at(';') {
-            return Err(self.refused(Why::NoFields));
-        }
-        self.expect('{')?;
-        Ok(Body::Fields(self.fields()?))
+        let mut generics = self.generics()?;
+        let body = self.body(word, &mut generics)?;
+        let name = String::from_str(self.alloc, name)?;
+        Ok(Description {
+            name,
+            derives: named,
+            generics,
+            body,
+        })
     }
 
-    // Skips attributes, and then `pub` with its parentheses.
-    fn pass_over(&mut self) -> Result<(), Unread> {
+    // Reads what follows the parameters, and the where clause. `word` comes before the name.
+    fn body(&mut self, word: &str, generics: &mut Generics) -> Result<Body, Unread> {
+        self.where_clause(generics)?;
+        if word == "enum" {
+            self.expect('{')?;
+            return Ok(Body::Enum(self.variants()?));
+        }
+        if self.eat(';') {
+            return Ok(Body::Struct(Value::Nothing));
+        }
+        if self.is_at('(') {
+            let value = self.value()?;
+            self.where_clause(generics)?;
+            self.expect(';')?;
+            return Ok(Body::Struct(value));
+        }
+        self.expect('{')?;
+        Ok(Body::Struct(Value::Fields(self.fields()?)))
+    }
+
+    // Reads the parameters in `<` and `>`, if there are any.
+    fn generics(&mut self) -> Result<Generics, Unread> {
+        let mut generics = Generics::none(self.alloc);
+        if !self.eat('<') {
+            return Ok(generics);
+        }
+        for _ in 0..self.tokens.len() {
+            if self.is_at('>') {
+                break;
+            }
+            let param = self.parameter()?;
+            if generics.has(param.name.as_str()) {
+                return Err(self.refused(Why::Parameter));
+            }
+            add(&mut generics.params, param)?;
+            if !self.eat(',') {
+                break;
+            }
+        }
+        self.expect('>')?;
+        Ok(generics)
+    }
+
+    // Reads a parameter with its bounds or its type.
+    fn parameter(&mut self) -> Result<Parameter, Unread> {
+        if matches!(self.peek(), Some(Kind::Lifetime)) {
+            return Err(self.refused(Why::Lifetime));
+        }
+        let is_const = self.is_at_word("const");
+        if is_const {
+            self.next();
+        }
+        let name = self.name()?;
+        let mut bounds = Vec::new(self.alloc);
+        let mut kind = None;
+        if is_const {
+            self.expect(':')?;
+            kind = Some(self.kind_to(&['>', '='])?);
+        } else if self.eat(':') {
+            bounds = self.bounds(&['>', '='])?;
+        }
+        if self.is_at('=') {
+            return Err(self.refused(Why::Default));
+        }
+        Ok(Parameter { name, bounds, kind })
+    }
+
+    // Reads bounds with `+` between them, up to a comma or one of the ends.
+    fn bounds(&mut self, ends: &[char]) -> Result<Vec<String>, Unread> {
+        let mut bounds = Vec::new(self.alloc);
+        for _ in 0..self.tokens.len() {
+            if self.is_at(',') || self.is_at_one(ends) {
+                break;
+            }
+            let bound = match self.kind_to(&['+', '>', '=', '{', ';']) {
+                Ok(bound) => bound,
+                Err(Unread::Refused(line, Why::Type)) => {
+                    return Err(Unread::Refused(line, Why::Bound));
+                }
+                Err(error) => return Err(error),
+            };
+            add(&mut bounds, bound)?;
+            if !self.eat('+') {
+                break;
+            }
+        }
+        Ok(bounds)
+    }
+
+    // Reads a where clause, if there is one. Bounds of a parameter become its own.
+    fn where_clause(&mut self, generics: &mut Generics) -> Result<(), Unread> {
+        if !self.is_at_word("where") {
+            return Ok(());
+        }
+        self.next();
+        for _ in 0..self.tokens.len() {
+            if self.is_at_one(&['{', ';']) {
+                break;
+            }
+            let kind = self.kind_to(&[':'])?;
+            self.expect(':')?;
+            for bound in self.bounds(&['{', ';'])? {
+                generics.bind(self.alloc, kind.as_str(), bound)?;
+            }
+            if !self.eat(',') {
+                break;
+            }
+        }
+        Ok(())
+    }
+
+    // Reads attributes. Skips those of other programs.
+    fn attributes(&mut self, owner: Owner, is_enum: bool) -> Result<Attributes, Unread> {
+        let mut all = Attributes::none(self.alloc);
         for _ in 0..self.tokens.len() {
             if !self.eat('#') {
                 break;
             }
+            let _inner = self.eat('!');
             self.expect('[')?;
-            self.to_end_of('[', ']');
+            if self.is_at_word("columnar") {
+                self.next();
+                self.expect('(')?;
+                self.words(owner, is_enum, &mut all)?;
+                self.expect(']')?;
+            } else {
+                self.to_end_of('[', ']');
+            }
         }
+        Ok(all)
+    }
+
+    // Reads the words of an attribute, and the parenthesis that closes them.
+    fn words(&mut self, owner: Owner, is_enum: bool, all: &mut Attributes) -> Result<(), Unread> {
+        for _ in 0..self.tokens.len() {
+            if self.is_at(')') {
+                break;
+            }
+            if owner == Owner::Type && self.is_at_word("derive") {
+                self.next();
+                self.expect('(')?;
+                self.derives(is_enum, all)?;
+            } else if owner == Owner::Field && self.is_at_word("column") {
+                if all.column.is_some() {
+                    return Err(self.refused(Why::ColumnTwice));
+                }
+                self.next();
+                self.expect('=')?;
+                all.column = Some(self.column()?);
+            } else {
+                return Err(self.refused(Why::Attribute(owner)));
+            }
+            if !self.eat(',') {
+                break;
+            }
+        }
+        self.expect(')')
+    }
+
+    // Reads the names of derives, and the parenthesis that closes them.
+    fn derives(&mut self, is_enum: bool, all: &mut Attributes) -> Result<(), Unread> {
+        let line = self.line();
+        for _ in 0..self.tokens.len() {
+            if self.is_at(')') {
+                break;
+            }
+            let word = match self.peek() {
+                Some(Kind::Word(word)) if may_derive(word.as_str()) => word.as_str(),
+                _ => return Err(self.refused(Why::Derive)),
+            };
+            if is_enum && word == "Default" {
+                return Err(self.refused(Why::DefaultOfEnum));
+            }
+            if all.has_derive(word) {
+                return Err(self.refused(Why::DeriveTwice));
+            }
+            add(&mut all.named, String::from_str(self.alloc, word)?)?;
+            self.next();
+            if !self.eat(',') {
+                break;
+            }
+        }
+        self.expect(')')?;
+        match needs(all) {
+            Some((one, other)) => Err(Unread::Refused(line, Why::DeriveNeeds(one, other))),
+            None => Ok(()),
+        }
+    }
+
+    // Reads the type in a text.
+    fn column(&mut self) -> Result<String, Unread> {
+        let refused = self.refused(Why::Column);
+        let tokens = match self.peek() {
+            Some(Kind::Literal(text)) => match tokens_of(self.alloc, text.as_str()) {
+                Ok(tokens) => tokens,
+                Err(Unread::Memory) => return Err(Unread::Memory),
+                Err(_) => return Err(refused),
+            },
+            _ => return Err(refused),
+        };
+        let mut inner = Reader {
+            alloc: self.alloc,
+            tokens: tokens.as_slice(),
+            at: 0,
+        };
+        let kind = match inner.kind(')') {
+            Ok(kind) => kind,
+            Err(Unread::Memory) => return Err(Unread::Memory),
+            Err(_) => return Err(refused),
+        };
+        if inner.at < tokens.len() {
+            return Err(refused);
+        }
+        self.next();
+        Ok(kind)
+    }
+
+    // Reads attributes, and skips `pub` with its parentheses.
+    fn pass_over(&mut self, owner: Owner) -> Result<Attributes, Unread> {
+        let all = self.attributes(owner, false)?;
         if self.is_at_word("pub") {
             self.next();
             if self.eat('(') {
                 self.to_end_of('(', ')');
             }
         }
-        Ok(())
+        Ok(all)
     }
 
     // Skips all tokens up to the mark that closes the open bracket.
@@ -205,7 +420,7 @@ impl<'t> Reader<'t> {
     fn fields(&mut self) -> Result<Vec<Field>, Unread> {
         let mut fields = Vec::new(self.alloc);
         for _ in 0..self.tokens.len() {
-            self.pass_over()?;
+            let Attributes { column, .. } = self.pass_over(Owner::Field)?;
             if self.is_at('}') {
                 break;
             }
@@ -218,7 +433,7 @@ impl<'t> Reader<'t> {
             let name = self.name()?;
             self.expect(':')?;
             let kind = self.kind('}')?;
-            add(&mut fields, Field { name, kind })?;
+            add(&mut fields, Field { name, kind, column })?;
             if !self.eat(',') {
                 break;
             }
@@ -239,11 +454,11 @@ impl<'t> Reader<'t> {
         self.is_at_word("ghost") && after
     }
 
-    // Reads types without names, and the parenthesis that closes them.
-    fn types(&mut self) -> Result<Vec<String>, Unread> {
+    // Reads fields without names, and the parenthesis that closes them.
+    fn types(&mut self) -> Result<Vec<Field>, Unread> {
         let mut types = Vec::new(self.alloc);
-        for _ in 0..self.tokens.len() {
-            self.pass_over()?;
+        for i in 0..self.tokens.len() {
+            let Attributes { column, .. } = self.pass_over(Owner::Field)?;
             if self.is_at(')') {
                 break;
             }
@@ -251,7 +466,8 @@ impl<'t> Reader<'t> {
                 return Err(self.refused(Why::TooManyFields));
             }
             let kind = self.kind(')')?;
-            add(&mut types, kind)?;
+            let name = format!(in self.alloc; "{i}")?;
+            add(&mut types, Field { name, kind, column })?;
             if !self.eat(',') {
                 break;
             }
@@ -263,14 +479,18 @@ impl<'t> Reader<'t> {
     fn variants(&mut self) -> Result<Vec<Variant>, Unread> {
         let mut variants = Vec::new(self.alloc);
         for _ in 0..self.tokens.len() {
-            self.pass_over()?;
+            let _none = self.pass_over(Owner::Variant)?;
             if self.is_at('}') {
                 break;
             }
             if variants.len() == MOST_VARIANTS {
                 return Err(self.refused(Why::TooManyVariants));
             }
+            let line = self.line();
             let name = self.name()?;
+            if self.is_method_of(variants.as_slice(), name.as_str())? {
+                return Err(Unread::Refused(line, Why::SameMethod));
+            }
             let value = self.value()?;
             if self.is_at('=') {
                 return Err(self.refused(Why::Discriminant));
@@ -287,7 +507,19 @@ impl<'t> Reader<'t> {
         Ok(variants)
     }
 
-    // Reads the fields of a variant, if any; refuses empty braces and parentheses.
+    // Returns whether the method of a variant of this name is that of one of these variants.
+    fn is_method_of(&self, variants: &[Variant], name: &str) -> Result<bool, AllocError> {
+        let method = method_name(self.alloc, name)?;
+        for variant in variants {
+            let other = method_name(self.alloc, variant.name.as_str())?;
+            if other.as_str() == method.as_str() {
+                return Ok(true);
+            }
+        }
+        Ok(false)
+    }
+
+    // Reads the fields of a variant or of a struct without names, if any; refuses empty braces and parentheses.
     fn value(&mut self) -> Result<Value, Unread> {
         if self.eat('(') {
             let types = self.types()?;
@@ -304,9 +536,24 @@ impl<'t> Reader<'t> {
 
     // Reads a type as written, up to a comma or `end`.
     fn kind(&mut self, end: char) -> Result<String, Unread> {
+        self.kind_to(&[end])
+    }
+
+    // Returns whether a mark ends a type. Two colons do not.
+    fn is_at_end(&self, ends: &[char]) -> bool {
+        let colons = self.is_at(':')
+            && match self.tokens.get(self.at.saturating_add(1)) {
+                Some(token) => matches!(&token.kind, Kind::Mark(':')),
+                None => false,
+            };
+        self.is_at(',') || (self.is_at_one(ends) && !colons)
+    }
+
+    // Reads a type as written, up to a comma or one of the ends.
+    fn kind_to(&mut self, ends: &[char]) -> Result<String, Unread> {
         let mut text = TypeText::new(self.alloc);
         for _ in 0..self.tokens.len() {
-            if text.is_whole() && (self.is_at(',') || self.is_at(end)) {
+            if text.is_whole() && self.is_at_end(ends) {
                 break;
             }
             let taken = match self.peek() {
@@ -317,7 +564,7 @@ impl<'t> Reader<'t> {
                 }
                 Some(Kind::Mark(mark)) => text.mark(*mark)?,
                 Some(Kind::Lifetime) => return Err(self.refused(Why::Lifetime)),
-                Some(Kind::Literal) => false,
+                Some(Kind::Literal(_)) => false,
                 None => break,
             };
             if !taken {

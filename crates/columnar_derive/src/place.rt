@@ -10,7 +10,7 @@ pub fn declared_in(alloc: Global, path: &str) -> Result<Option<String>, AllocErr
         match &mut place {
             Some(text) => {
                 let module = part.strip_suffix(".rt").unwrap_or(part);
-                if module != "lib" && module != "main" {
+                if !is_root(module) {
                     text.push('.')?;
                     text.push_str(module)?;
                 }
@@ -27,10 +27,14 @@ pub fn declared_in(alloc: Global, path: &str) -> Result<Option<String>, AllocErr
     Ok(place)
 }
 
-/// Returns the same path for the items of a module, such as `examples::shape`.
+/// Returns the same path for the items of a module, such as `examples::shape`. `examples::main` and `examples::lib` are
+/// the root of the crate.
 pub fn declared_by(alloc: Global, module: &str) -> Result<String, AllocError> {
     let mut place = String::from_str(alloc, "Rattle")?;
     for (i, part) in module.split("::").enumerate() {
+        if i > 0 && is_root(part) {
+            continue;
+        }
         place.push('.')?;
         place.push_str(part)?;
         if i == 0 {
@@ -38,4 +42,9 @@ pub fn declared_by(alloc: Global, module: &str) -> Result<String, AllocError> {
         }
     }
     Ok(place)
+}
+
+// Returns whether this is the name of a crate's root file.
+fn is_root(module: &str) -> bool {
+    module == "lib" || module == "main"
 }

@@ -1,25 +1,57 @@
-//! The code that makes a struct or an enum the rows of a column.
+//! The code that makes structs and enums the rows of columns.
 use crate::enums::EnumPage;
-use crate::item::{Body, Description};
+use crate::head::{Kinds, add_head};
+use crate::item::{Body, Description, Value};
+use crate::lines::{Lines, keep};
 use crate::structs::Page;
 use std::alloc::{AllocError, Global};
 
-/// Returns the code for a struct or an enum. For an enum, `place` is the path under which clauses name the items of its
-/// file; without it, returns `None`.
+/// Returns the code for structs and enums, in order. `place` is the path under which clauses name the items of their
+/// file; if it is `None` and one of the types is an enum, returns `None`.
+///
+/// If there are several types, the name of each begins the names of its aliases.
 pub fn printed(
     alloc: Global,
-    description: &Description,
+    types: &[Description],
     place: Option<&str>,
 ) -> Result<Option<String>, AllocError> {
-    let own = description.name.as_str();
-    match &description.body {
-        Body::Fields(fields) => Ok(Some(Page::new(alloc, own, fields.as_slice())?.printed()?)),
-        Body::Variants(variants) => match place {
-            Some(place) => {
-                let page = EnumPage::new(alloc, own, variants.as_slice(), place)?;
-                Ok(Some(page.printed()?))
+    let mut lines = Lines::new(alloc);
+    head(alloc, &mut lines, types)?;
+    for one in types {
+        let prefix = if types.len() > 1 {
+            one.name.as_str()
+        } else {
+            ""
+        };
+        let text = match &one.body {
+            Body::Struct(value) => Page::new(alloc, prefix, one, value)?.printed()?,
+            Body::Enum(variants) => {
+                let Some(place) = place else {
+                    return Ok(None);
+                };
+                EnumPage::new(alloc, prefix, one, variants.as_slice(), place)?.printed()?
             }
-            None => Ok(None),
-        },
+        };
+        lines.add("")?;
+        lines.add(text.as_str().trim_end())?;
     }
+    Ok(Some(lines.into_text()))
+}
+
+// Adds the head of the file of these types.
+fn head(alloc: Global, lines: &mut Lines, types: &[Description]) -> Result<(), AllocError> {
+    let mut names = Vec::new(alloc);
+    let mut of = Kinds::default();
+    for one in types {
+        keep(&mut names, String::from_str(alloc, one.name.as_str())?)?;
+        let is_generic = !one.generics.is_none();
+        match &one.body {
+            Body::Enum(_) if is_generic => of.has_generic_enum = true,
+            Body::Enum(_) => of.has_enum = true,
+            Body::Struct(Value::Nothing) => {}
+            Body::Struct(_) if is_generic => of.has_generic_struct = true,
+            Body::Struct(_) => of.has_struct = true,
+        }
+    }
+    add_head(alloc, lines, names.as_slice(), of)
 }

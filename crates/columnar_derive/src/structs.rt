@@ -1,17 +1,43 @@
 //! The code for a struct.
-use crate::item::Field;
-use crate::lines::{Header, Lines, WIDTH, each, in_clause, in_tuple, joined, keep, parameter};
+use crate::attributes::derived;
+use crate::generics::Generics;
+use crate::item::{Description, Field, Value};
+use crate::lines::{Header, Lines, WIDTH, each, in_angles, in_clause, in_tuple, keep};
 use crate::names::add_names;
+use crate::views::{View, Views};
 use std::alloc::{AllocError, Global};
+
+// How the fields of a struct are written.
+#[derive(Clone, Copy, Debug, PartialEq, Eq)]
+enum Style {
+    Unit,
+    Numbered,
+    Named,
+}
 
 /// The code for a struct, and the names in it.
 #[derive(Drop)]
-pub struct Page {
+pub struct Page<'x> {
     alloc: Global,
     lines: Lines,
-    // The name of the struct, and the type of its rows.
+    style: Style,
+    generics: &'x Generics,
+    // The name of the struct, the struct with its parameters, the name of the struct of its rows, and that with its
+    // parameters.
+    name: String,
     own: String,
+    row_name: String,
     row: String,
+    // What the struct of the rows derives.
+    derives: String,
+    // Begins the names of aliases; empty if the file has one type.
+    prefix: String,
+    // The alias of the tuple of the fields, or of `()`.
+    parts: String,
+    // The column of the parts, and the column of each field, if an attribute names one.
+    container: String,
+    columns: Vec<String>,
+    // The names or the numbers of the fields, and their types.
     fields: Vec<String>,
     kinds: Vec<String>,
     // A type parameter for each field, and their tuple.
@@ -19,24 +45,53 @@ pub struct Page {
     tuple: String,
 }
 
-impl Page {
-    /// Makes a page without code for a struct of this name.
-    pub fn new(alloc: Global, own: &str, fields: &[Field]) -> Result<Page, AllocError> {
+impl<'x> Page<'x> {
+    /// Makes a page without code for a struct with this value. `prefix` begins the names of aliases.
+    pub fn new(
+        alloc: Global,
+        prefix: &str,
+        description: &'x Description,
+        value: &Value,
+    ) -> Result<Page<'x>, AllocError> {
+        let name = description.name.as_str();
+        let generics = &description.generics;
         let mut names = Vec::new(alloc);
         let mut kinds = Vec::new(alloc);
-        let mut params = Vec::new(alloc);
-        for (i, field) in fields.iter().enumerate() {
+        let (style, fields) = match value {
+            Value::Nothing => (Style::Unit, &[] as &[Field]),
+            Value::Types(fields) => (Style::Numbered, fields.as_slice()),
+            Value::Fields(fields) => (Style::Named, fields.as_slice()),
+        };
+        for field in fields {
             keep(&mut names, String::from_str(alloc, field.name.as_str())?)?;
             keep(&mut kinds, String::from_str(alloc, field.kind.as_str())?)?;
-            keep(&mut params, parameter(alloc, i)?)?;
         }
-        let list = joined(alloc, params.as_slice(), ", ")?;
+        let params = generics.letters(alloc, fields.len(), &[])?;
+        let given = in_angles(alloc, generics.names(alloc)?.as_slice())?;
+        let used = generics.to_alias(alloc, &[], kinds.as_slice())?;
+        let parts = format!(in alloc; "{prefix}Parts{used}")?;
+        let columns = columns_of(alloc, fields)?;
+        let used = generics.to_alias(alloc, &[], columns.as_slice())?;
+        let angles = in_angles(alloc, params.as_slice())?;
         let tuple = in_tuple(alloc, params.as_slice())?;
         Ok(Page {
             alloc,
             lines: Lines::new(alloc),
-            own: String::from_str(alloc, own)?,
-            row: format!(in alloc; "{own}Reference<{list}>")?,
+            style,
+            generics,
+            name: String::from_str(alloc, name)?,
+            own: format!(in alloc; "{name}{given}")?,
+            row_name: format!(in alloc; "{name}Reference")?,
+            row: format!(in alloc; "{name}Reference{angles}")?,
+            derives: derived(alloc, description.derives.as_slice())?,
+            container: if columns.is_empty() {
+                format!(in alloc; "ContainerOf<{parts}>")?
+            } else {
+                format!(in alloc; "{prefix}PartColumns{used}")?
+            },
+            prefix: String::from_str(alloc, prefix)?,
+            columns,
+            parts,
             fields: names,
             kinds,
             params,
@@ -48,71 +103,105 @@ impl Page {
     pub fn printed(self) -> Result<String, AllocError> {
         let mut page = self;
         page.add_head()?;
+        page.add_row()?;
         page.add_items()?;
         page.add_made_rows()?;
-        page.add_pushes()?;
+        page.add_pushed_values()?;
+        page.add_pushed_rows()?;
         page.add_names()?;
         page.add_owned()?;
+        page.add_values_of_rows()?;
+        page.add_views()?;
         let Page { lines, .. } = page;
         Ok(lines.into_text())
     }
 
-    // Adds the head of the file: the column, and the struct of the rows.
+    // Adds the column, and the tuple of the fields.
     fn add_head(&mut self) -> Result<(), AllocError> {
+        let (alloc, name) = (self.alloc, self.name.as_str());
+        let generics = self.generics;
         let own = self.own.as_str();
-        let row = self.row.as_str();
-        let head = format!(in self.alloc;
-            "//! Rows of `{own}`, as `columnar_derive` writes them.
-use super::*;
-use columnar::fault::{{GrowError, OwnError}};
-use columnar::names::PartNames;
-use columnar::{{Columnar, ContainerOf, FromRow, Item, MakeRow, OwnRow, OwnRows, Push, PushParts}};
-use std::alloc::Global;
-
-/// A column of values of `{own}`.
-pub type {own}Container = ContainerOf<{own}>;
-
-// The fields, in their order"
-        )?;
-        let row = format!(in self.alloc;
-            "
-/// What stands for a value of `{own}` in a column.
-#[derive(Clone, Copy, Debug)]
-pub struct {row} {{"
-        )?;
-        self.lines.add(head.as_str())?;
-        let kinds = self.kinds.as_slice();
-        self.lines.add_tuple("", "type Parts = ", kinds, ";")?;
-        self.lines.add(row.as_str())?;
-        for (name, param) in self.fields.iter().zip(self.params.iter()) {
-            self.lines
-                .put(format!(in self.alloc; "    pub {name}: {param},"))?;
+        let params = generics.of_alias(alloc, &[], generics.names(alloc)?.as_slice())?;
+        self.lines
+            .put(format!(in alloc; "/// A column of values of `{name}`."))?;
+        self.lines.add_container(name, params.as_str(), own)?;
+        self.lines.add("// The fields, in their order")?;
+        let params = generics.of_alias(alloc, &[], self.kinds.as_slice())?;
+        let before = format!(in alloc; "type {}Parts{params} = ", self.prefix)?;
+        self.lines
+            .add_tuple("", before.as_str(), self.kinds.as_slice(), ";")?;
+        if self.columns.is_empty() {
+            return Ok(());
         }
-        self.lines.add("}\n")
+        self.lines.add("\n// Their columns")?;
+        let params = generics.of_alias(alloc, &[], self.columns.as_slice())?;
+        let before = format!(in alloc; "type {}PartColumns{params} = ", self.prefix)?;
+        self.lines
+            .add_tuple("", before.as_str(), self.columns.as_slice(), ";")
+    }
+
+    // Adds the struct of the rows.
+    fn add_row(&mut self) -> Result<(), AllocError> {
+        let row = self.row.as_str();
+        self.lines.put(format!(in self.alloc;
+            "
+/// What stands for a value of `{}` in a column.
+#[derive({})]",
+            self.name, self.derives
+        ))?;
+        match self.style {
+            Style::Unit => self
+                .lines
+                .put(format!(in self.alloc; "pub struct {row};\n")),
+            Style::Numbered => {
+                let before = format!(in self.alloc; "pub struct {row}(")?;
+                let items = each(self.alloc, self.params.as_slice(), "pub ", "")?;
+                self.lines
+                    .add_list("", before.as_str(), items.as_slice(), ");\n", WIDTH)
+            }
+            Style::Named => {
+                self.lines
+                    .put(format!(in self.alloc; "pub struct {row} {{"))?;
+                for (name, param) in self.fields.iter().zip(self.params.iter()) {
+                    self.lines
+                        .put(format!(in self.alloc; "    pub {name}: {param},"))?;
+                }
+                self.lines.add("}\n")
+            }
+        }
+    }
+
+    // Returns the tuple of the fields of `e`, in the syntax of clauses.
+    fn tuple_in_clause(&self) -> Result<String, AllocError> {
+        if self.style == Style::Unit {
+            return String::from_str(self.alloc, "tt");
+        }
+        let fields = each(self.alloc, self.fields.as_slice(), "e.", "")?;
+        in_clause(self.alloc, fields.as_slice())
     }
 
     // Adds the meaning of values and rows: that of the tuple of their fields.
     fn add_items(&mut self) -> Result<(), AllocError> {
-        let own = self.own.as_str();
+        let fields = self.tuple_in_clause()?;
+        let parts = self.parts.as_str();
         let tuple = self.tuple.as_str();
-        let fields = each(self.alloc, self.fields.as_slice(), "e.", "")?;
-        let fields = in_clause(self.alloc, fields.as_slice())?;
-        let of_values = format!(in self.alloc;
-            "impl Item for {own} {{
-    ghost meaning = {{ λ e. ⟦<Parts as Item>⟧.meaning {fields} }};
+        self.lines.add_impl(
+            &Header {
+                params: self.generics.declared(self.alloc, "")?.as_slice(),
+                trait_name: "Item",
+                of: &[],
+                own: self.own.as_str(),
+                after: "",
+            },
+            self.generics.bounds.as_slice(),
+        )?;
+        self.lines.put(format!(in self.alloc;
+            "    ghost meaning = {{ λ e. ⟦<{parts} as Item>⟧.meaning {fields} }};
 
-    ghost valid = {{ λ e. ⟦<Parts as Item>⟧.valid {fields} }};
+    ghost valid = {{ λ e. ⟦<{parts} as Item>⟧.valid {fields} }};
 }}
 "
-        )?;
-        let of_rows = format!(in self.alloc;
-            "    ghost meaning = {{ λ e. ⟦<{tuple} as Item>⟧.meaning {fields} }};
-
-    ghost valid = {{ λ e. ⟦<{tuple} as Item>⟧.valid {fields} }};
-}}
-"
-        )?;
-        self.lines.add(of_values.as_str())?;
+        ))?;
         let params = each(self.alloc, self.params.as_slice(), "", ": Item")?;
         self.lines.add_header(&Header {
             params: params.as_slice(),
@@ -121,22 +210,44 @@ pub struct {row} {{"
             own: self.row.as_str(),
             after: " {",
         })?;
-        self.lines.add(of_rows.as_str())
+        self.lines.put(format!(in self.alloc;
+            "    ghost meaning = {{ λ e. ⟦<{tuple} as Item>⟧.meaning {fields} }};
+
+    ghost valid = {{ λ e. ⟦<{tuple} as Item>⟧.valid {fields} }};
+}}
+"
+        ))
     }
 
-    // Adds a literal of the struct or of its row, with these values of the fields.
+    // Adds a value of the struct or of its row, with these values of the fields.
     fn add_struct(
         &mut self,
         before: &str,
+        name: &str,
         values: &[String],
         after: &str,
     ) -> Result<(), AllocError> {
-        let mut items = Vec::new(self.alloc);
-        for (name, value) in self.fields.iter().zip(values.iter()) {
-            keep(&mut items, format!(in self.alloc; "{name}: {value}")?)?;
+        let indent = "        ";
+        match self.style {
+            Style::Unit => self
+                .lines
+                .put(format!(in self.alloc; "{indent}{before}{name}{after}")),
+            Style::Numbered => {
+                let before = format!(in self.alloc; "{before}{name}(")?;
+                let after = format!(in self.alloc; "){after}")?;
+                self.lines
+                    .add_arguments(indent, before.as_str(), values, after.as_str())
+            }
+            Style::Named => {
+                let mut items = Vec::new(self.alloc);
+                for (name, value) in self.fields.iter().zip(values.iter()) {
+                    keep(&mut items, format!(in self.alloc; "{name}: {value}")?)?;
+                }
+                let before = format!(in self.alloc; "{before}{name} ")?;
+                self.lines
+                    .add_braces(indent, before.as_str(), items.as_slice(), after)
+            }
         }
-        self.lines
-            .add_braces("        ", before, items.as_slice(), after)
     }
 
     // Returns the parts of a tuple, by number.
@@ -148,60 +259,103 @@ pub struct {row} {{"
         Ok(parts)
     }
 
+    // Returns the parameters of the struct, and then those of its row with these bounds.
+    fn all_params(&self, bounds: &str) -> Result<Vec<String>, AllocError> {
+        let mut all = self.generics.declared(self.alloc, "")?;
+        for param in &self.params {
+            keep(&mut all, format!(in self.alloc; "{param}{bounds}")?)?;
+        }
+        Ok(all)
+    }
+
     // Adds the impl that makes a row from the rows of the parts.
     fn add_made_rows(&mut self) -> Result<(), AllocError> {
-        let params = each(self.alloc, self.params.as_slice(), "", ": Item")?;
-        self.lines.add_header(&Header {
-            params: params.as_slice(),
-            trait_name: "MakeRow",
-            of: &[String::from_str(self.alloc, self.tuple.as_str())?],
-            own: self.own.as_str(),
-            after: " {",
-        })?;
-        let own = self.own.as_str();
-        let tuple = self.tuple.as_str();
-        let row = self.row.as_str();
-        let begun = format!(in self.alloc;
-            "    type Row = {row};
-
-    fn make_row(row: {tuple}) -> Self::Row {{"
+        let params = self.all_params(": Item")?;
+        self.lines.add_impl(
+            &Header {
+                params: params.as_slice(),
+                trait_name: "MakeRow",
+                of: &[String::from_str(self.alloc, self.tuple.as_str())?],
+                own: self.own.as_str(),
+                after: "",
+            },
+            self.generics.bounds.as_slice(),
         )?;
-        let name = format!(in self.alloc; "{own}Reference ")?;
-        self.lines.add(begun.as_str())?;
+        let unused = if self.style == Style::Unit { "_" } else { "" };
+        self.lines.put(format!(in self.alloc;
+            "    type Row = {};
+
+    fn make_row({unused}row: {}) -> Self::Row {{",
+            self.row, self.tuple
+        ))?;
+        let name = String::from_str(self.alloc, self.row_name.as_str())?;
         let parts = self.parts_of("row")?;
-        self.add_struct(name.as_str(), parts.as_slice(), "")?;
+        self.add_struct("", name.as_str(), parts.as_slice(), "")?;
         self.lines.add("    }\n}\n")
     }
 
-    // Adds the impls that push values and rows.
-    fn add_pushes(&mut self) -> Result<(), AllocError> {
-        let own = self.own.as_str();
-        let tuple = self.tuple.as_str();
-        self.lines.put(format!(in self.alloc;
-            "impl PushParts<ContainerOf<Parts>, {own}> for {own} {{
-    fn push_parts(&self, parts: &mut ContainerOf<Parts>) -> Result<(), GrowError> {{"
-        ))?;
-        let lent = each(self.alloc, self.fields.as_slice(), "&self.", "")?;
+    // Adds a push of the fields, each after `before`.
+    fn add_push(&mut self, before: &str) -> Result<(), AllocError> {
+        let fields = each(self.alloc, self.fields.as_slice(), before, "")?;
         self.lines
-            .add_values("        ", "parts.push(", lent.as_slice(), ")")?;
-        self.lines.add("    }\n}\n")?;
-        let mut params = each(self.alloc, self.params.as_slice(), "", ": Copy + Item")?;
-        keep(&mut params, format!(in self.alloc; "P: Push<{tuple}>")?)?;
-        self.lines.add_header(&Header {
-            params: params.as_slice(),
-            trait_name: "PushParts",
-            of: &[
-                String::from_str(self.alloc, "P")?,
-                String::from_str(self.alloc, own)?,
-            ],
-            own: self.row.as_str(),
-            after: " {",
-        })?;
-        self.lines.add("    fn push_parts(&self, parts: &mut P) -> Result<(), GrowError> {")?;
-        let copied = each(self.alloc, self.fields.as_slice(), "self.", "")?;
-        self.lines
-            .add_values("        ", "parts.push(", copied.as_slice(), ")")?;
+            .add_values("        ", "parts.push(", fields.as_slice(), ")")?;
         self.lines.add("    }\n}\n")
+    }
+
+    // Adds the impl that pushes values.
+    fn add_pushed_values(&mut self) -> Result<(), AllocError> {
+        let bounds = self.generics.pushes(self.alloc)?;
+        self.lines.add_impl(
+            &Header {
+                params: self.generics.declared(self.alloc, "")?.as_slice(),
+                trait_name: "PushParts",
+                of: &[
+                    String::from_str(self.alloc, self.container.as_str())?,
+                    String::from_str(self.alloc, self.own.as_str())?,
+                ],
+                own: self.own.as_str(),
+                after: "",
+            },
+            bounds.as_slice(),
+        )?;
+        self.lines.put(format!(in self.alloc;
+            "    fn push_parts(&self, parts: &mut {}) -> Result<(), GrowError> {{",
+            self.container
+        ))?;
+        if self.generics.is_none() {
+            return self.add_push("&self.");
+        }
+        let fields = each(self.alloc, self.fields.as_slice(), "&self.", "")?;
+        self.lines.add_values("        ", "let fields = ByRefs(", fields.as_slice(), ");")?;
+        self.lines
+            .add("        fields.push_into(parts)\n    }\n}\n")
+    }
+
+    // Adds the impl that pushes rows.
+    fn add_pushed_rows(&mut self) -> Result<(), AllocError> {
+        let mut params = self.all_params(": Copy + Item")?;
+        let columns = self.generics.fresh(self.alloc, "P")?;
+        keep(
+            &mut params,
+            format!(in self.alloc; "{columns}: Push<{}>", self.tuple)?,
+        )?;
+        self.lines.add_impl(
+            &Header {
+                params: params.as_slice(),
+                trait_name: "PushParts",
+                of: &[
+                    String::from_str(self.alloc, columns.as_str())?,
+                    String::from_str(self.alloc, self.own.as_str())?,
+                ],
+                own: self.row.as_str(),
+                after: "",
+            },
+            self.generics.bounds.as_slice(),
+        )?;
+        self.lines.put(format!(in self.alloc;
+            "    fn push_parts(&self, parts: &mut {columns}) -> Result<(), GrowError> {{"
+        ))?;
+        self.add_push("self.")
     }
 
     // Adds the names of the fields.
@@ -210,35 +364,182 @@ pub struct {row} {{"
             self.alloc,
             &mut self.lines,
             self.own.as_str(),
+            self.generics,
             self.fields.as_slice(),
         )
     }
 
-    // Adds the column of the values, and the impl that makes a value from a row.
+    // Adds the column of the values.
     fn add_owned(&mut self) -> Result<(), AllocError> {
-        let own = self.own.as_str();
-        let tuple = self.tuple.as_str();
-        let columnar = format!(in self.alloc;
-            "impl Columnar for {own} {{
-    ghost unfit = {{ ⟦<Parts as Columnar>⟧.unfit }};
+        self.lines.add_impl(
+            &Header {
+                params: self.generics.declared(self.alloc, "")?.as_slice(),
+                trait_name: "Columnar",
+                of: &[],
+                own: self.own.as_str(),
+                after: "",
+            },
+            self.generics.bounds.as_slice(),
+        )?;
+        self.lines.put(format!(in self.alloc;
+            "    ghost unfit = {{ ⟦<{} as Columnar>⟧.unfit }};
 
-    type Container = OwnRows<ContainerOf<Parts>, {own}>;
+    type Container = OwnRows<{}, {}>;
 }}
-"
+",
+            self.parts, self.container, self.own
+        ))
+    }
+
+    // Adds the impl that makes a value from a row.
+    fn add_values_of_rows(&mut self) -> Result<(), AllocError> {
+        let row = self.generics.fresh(self.alloc, "R")?;
+        let mut params = self.generics.declared(self.alloc, "Drop")?;
+        keep(&mut params, format!(in self.alloc; "{row}: Item")?)?;
+        let mut bounds = self.generics.where_bounds(self.alloc)?;
+        let is_generic = !self.generics.is_none();
+        let parts = self.parts.as_str();
+        let own = self.own.as_str();
+        let bound = if is_generic {
+            format!(in self.alloc; "{row}: IntoValue<{parts}>")?
+        } else {
+            format!(in self.alloc; "{parts}: FromRow<{row}>")?
+        };
+        keep(&mut bounds, bound)?;
+        self.lines.add_impl(
+            &Header {
+                params: params.as_slice(),
+                trait_name: "FromRow",
+                of: &[format!(in self.alloc; "OwnRow<{row}, {own}>")?],
+                own,
+                after: "",
+            },
+            bounds.as_slice(),
         )?;
-        let from_row = format!(in self.alloc;
-            "impl<R: Item> FromRow<OwnRow<R, {own}>> for {own}
-where
-    Parts: FromRow<R>,
-{{
-    fn from_row(alloc: Global, row: OwnRow<R, {own}>) -> Result<Self, OwnError> {{
-        let parts = Parts::from_row(alloc, row.parts)?;"
+        let made = if self.style == Style::Unit {
+            "_parts"
+        } else {
+            "parts"
+        };
+        let of = [
+            String::from_str(self.alloc, "alloc: Global")?,
+            format!(in self.alloc; "row: OwnRow<{row}, {own}>")?,
+        ];
+        self.lines.add_list(
+            "    ",
+            "fn from_row(",
+            of.as_slice(),
+            ") -> Result<Self, OwnError> {",
+            WIDTH,
         )?;
-        self.lines.add(columnar.as_str())?;
-        self.lines.add(from_row.as_str())?;
-        let made = format!(in self.alloc; "Ok({} ", self.own)?;
+        if is_generic {
+            self.lines.put(format!(in self.alloc;
+                "        let {made}: {parts} = row.parts.into_value(alloc)?;"
+            ))?;
+        } else {
+            self.lines.put(format!(in self.alloc;
+                "        let {made} = {parts}::from_row(alloc, row.parts)?;"
+            ))?;
+        }
+        let name = String::from_str(self.alloc, self.name.as_str())?;
         let parts = self.parts_of("parts")?;
-        self.add_struct(made.as_str(), parts.as_slice(), ")")?;
+        self.add_struct("Ok(", name.as_str(), parts.as_slice(), ")")?;
         self.lines.add("    }\n}")
+    }
+
+    // Returns the parts of a view: the column of each field.
+    fn views(&self) -> Result<Vec<View>, AllocError> {
+        let mut views = Vec::new(self.alloc);
+        let count = self.fields.len();
+        let function = function_of(count);
+        for (i, field) in self.fields.iter().enumerate() {
+            let is_last = i.saturating_add(1) == count;
+            let rows = if count == 1 {
+                String::from_str(self.alloc, "rows_of_only")?
+            } else if is_last {
+                format!(in self.alloc; "rows_of_last {i}")?
+            } else {
+                format!(in self.alloc; "rows_of_field {i}")?
+            };
+            let method = if self.style == Style::Named {
+                String::from_str(self.alloc, field.as_str())?
+            } else {
+                format!(in self.alloc; "field_{i}")?
+            };
+            let value = if count == 1 {
+                format!(in self.alloc; "columnar::own::{function}(self.parts)")?
+            } else {
+                format!(in self.alloc; "columnar::own::{function}(self.parts).{i}")?
+            };
+            let told = format!(in self.alloc; "the column of `{field}`")?;
+            let view = View {
+                method,
+                told,
+                rows,
+                value,
+            };
+            match views.push(view) {
+                Ok(()) => {}
+                Err(error) => return Err(AllocError::from(error)),
+            }
+        }
+        Ok(views)
+    }
+
+    // Adds the trait that names the columns of the fields of a view, if there are fields.
+    fn add_views(&mut self) -> Result<(), AllocError> {
+        if self.style == Style::Unit {
+            return Ok(());
+        }
+        let parts = self.views()?;
+        let name = self.name.as_str();
+        let told = format!(in self.alloc;
+            "The columns of the fields of `{name}` in a view, by name."
+        )?;
+        let of = format!(in self.alloc; "OwnRows<{}, {}>", self.tuple, self.own)?;
+        let others = self.generics.declared(self.alloc, "")?;
+        let imports = if self.fields.len() == 1 {
+            "Rattle.columnar.specs.Fields.{rows_of_only}"
+        } else {
+            "Rattle.columnar.specs.Fields.{rows_of_field, rows_of_last}"
+        };
+        let views = Views {
+            own: name,
+            told: told.as_str(),
+            imports,
+            params: self.params.as_slice(),
+            others: others.as_slice(),
+            bounds: self.generics.bounds.as_slice(),
+            of: of.as_str(),
+            parts: parts.as_slice(),
+        };
+        views.add(self.alloc, &mut self.lines)
+    }
+}
+
+// Returns the column of each field, if an attribute names one of them; otherwise nothing.
+fn columns_of(alloc: Global, fields: &[Field]) -> Result<Vec<String>, AllocError> {
+    let mut columns = Vec::new(alloc);
+    if fields.iter().any(|field| field.column.is_some()) {
+        for field in fields {
+            keep(&mut columns, field.container(alloc)?)?;
+        }
+    }
+    Ok(columns)
+}
+
+// Returns the function that splits a view of so many fields, from one to ten.
+fn function_of(count: usize) -> &'static str {
+    match count {
+        1 => "field_of_one",
+        2 => "fields_of_two",
+        3 => "fields_of_three",
+        4 => "fields_of_four",
+        5 => "fields_of_five",
+        6 => "fields_of_six",
+        7 => "fields_of_seven",
+        8 => "fields_of_eight",
+        9 => "fields_of_nine",
+        _ => "fields_of_ten",
     }
 }

@@ -18,11 +18,11 @@ pub enum Kind {
     /// Any other character.
     Mark(char),
     Lifetime,
-    /// A string or a character.
-    Literal,
+    /// A string as written, without its quotes; or a character, whose text is left out.
+    Literal(String),
 }
 
-/// Returns the tokens of a text, in order.
+/// Returns the tokens of a text, in order. A line comment that begins with `#[columnar(` has the tokens of its text.
 ///
 /// # Errors
 /// Out of memory, or the line on which a string or block comment without an end begins.
@@ -41,6 +41,8 @@ enum State {
     InWord,
     Slash,
     LineComment,
+    // A line comment that may be an attribute, with the number of characters that agree so far.
+    Marked(usize),
     // With the depth of nested comments.
     BlockComment(usize),
     BlockSlash(usize),
@@ -67,6 +69,9 @@ struct Tokenizer {
     begun: usize,
     state: State,
 }
+
+// The beginning of a line comment that is read.
+const MARK: &str = "#[columnar(";
 
 fn is_word(c: char) -> bool {
     c.is_alphanumeric() || c == '_'
@@ -99,8 +104,9 @@ impl Tokenizer {
     }
 
     fn end_literal(&mut self) -> Result<(), AllocError> {
+        let text = mem::replace(&mut self.word, String::new(self.alloc));
         self.state = State::Between;
-        self.add(Kind::Literal)
+        self.add(Kind::Literal(text))
     }
 
     // Begins a comment, a string or a quote.
@@ -128,11 +134,16 @@ impl Tokenizer {
                     self.state = State::Between;
                 }
             }
+            State::Marked(seen) => self.in_mark(c, seen)?,
             State::BlockComment(depth) | State::BlockSlash(depth) | State::BlockStar(depth) => {
                 self.in_block(c, depth);
             }
             State::Text => self.in_text(c)?,
-            State::TextEscape => self.state = State::Text,
+            State::TextEscape => {
+                self.word.push('\\')?;
+                self.word.push(c)?;
+                self.state = State::Text;
+            }
             State::Quote | State::QuoteOne(_) | State::QuoteEscape | State::QuoteEnd => {
                 self.in_quote(c)?;
             }
@@ -188,7 +199,7 @@ impl Tokenizer {
 
     fn after_slash(&mut self, c: char) -> Result<(), AllocError> {
         match c {
-            '/' => self.state = State::LineComment,
+            '/' => self.state = State::Marked(0),
             '*' => self.state = State::BlockComment(1),
             _ => {
                 self.state = State::Between;
@@ -197,6 +208,30 @@ impl Tokenizer {
             }
         }
         Ok(())
+    }
+
+    // In a line comment that agrees with the first `seen` characters of the mark. After the whole mark its tokens follow.
+    fn in_mark(&mut self, c: char, seen: usize) -> Result<(), AllocError> {
+        if seen == 0 && c == ' ' {
+            return Ok(());
+        }
+        if MARK.chars().nth(seen) != Some(c) {
+            self.state = if c == '\n' {
+                State::Between
+            } else {
+                State::LineComment
+            };
+            return Ok(());
+        }
+        if seen.saturating_add(1) < MARK.chars().count() {
+            self.state = State::Marked(seen.saturating_add(1));
+            return Ok(());
+        }
+        self.state = State::Between;
+        self.add(Kind::Mark('#'))?;
+        self.add(Kind::Mark('['))?;
+        self.add(Kind::Word(String::from_str(self.alloc, "columnar")?))?;
+        self.add(Kind::Mark('('))
     }
 
     fn in_block(&mut self, c: char, depth: usize) {
@@ -214,7 +249,7 @@ impl Tokenizer {
         match c {
             '"' => self.end_literal()?,
             '\\' => self.state = State::TextEscape,
-            _ => {}
+            _ => self.word.push(c)?,
         }
         Ok(())
     }
@@ -266,10 +301,20 @@ impl Tokenizer {
     fn in_raw(&mut self, c: char, hashes: usize, seen: Option<usize>) -> Result<(), AllocError> {
         match (c, seen) {
             ('"', _) if hashes == 0 => self.end_literal()?,
-            ('"', _) => self.state = State::RawEnd(hashes, 0),
+            ('"', None) => self.state = State::RawEnd(hashes, 0),
+            ('"', Some(_)) => {
+                self.word.push('"')?;
+                self.state = State::RawEnd(hashes, 0);
+            }
             ('#', Some(seen)) if seen.saturating_add(1) >= hashes => self.end_literal()?,
             ('#', Some(seen)) => self.state = State::RawEnd(hashes, seen.saturating_add(1)),
-            _ => self.state = State::RawText(hashes),
+            _ => {
+                if seen.is_some() {
+                    self.word.push('"')?;
+                }
+                self.word.push(c)?;
+                self.state = State::RawText(hashes);
+            }
         }
         Ok(())
     }
@@ -280,7 +325,7 @@ impl Tokenizer {
         match tokenizer.state {
             State::InWord | State::RawBegin(_) => tokenizer.end_word()?,
             State::Slash => tokenizer.add(Kind::Mark('/'))?,
-            State::Between | State::LineComment | State::LifetimeName => {}
+            State::Between | State::LineComment | State::Marked(_) | State::LifetimeName => {}
             _ => return Err(Unread::Refused(tokenizer.begun, Why::Unended)),
         }
         let Tokenizer { tokens, .. } = tokenizer;

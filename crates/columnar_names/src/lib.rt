@@ -7,5 +7,6 @@ pub mod names;
 pub mod plain;
 pub mod sums;
 pub mod tuple;
+pub mod units;
 pub mod variants;
 pub mod wraps;

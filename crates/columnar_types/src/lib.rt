@@ -2,6 +2,7 @@
 #![tactic(auto)]
 
 pub mod array;
+pub mod into_value;
 pub mod list;
 pub mod number;
 pub mod sum;

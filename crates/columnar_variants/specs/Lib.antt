@@ -20,6 +20,7 @@ pub mod DualCopyLaws
 pub mod DualEarlierLaws
 pub mod Nths
 pub mod NthOrders
+pub mod NthLaws
 pub mod BankLaws
 pub mod BankCases
 pub mod BankCopies

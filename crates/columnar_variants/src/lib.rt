@@ -8,5 +8,7 @@ pub mod copy;
 pub mod count;
 pub mod dual;
 pub mod fronts;
+pub mod lent;
+pub mod nth;
 pub mod run;
 pub mod variants;

@@ -7,8 +7,8 @@ use crate::hashes::rises;
 use columnar::fault::GrowError;
 use columnar::operators::{lower_bound, max_row, merge, min_row, sort_indices, take, upper_bound};
 use columnar::sums::variants::{Last, Nth};
-use columnar::{Borrow, Column, OwnRow, PushRef, Storage};
-use rows::EventContainer;
+use columnar::{Borrow, Column, Index, Len, OwnRow, PushRef, Storage};
+use rows::{EventColumns, EventContainer};
 use std::alloc::Global;
 use std::rt::HostRuntime;
 use std::test::Fail;
@@ -89,6 +89,17 @@ impl Events {
         (min_row(&view), max_row(&view))
     }
 
+    // The sum of the times, the number of rests, and the greatest reason
+    fn by_variant(&self) -> (u64, usize, Option<u32>) {
+        let view = self.column.borrow();
+        let mut sum = 0u64;
+        for time in view.start().into_index_iter() {
+            sum = sum.saturating_add(time);
+        }
+        let reason = view.stop().into_index_iter().max();
+        (sum, view.rest().len(), reason)
+    }
+
     fn reads(&self, rows: &[Row]) -> bool {
         reads(&self.column, rows)
     }
@@ -136,6 +147,13 @@ fn sorted_events_are_searched(rt: HostRuntime) -> Result<(), Fail> {
 fn least_and_greatest_events_are_found(rt: HostRuntime) -> Result<(), Fail> {
     let events = Events::of(rt.alloc(), &MIXED)?;
     holds!(rt; events.ends() == (Some(start(3)), Some(stop(1))));
+    Ok(())
+}
+
+#[test]
+fn values_of_each_variant_have_a_name(rt: HostRuntime) -> Result<(), Fail> {
+    let events = Events::of(rt.alloc(), &MIXED)?;
+    equal!(rt; events.by_variant(), (12, 2, Some(1)));
     Ok(())
 }
 

@@ -6,10 +6,16 @@ mod claims;
 #[cfg(test)]
 mod event;
 #[cfg(test)]
+mod generic;
+#[cfg(test)]
 mod hashes;
 #[cfg(test)]
 mod numbers;
 #[cfg(test)]
+mod place;
+#[cfg(test)]
 mod reading;
 #[cfg(test)]
 mod refused;
+#[cfg(test)]
+mod sample;

@@ -6,8 +6,10 @@ mod rows;
 use crate::hashes::rises;
 use columnar::fault::GrowError;
 use columnar::operators::{lower_bound, max_row, merge, min_row, sort_indices, take, upper_bound};
-use columnar::{Borrow, Column, ContainerOf, OwnRow, Push, Repeats, SameAs, SameParts, Storage};
-use rows::{ReadingContainer, ReadingReference};
+use columnar::{
+    Borrow, Column, ContainerOf, Index, OwnRow, Push, Repeats, SameAs, SameParts, Storage,
+};
+use rows::{ReadingColumns, ReadingContainer, ReadingReference};
 use std::alloc::Global;
 use std::rt::HostRuntime;
 use std::test::Fail;
@@ -68,6 +70,16 @@ impl Readings {
         Ok(Readings { column })
     }
 
+    // The greatest level, and the sum of the times
+    fn by_field(&self) -> (Option<u32>, u64) {
+        let view = self.column.borrow();
+        let mut sum = 0u64;
+        for time in view.time().into_index_iter() {
+            sum = sum.saturating_add(time);
+        }
+        (view.level().into_index_iter().max(), sum)
+    }
+
     // How many rows are less than the key, and how many are not greater
     fn bounds(&self, level: u32, time: u64) -> (usize, usize) {
         let view = self.column.borrow();
@@ -120,6 +132,13 @@ fn least_and_greatest_readings_are_found(rt: HostRuntime) -> Result<(), Fail> {
     let readings = Readings::of(rt.alloc(), &[(2, 4), (0, 8), (2, 9), (1, 0)])?;
     holds!(rt; readings.ends() == (Some(row(0, 8)), Some(row(2, 9))));
     holds!(rt; Readings::of(rt.alloc(), &[])?.ends() == (None, None));
+    Ok(())
+}
+
+#[test]
+fn columns_of_the_fields_have_names(rt: HostRuntime) -> Result<(), Fail> {
+    let readings = Readings::of(rt.alloc(), &[(2, 7), (9, 1), (2, 5)])?;
+    equal!(rt; readings.by_field(), (Some(9), 13));
     Ok(())
 }
 

@@ -63,6 +63,7 @@ fn show_shapes<O: Write>(alloc: Global, out: &mut O) -> anyhow::Result<()> {
     shapes.add(&Shape::Nothing)?;
     let opened = Shapes::open(alloc, shapes.written(alloc)?)?;
     opened.print(out)?;
+    writeln!(out, "radii: {}", opened.radii())?;
     if let Some(Ok(Shape::Square { side, at: _ })) = opened.shape(alloc, 2) {
         writeln!(out, "its side is {side}")?;
     }

@@ -7,8 +7,8 @@ mod rows;
 use columnar::bytes::stash::Stash;
 use columnar::fault::{GrowError, OwnError, StoreFault};
 use columnar::{Borrow, Column, Columnar, Index, Len, PushRef};
-use rows::ShapeContainer;
 pub use rows::ShapeReference;
+use rows::{ShapeColumns, ShapeContainer};
 use std::alloc::Global;
 use std::io::{self, Write};
 
@@ -58,6 +58,15 @@ impl Shapes {
     pub fn shape(&self, alloc: Global, index: usize) -> Option<Result<Shape, OwnError>> {
         let row = self.stash.borrow().get_checked(index)?;
         Some(Shape::into_owned(alloc, row))
+    }
+
+    /// Returns the sum of the radii; reads only the circles.
+    pub fn radii(&self) -> u64 {
+        let mut sum = 0u64;
+        for radius in self.stash.borrow().circle().into_index_iter() {
+            sum = sum.saturating_add(radius);
+        }
+        sum
     }
 
     /// Prints a line for each figure.

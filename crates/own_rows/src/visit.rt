@@ -6,10 +6,9 @@ mod rows;
 
 use columnar::bytes::stash::Stash;
 use columnar::fault::{GrowError, OwnError, StoreFault};
-use columnar::tuple::parts_of_five;
 use columnar::{Borrow, Column, Columnar, Index, Len, Push, PushRef};
-use rows::VisitContainer;
 pub use rows::VisitReference;
+use rows::{VisitColumns, VisitContainer};
 use std::alloc::Global;
 use std::io::{self, Write};
 
@@ -75,9 +74,8 @@ impl Visits {
 
     /// Returns the sum of the times; reads no other field.
     pub fn time(&self) -> u64 {
-        let (times, _, _, _, _) = parts_of_five(self.stash.borrow().parts);
         let mut sum = 0u64;
-        for time in times.into_index_iter() {
+        for time in self.stash.borrow().time().into_index_iter() {
             sum = sum.saturating_add(time);
         }
         sum

@@ -27,6 +27,8 @@ pub use columnar_variants::dual::{
     truncate_dual,
 };
 pub use columnar_variants::fronts::{count_rows, fronts, fronts_tallied};
+pub use columnar_variants::lent::{PushCaseInto, push_into_case, push_into_variants};
+pub use columnar_variants::nth::{NthColumn, values_at};
 pub use columnar_variants::run::push_variants;
 pub use columnar_variants::variants::Variants;
 pub use columnar_variants::variants::owned::ReborrowCases;

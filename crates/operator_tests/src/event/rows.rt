@@ -2,9 +2,10 @@
 use super::*;
 use columnar::fault::{GrowError, OwnError};
 use columnar::names::PartNames;
-use columnar::sums::variants::{Last, Nth, Variants};
+use columnar::sums::variants::{Last, Nth, Variants, values_at};
 use columnar::{
-    Columnar, ContainerOf, FromRow, Item, LendRow, MakeRow, OwnRow, OwnRows, Push, PushParts,
+    Column, Columnar, ContainerOf, FromRow, Item, LendRow, MakeRow, OwnRow, OwnRows, Push,
+    PushParts,
 };
 use std::alloc::Global;
 
@@ -137,5 +138,70 @@ where
                 Ok(Event::Stop(a))
             }
         }
+    }
+}
+
+// The places of the variants
+type AtStart = columnar::sums::variants::Zero;
+
+type AtRest = columnar::sums::variants::Next<AtStart>;
+
+type AtStop = columnar::sums::variants::Next<AtRest>;
+
+// A view: that of the values of each variant, and those of the variants
+type ViewsOfValues<A, B, C> = (A, (B, (C,)));
+
+type ViewOfAll<'x, A, B, C> = Variants<
+    ViewsOfValues<A, B, C>,
+    &'x [u8],
+    columnar::common::View<'x, u64>,
+>;
+
+/// The values of each variant of `Event` in a view, by name.
+pub trait EventColumns<A: Column, B: Column, C: Column>: Column {
+    ghost use Rattle.std.specs.Prelude.{◌≡◌};
+    ghost use Rattle.columnar.specs.Format.{IsSound};
+    ghost use Rattle.columnar.specs.Variants.{of_case};
+
+    /// Returns the values of `Start`.
+    ///
+    /// # Requires
+    /// A well-formed view.
+    fn start(self) -> A
+        requires { IsSound Self.format (Self.content self) }
+        ensures sound { IsSound A.format (A.content result) }
+        ensures rows { A.format.rows (A.content result) ≡ of_case 0 (Self.format.rows (Self.content self)) };
+
+    /// Returns the values of `Rest`.
+    ///
+    /// # Requires
+    /// A well-formed view.
+    fn rest(self) -> B
+        requires { IsSound Self.format (Self.content self) }
+        ensures sound { IsSound B.format (B.content result) }
+        ensures rows { B.format.rows (B.content result) ≡ of_case 1 (Self.format.rows (Self.content self)) };
+
+    /// Returns the values of `Stop`.
+    ///
+    /// # Requires
+    /// A well-formed view.
+    fn stop(self) -> C
+        requires { IsSound Self.format (Self.content self) }
+        ensures sound { IsSound C.format (C.content result) }
+        ensures rows { C.format.rows (C.content result) ≡ of_case 2 (Self.format.rows (Self.content self)) };
+}
+
+impl<'x, A: Column + Copy, B: Column + Copy, C: Column + Copy> EventColumns<A, B, C>
+    for OwnRows<ViewOfAll<'x, A, B, C>, Event> {
+    fn start(self) -> A {
+        values_at::<AtStart, _, _, _>(self.parts)
+    }
+
+    fn rest(self) -> B {
+        values_at::<AtRest, _, _, _>(self.parts)
+    }
+
+    fn stop(self) -> C {
+        values_at::<AtStop, _, _, _>(self.parts)
     }
 }

@@ -2,7 +2,9 @@
 use super::*;
 use columnar::fault::{GrowError, OwnError};
 use columnar::names::PartNames;
-use columnar::{Columnar, ContainerOf, FromRow, Item, MakeRow, OwnRow, OwnRows, Push, PushParts};
+use columnar::{
+    Column, Columnar, ContainerOf, FromRow, Item, MakeRow, OwnRow, OwnRows, Push, PushParts,
+};
 use std::alloc::Global;
 
 /// A column of values of `Reading`.
@@ -80,5 +82,40 @@ where
             level: parts.0,
             time: parts.1,
         })
+    }
+}
+
+/// The columns of the fields of `Reading` in a view, by name.
+pub trait ReadingColumns<A: Column, B: Column>: Column {
+    ghost use Rattle.std.specs.Prelude.{◌≡◌};
+    ghost use Rattle.columnar.specs.Format.{IsSound};
+    ghost use Rattle.columnar.specs.Fields.{rows_of_field, rows_of_last};
+
+    /// Returns the column of `level`.
+    ///
+    /// # Requires
+    /// A well-formed view.
+    fn level(self) -> A
+        requires { IsSound Self.format (Self.content self) }
+        ensures sound { IsSound A.format (A.content result) }
+        ensures rows { A.format.rows (A.content result) ≡ rows_of_field 0 (Self.format.rows (Self.content self)) };
+
+    /// Returns the column of `time`.
+    ///
+    /// # Requires
+    /// A well-formed view.
+    fn time(self) -> B
+        requires { IsSound Self.format (Self.content self) }
+        ensures sound { IsSound B.format (B.content result) }
+        ensures rows { B.format.rows (B.content result) ≡ rows_of_last 1 (Self.format.rows (Self.content self)) };
+}
+
+impl<A: Column + Copy, B: Column + Copy> ReadingColumns<A, B> for OwnRows<(A, B), Reading> {
+    fn level(self) -> A {
+        columnar::own::fields_of_two(self.parts).0
+    }
+
+    fn time(self) -> B {
+        columnar::own::fields_of_two(self.parts).1
     }
 }

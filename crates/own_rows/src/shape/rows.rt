@@ -2,9 +2,10 @@
 use super::*;
 use columnar::fault::{GrowError, OwnError};
 use columnar::names::PartNames;
-use columnar::sums::variants::{Last, Nth, Variants};
+use columnar::sums::variants::{Last, Nth, Variants, values_at};
 use columnar::{
-    Columnar, ContainerOf, FromRow, Item, LendRow, MakeRow, OwnRow, OwnRows, Push, PushParts,
+    Column, Columnar, ContainerOf, FromRow, Item, LendRow, MakeRow, OwnRow, OwnRows, Push,
+    PushParts,
 };
 use std::alloc::Global;
 
@@ -159,5 +160,89 @@ where
             }
             ShapeReference::Nothing => Ok(Shape::Nothing),
         }
+    }
+}
+
+// The places of the variants
+type AtCircle = columnar::sums::variants::Zero;
+
+type AtNamed = columnar::sums::variants::Next<AtCircle>;
+
+type AtSquare = columnar::sums::variants::Next<AtNamed>;
+
+type AtNothing = columnar::sums::variants::Next<AtSquare>;
+
+// A view: that of the values of each variant, and those of the variants
+type ViewsOfValues<A, B, C, D> = (A, (B, (C, (D,))));
+
+type ViewOfAll<'x, A, B, C, D> = Variants<
+    ViewsOfValues<A, B, C, D>,
+    &'x [u8],
+    columnar::common::View<'x, u64>,
+>;
+
+/// The values of each variant of `Shape` in a view, by name.
+pub trait ShapeColumns<A: Column, B: Column, C: Column, D: Column>: Column {
+    ghost use Rattle.std.specs.Prelude.{◌≡◌};
+    ghost use Rattle.columnar.specs.Format.{IsSound};
+    ghost use Rattle.columnar.specs.Variants.{of_case};
+
+    /// Returns the values of `Circle`.
+    ///
+    /// # Requires
+    /// A well-formed view.
+    fn circle(self) -> A
+        requires { IsSound Self.format (Self.content self) }
+        ensures sound { IsSound A.format (A.content result) }
+        ensures rows { A.format.rows (A.content result) ≡ of_case 0 (Self.format.rows (Self.content self)) };
+
+    /// Returns the values of `Named`.
+    ///
+    /// # Requires
+    /// A well-formed view.
+    fn named(self) -> B
+        requires { IsSound Self.format (Self.content self) }
+        ensures sound { IsSound B.format (B.content result) }
+        ensures rows { B.format.rows (B.content result) ≡ of_case 1 (Self.format.rows (Self.content self)) };
+
+    /// Returns the values of `Square`.
+    ///
+    /// # Requires
+    /// A well-formed view.
+    fn square(self) -> C
+        requires { IsSound Self.format (Self.content self) }
+        ensures sound { IsSound C.format (C.content result) }
+        ensures rows { C.format.rows (C.content result) ≡ of_case 2 (Self.format.rows (Self.content self)) };
+
+    /// Returns the values of `Nothing`.
+    ///
+    /// # Requires
+    /// A well-formed view.
+    fn nothing(self) -> D
+        requires { IsSound Self.format (Self.content self) }
+        ensures sound { IsSound D.format (D.content result) }
+        ensures rows { D.format.rows (D.content result) ≡ of_case 3 (Self.format.rows (Self.content self)) };
+}
+
+impl<'x, A: Column + Copy, B: Column + Copy, C: Column + Copy, D: Column + Copy> ShapeColumns<
+    A,
+    B,
+    C,
+    D,
+> for OwnRows<ViewOfAll<'x, A, B, C, D>, Shape> {
+    fn circle(self) -> A {
+        values_at::<AtCircle, _, _, _>(self.parts)
+    }
+
+    fn named(self) -> B {
+        values_at::<AtNamed, _, _, _>(self.parts)
+    }
+
+    fn square(self) -> C {
+        values_at::<AtSquare, _, _, _>(self.parts)
+    }
+
+    fn nothing(self) -> D {
+        values_at::<AtNothing, _, _, _>(self.parts)
     }
 }

@@ -2,7 +2,9 @@
 use super::*;
 use columnar::fault::{GrowError, OwnError};
 use columnar::names::PartNames;
-use columnar::{Columnar, ContainerOf, FromRow, Item, MakeRow, OwnRow, OwnRows, Push, PushParts};
+use columnar::{
+    Column, Columnar, ContainerOf, FromRow, Item, MakeRow, OwnRow, OwnRows, Push, PushParts,
+};
 use std::alloc::Global;
 
 /// A column of values of `Visit`.
@@ -98,5 +100,85 @@ where
             level: parts.3,
             note: parts.4,
         })
+    }
+}
+
+/// The columns of the fields of `Visit` in a view, by name.
+pub trait VisitColumns<A: Column, B: Column, C: Column, D: Column, E: Column>: Column {
+    ghost use Rattle.std.specs.Prelude.{◌≡◌};
+    ghost use Rattle.columnar.specs.Format.{IsSound};
+    ghost use Rattle.columnar.specs.Fields.{rows_of_field, rows_of_last};
+
+    /// Returns the column of `time`.
+    ///
+    /// # Requires
+    /// A well-formed view.
+    fn time(self) -> A
+        requires { IsSound Self.format (Self.content self) }
+        ensures sound { IsSound A.format (A.content result) }
+        ensures rows { A.format.rows (A.content result) ≡ rows_of_field 0 (Self.format.rows (Self.content self)) };
+
+    /// Returns the column of `user`.
+    ///
+    /// # Requires
+    /// A well-formed view.
+    fn user(self) -> B
+        requires { IsSound Self.format (Self.content self) }
+        ensures sound { IsSound B.format (B.content result) }
+        ensures rows { B.format.rows (B.content result) ≡ rows_of_field 1 (Self.format.rows (Self.content self)) };
+
+    /// Returns the column of `pages`.
+    ///
+    /// # Requires
+    /// A well-formed view.
+    fn pages(self) -> C
+        requires { IsSound Self.format (Self.content self) }
+        ensures sound { IsSound C.format (C.content result) }
+        ensures rows { C.format.rows (C.content result) ≡ rows_of_field 2 (Self.format.rows (Self.content self)) };
+
+    /// Returns the column of `level`.
+    ///
+    /// # Requires
+    /// A well-formed view.
+    fn level(self) -> D
+        requires { IsSound Self.format (Self.content self) }
+        ensures sound { IsSound D.format (D.content result) }
+        ensures rows { D.format.rows (D.content result) ≡ rows_of_field 3 (Self.format.rows (Self.content self)) };
+
+    /// Returns the column of `note`.
+    ///
+    /// # Requires
+    /// A well-formed view.
+    fn note(self) -> E
+        requires { IsSound Self.format (Self.content self) }
+        ensures sound { IsSound E.format (E.content result) }
+        ensures rows { E.format.rows (E.content result) ≡ rows_of_last 4 (Self.format.rows (Self.content self)) };
+}
+
+impl<
+    A: Column + Copy,
+    B: Column + Copy,
+    C: Column + Copy,
+    D: Column + Copy,
+    E: Column + Copy,
+> VisitColumns<A, B, C, D, E> for OwnRows<(A, B, C, D, E), Visit> {
+    fn time(self) -> A {
+        columnar::own::fields_of_five(self.parts).0
+    }
+
+    fn user(self) -> B {
+        columnar::own::fields_of_five(self.parts).1
+    }
+
+    fn pages(self) -> C {
+        columnar::own::fields_of_five(self.parts).2
+    }
+
+    fn level(self) -> D {
+        columnar::own::fields_of_five(self.parts).3
+    }
+
+    fn note(self) -> E {
+        columnar::own::fields_of_five(self.parts).4
     }
 }

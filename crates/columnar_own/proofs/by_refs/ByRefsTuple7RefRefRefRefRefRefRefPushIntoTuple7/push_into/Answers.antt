@@ -1,0 +1,20 @@
+-- Made by .ci/widths.py: change .ci/widths/by_refs_answers.template, and not this file.
+use Rattle.std.proofs.Common.{[], ◌∷◌, refl}
+use Rattle.columnar_base.specs.LongTupleLaws.{tuple_same, refused_if_err}
+use Rattle.columnar_base.specs.EntryLaws.{took_on_ok}
+use Rattle.columnar_own.proofs.by_refs.ByRefsTuple7RefRefRefRefRefRefRefPushIntoTuple7.push_into.Goals as goal
+
+pub enter_seven-requires-clause-sound : goal.enter_seven-requires-clause-sound
+enter_seven-requires-clause-sound g c = (tuple_same g.A.Column.format g.B.Column.format (g.C.Column.format ∷ g.D.Column.format ∷ g.E.Column.format ∷ g.F.Column.format ∷ g.G.Column.format ∷ [])).back _ c.requires.sound
+
+pub enter_seven-requires-clause-level : goal.enter_seven-requires-clause-level
+enter_seven-requires-clause-level g c = (refl, refl, (refl, refl, (refl, refl, (refl, refl, (refl, refl, (refl, refl, tt))))))
+
+pub enter_seven-requires-clause-valid : goal.enter_seven-requires-clause-valid
+enter_seven-requires-clause-valid g c = c.requires.valid
+
+pub returns-clause-ok : goal.returns-clause-ok
+returns-clause-ok g c = took_on_ok g.A.Column.format g.B.Column.format (g.C.Column.format ∷ g.D.Column.format ∷ g.E.Column.format ∷ g.F.Column.format ∷ g.G.Column.format ∷ []) _ _ _ c.enter_seven.result c.enter_seven.ensures.ok
+
+pub returns-clause-err : goal.returns-clause-err
+returns-clause-err g c = refused_if_err g.A.Column.format g.B.Column.format (g.C.Column.format ∷ g.D.Column.format ∷ g.E.Column.format ∷ g.F.Column.format ∷ g.G.Column.format ∷ []) _ _ _ c.enter_seven.result c.enter_seven.ensures.err

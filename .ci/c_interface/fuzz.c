@@ -1,6 +1,7 @@
 /* fuzz SECONDS SEED [TYPE BOUNDS FILE]..: changes the stores of the files for so many seconds, validates each by the library and by
- * the validator below, which is written from docs/FORMAT.md alone, and compares the results. It changes the texts of the types too.
- * Bytes and texts lie between two unreadable pages, once next to each page. It prints the numbers of stores and texts. */
+ * the validator below, which is written from docs/FORMAT.md alone, and compares the results. It writes a row of each, and changes the
+ * texts of the types too. Bytes, texts and rows lie between two unreadable pages, once next to each page. It prints the numbers of
+ * stores and texts. */
 #include <inttypes.h>
 #include <stdbool.h>
 #include <stdio.h>
@@ -298,6 +299,10 @@ static struct found read_type(struct reading *reading, uint64_t *rows) {
         return read_characters(reading, rows);
     if (goes_on(reading, "Duration"))
         return read_durations(reading, rows);
+    if (goes_on(reading, "Strings<Unaries>"))
+        return read_list(reading, COLUMNAR_UNARIES, true, rows);
+    if (goes_on(reading, "Strings<Strides>"))
+        return read_list(reading, COLUMNAR_STRIDES, true, rows);
     if (goes_on(reading, "String"))
         return read_list(reading, COLUMNAR_WORDS, true, rows);
     if (goes_on(reading, "()"))
@@ -405,8 +410,39 @@ static void complain(const char *what, const char *type, uint32_t bounds, const 
     exit(1);
 }
 
+/* One row of a store for which `columnar_rows` returned this: whether there is such a row, and whether the call writes its text and
+ * nothing else, in a buffer that is often too small. */
+static void try_row(const char *type, uint32_t bounds, const uint8_t *store, size_t length, uint8_t *outs, uint32_t answer, uint64_t rows,
+                    const struct columnar_fault *fault) {
+    uint64_t index = number(rows < 8 ? rows + 2 : 8), capacity = number(48), size = 1;
+    uint8_t *out = number(2) ? outs : outs + ROOM - capacity;
+    memset(outs, 0xFF, 64);
+    memset(outs + ROOM - 64, 0xFF, 64);
+    struct columnar_fault again;
+    memset(&again, 0xCD, sizeof again);
+    uint32_t told = columnar_row_json((const uint8_t *)type, strlen(type), bounds, store, length, index, out, capacity, &size, &again);
+    bool right = same_fault(fault, &again);
+    if (answer != COLUMNAR_ACCEPTED)
+        right &= told == answer && size == 0;
+    else if (told == COLUMNAR_NO_ROOM)
+        right &= index < rows && size > capacity;
+    else if (told == COLUMNAR_ACCEPTED)
+        right &= index < rows && size > 0 && size <= capacity;
+    else
+        right &= size == 0 && (told == COLUMNAR_NO_ROW ? index >= rows : told == COLUMNAR_NOT_TEXT || told == COLUMNAR_NO_TEXT);
+    for (uint64_t i = 0; i < 64; i++) {
+        bool written = told == COLUMNAR_ACCEPTED && outs + i >= out && outs + i < out + size;
+        bool last = told == COLUMNAR_ACCEPTED && outs + ROOM - 64 + i >= out && outs + ROOM - 64 + i < out + size;
+        right &= (written ? outs[i] >= 32 && outs[i] != 0xFF : outs[i] == 0xFF);
+        right &= (last ? outs[ROOM - 64 + i] >= 32 && outs[ROOM - 64 + i] != 0xFF : outs[ROOM - 64 + i] == 0xFF);
+    }
+    if (!right)
+        complain("a row", type, bounds, store, length, told, &again, size);
+}
+
 /* One store, changed up to four times, and one text of a type. */
-static void try_store(const char *type, uint32_t bounds, const uint8_t *whole, size_t length, uint8_t *texts, uint8_t *stores, uint64_t *accepted) {
+static void try_store(const char *type, uint32_t bounds, const uint8_t *whole, size_t length, uint8_t *texts, uint8_t *stores, uint8_t *outs,
+                      uint64_t *accepted) {
     static uint8_t bytes[ROOM];
     memcpy(bytes, whole, length);
     for (uint64_t i = number(5); i > 0; i--)
@@ -424,6 +460,7 @@ static void try_store(const char *type, uint32_t bounds, const uint8_t *whole, s
                          : answer == COLUMNAR_ACCEPTED && fault.rule == 0 && fault.slice == 0 && rows == wanted;
     if (!right || checked != answer || !same_fault(&fault, &again) || fault.mistake || fault.place || fault.wanted)
         complain("a store", type, bounds, bytes, length, answer, &fault, rows);
+    try_row(type, bounds, store, length, outs, answer, rows, &fault);
     *accepted += answer == COLUMNAR_ACCEPTED;
 }
 
@@ -469,7 +506,7 @@ int main(int argc, char **argv) {
         lengths[i] = fread(whole[i], 1, sizeof whole[i], file);
         fclose(file);
     }
-    uint8_t *texts = between(), *stores = between();
+    uint8_t *texts = between(), *stores = between(), *outs = between();
     time_t end = time(NULL) + (time_t)strtoul(argv[1], NULL, 10);
     uint64_t tried = 0, accepted = 0;
     do {
@@ -477,7 +514,7 @@ int main(int argc, char **argv) {
             uint64_t which = number((uint64_t)count);
             const char *type = argv[3 * which + 3];
             uint32_t bounds = (uint32_t)strtoul(argv[3 * which + 4], NULL, 10);
-            try_store(type, bounds, whole[which], lengths[which], texts, stores, &accepted);
+            try_store(type, bounds, whole[which], lengths[which], texts, stores, outs, &accepted);
             try_text(type, (uint32_t)number(5), texts, stores);
         }
     } while (time(NULL) < end);

@@ -1,5 +1,5 @@
-/* Tests whether a store holds a well-formed column of a type that is given as text, such as (u64, String, Option<u32>).
- * The linked library is proved to do what the comments below say (src/calls.rt).
+/* Tests whether a store holds a well-formed column of a type that is given as text, such as (u64, String, Option<u32>), and writes
+ * its rows as JSON. The linked library is proved to do what the comments below say (src/calls.rt, src/json.rt).
  *
  *     struct columnar_fault fault;
  *     uint64_t rows;
@@ -11,9 +11,10 @@
  * what the call writes. The text and the bytes may be anything.
  *
  * The calls keep no state. They may run in several threads at the same time, but not in a signal handler, nor in the child of a
- * process that had threads when it forked. They allocate memory for the type only, one block for each part of it, and free it before
- * they return; the kit's c/liblibc_c.a, which is also linked, uses malloc and free for this. The bytes are read in place. The time of
- * a call depends on the number of bytes, and its stack on the type, whose nesting is at most 64. */
+ * process that had threads when it forked. They allocate memory for the type, one block for each part of it, and columnar_row_json
+ * for the text of the row, and free it before they return; the kit's c/liblibc_c.a, which is also linked, uses malloc and free for
+ * this. The bytes are read in place. The time of a call depends on the number of bytes, and its stack on the type, whose nesting is at
+ * most 64. */
 #ifndef COLUMNAR_H
 #define COLUMNAR_H
 
@@ -29,8 +30,12 @@ enum {
     COLUMNAR_ACCEPTED = 0,  /* the bytes encode a well-formed column of the type */
     COLUMNAR_BROKEN = 1,    /* they do not: fault.rule is the first broken rule, fault.slice its slice */
     COLUMNAR_NO_TYPE = 2,   /* the text is not a type: fault.place and fault.mistake say why */
-    COLUMNAR_NO_MEMORY = 3, /* the allocation for the type failed */
-    COLUMNAR_NO_BOUNDS = 4  /* `bounds` is none of the three numbers below */
+    COLUMNAR_NO_MEMORY = 3, /* an allocation failed */
+    COLUMNAR_NO_BOUNDS = 4, /* `bounds` is none of the three numbers below */
+    COLUMNAR_NO_ROW = 5,    /* the store has no row with this index */
+    COLUMNAR_NOT_TEXT = 6,  /* a String of the row is not UTF-8 */
+    COLUMNAR_NO_TEXT = 7,   /* the row has a float, and no text is defined for floats */
+    COLUMNAR_NO_ROOM = 8    /* the text is longer than the buffer */
 };
 
 /* How the ends of the lists of Vec<T> are stored. The ends of String and SmallVec<T> are always numbers. */
@@ -67,6 +72,17 @@ uint32_t columnar_check(const uint8_t *type, size_t type_length, uint32_t bounds
 /* Does the same, and sets `rows` to the number of rows of an accepted store; to 0 with any other result. */
 uint32_t columnar_rows(const uint8_t *type, size_t type_length, uint32_t bounds, const uint8_t *bytes, size_t length,
                        uint64_t *rows, struct columnar_fault *fault);
+
+/* Tests the store in the same way, and writes row `index` as JSON, as the Rust crate serde_json writes a value of the type, to the
+ * buffer `out` of `capacity` bytes: UTF-8 without a terminating zero. Sets `written` to the number of bytes of the text, if it fits or
+ * not; to 0 with any other result.
+ *
+ * Returns COLUMNAR_ACCEPTED if and only if the text is written, to the first `written` bytes of `out`. With any other result `out`
+ * stays: COLUMNAR_NO_ROOM if the text has more bytes than the buffer; COLUMNAR_NO_ROW if the store has at most `index` rows;
+ * COLUMNAR_NOT_TEXT or COLUMNAR_NO_TEXT for the first String or float in the row that has no text; the results above if there are no
+ * rows or no memory. Each call tests the whole store: use columnar_tool to print all rows of a large one. */
+uint32_t columnar_row_json(const uint8_t *type, size_t type_length, uint32_t bounds, const uint8_t *bytes, size_t length,
+                           uint64_t index, uint8_t *out, size_t capacity, uint64_t *written, struct columnar_fault *fault);
 
 #ifdef __cplusplus
 }

@@ -4,3 +4,4 @@
 
 pub mod answer;
 pub mod calls;
+pub mod json;

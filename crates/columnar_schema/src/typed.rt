@@ -84,6 +84,14 @@ impl Type {
         }
     }
 
+    /// Returns the type as a schema. It has at most 2^60 slices.
+    pub fn schema(&self) -> &Schema
+        ensures same { result.now ≡ self.now.schema }
+        ensures counted { (format_of result.now).count ≤ 2 ^ 60 }
+    {
+        &self.schema
+    }
+
     /// Tests whether the bytes frame a well-formed column of the type. Allocates nothing.
     ///
     /// # Errors

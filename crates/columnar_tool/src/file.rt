@@ -68,8 +68,8 @@ fn test_bytes<O: Write>(
     }
 }
 
-// Reads all bytes of a file.
-fn file_bytes<R: Files + AllocGlobal>(rt: &R, path: &str) -> Result<Vec<u8>, Failure> {
+/// Reads all bytes of a file.
+pub fn file_bytes<R: Files + AllocGlobal>(rt: &R, path: &str) -> Result<Vec<u8>, Failure> {
     match fs::read(rt, path) {
         Ok(bytes) => Ok(bytes),
         Err(error) if error.kind() == ErrorKind::OutOfMemory => Err(Failure::Memory),
@@ -77,8 +77,8 @@ fn file_bytes<R: Files + AllocGlobal>(rt: &R, path: &str) -> Result<Vec<u8>, Fai
     }
 }
 
-// Returns the fields that lead to a slice.
-fn slice_name(alloc: Global, kind: &Type, slice: usize) -> Result<String, Failure> {
+/// Returns the fields that lead to a slice.
+pub fn slice_name(alloc: Global, kind: &Type, slice: usize) -> Result<String, Failure> {
     let mut name = String::new(alloc);
     match kind.push_slice_name(slice, &mut name) {
         Ok(()) => Ok(name),
@@ -98,7 +98,8 @@ fn tell_rows<O: Write>(
     }
 }
 
-fn tell_fault<O: Write>(
+/// Writes the first rule that a file breaks.
+pub fn tell_fault<O: Write>(
     out: &mut O,
     path: &str,
     fault: &StoreFault,

@@ -1,6 +1,8 @@
-//! Tests stores of columns against a type that is given as text: `columnar_tool check|rows [--rust] TYPE FILE..`.
+//! Tests stores of columns against a type that is given as text, and prints their rows:
+//! `columnar_tool check|rows|cat [--rust] TYPE FILE..`.
 #![tactic(auto)]
 
+mod cat;
 mod cli;
 mod file;
 

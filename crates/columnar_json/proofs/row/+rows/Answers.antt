@@ -1,0 +1,174 @@
+use Rattle.std.proofs.Common.{[], ◌-◌, arith}
+use Rattle.std.specs.Prelude.{Err, codes}
+use Rattle.columnar_core.specs.Store.{slices_in}
+use Rattle.columnar_schema.specs.CountLaws.{first_counted, others_counted, field_counted, later_counted}
+use Rattle.columnar_schema.specs.TypeLaws.{first_fit, others_fit, field_fit, later_fit}
+use Rattle.columnar_json.specs.ItemLaws.{item_failed, more_items}
+use Rattle.columnar_json.specs.Json.{flaws_of, json_of}
+use Rattle.columnar_json.specs.PartLaws.{bit_in, somes_fit, some_in, some_row, none_row, some_falls, some_counted, mark_in, values_fit, errors_fit, ok_in, err_in, ok_row, err_row, zeros_before, ones_before, ok_falls, err_falls, ok_counted, err_counted, bound_in, items_fit, items_in, items_row, items_fall, items_counted, only_row, fields_in, fields_row, fields_fall, later_in, later_row, later_falls}
+use Rattle.columnar_json.specs.RowTextLaws.{some_wrote, none_wrote, ok_wrote, err_wrote, list_wrote, solo_wrote, tuple_wrote, beside_wrote}
+use Rattle.columnar_json.specs.Stored.{items_flaws, items_json, stored_row, stored_rows}
+use Rattle.columnar_json.specs.WrittenLaws.{between_failed, between_wrote, passed}
+use Rattle.columnar_json.proofs.row.+rows.Goals as goal
+
+pub write_items-returns-in_err-write_between : goal.write_items-returns-in_err-write_between
+write_items-returns-in_err-write_between t c =
+    let rs = stored_rows c.args.schema.now (slices_in c.args.store.now) c.args.offset in
+    passed c.args.out.now.items c.write_between.new.out.items (items_json c.args.schema.now rs c.args.lower (c.args.upper - c.args.lower)) (items_flaws c.args.schema.now rs c.args.lower (c.args.upper - c.args.lower)) c.in_err-write_between.field-0.0 c.from_residual.result c.from_residual.ensures.1
+    (item_failed c.args.schema.now rs c.args.lower c.args.upper c.loop-i.i c.args.out.now.items c.loop-i.out.items c.write_between.new.out.items c.in_err-write_between.field-0.0 (omega (arith, c.loop-i.auto.i)) c.loop-i-test.true (omega (arith, c.loop-i-test.true, c.requires.in_range)) c.loop-i.invariant c.in_err-write_between.ensures)
+
+pub write_items-loop-i-preserved : goal.write_items-loop-i-preserved
+write_items-loop-i-preserved t c = more_items c.args.schema.now (stored_rows c.args.schema.now (slices_in c.args.store.now) c.args.offset) c.args.lower c.loop-i.i c.args.out.now.items c.loop-i.out.items c.write_between.new.out.items (omega (arith, c.loop-i.auto.i)) (omega (arith, c.loop-i-test.true, c.requires.in_range)) c.loop-i.invariant (rw c.comma_unless-comma.ensures at c.in_ok-write_between.ensures)
+
+pub write_row-bit_at-present-requires-clause-in_range : goal.write_row-bit_at-present-requires-clause-in_range
+write_row-bit_at-present-requires-clause-in_range t c = bit_in c.args.schema.now c.args.offset (slices_in c.args.store.now) c.args.index c.in-Optional.is c.requires.in_range
+
+pub write_row-write_row-requires : goal.write_row-write_row-requires
+write_row-write_row-requires t c = (
+  rw c.decreases at (some_falls c.args.schema.now c.deref.result.now c.in-Optional.is c.deref.ensures),
+  (
+    some_counted c.args.schema.now c.deref.result.now c.in-Optional.is c.deref.ensures c.requires.counted,
+    (
+      rw c.deref.ensures (somes_fit c.args.schema.now c.args.offset (slices_in c.args.store.now) c.in-Optional.is c.requires.fits),
+      rw (c.deref.ensures, c.bit_at-present.ensures.rank) (some_in c.args.schema.now c.args.offset (slices_in c.args.store.now) c.args.index c.in-Optional.is c.requires.fits (rw c.if-present.true at c.bit_at-present.ensures.bit)),
+    ),
+  ),
+)
+
+pub write_row-returns-then-present : goal.write_row-returns-then-present
+write_row-returns-then-present t c = some_wrote c.args.schema.now _ _ c.args.out.now.items c.write_row.new.out.items c.write_row.result c.in-Optional.is (some_row c.args.schema.now c.args.offset (slices_in c.args.store.now) c.args.index c.in-Optional.is c.requires.fits (rw c.if-present.true at c.bit_at-present.ensures.bit)) (rw (c.deref.ensures, c.bit_at-present.ensures.rank) at c.write_row.ensures)
+
+pub write_row-returns-else-present : goal.write_row-returns-else-present
+write_row-returns-else-present t c = none_wrote c.args.schema.now _ c.args.out.now.items c.push_bytes.new.out.items c.push_bytes.result c.in-Optional.is (none_row c.args.schema.now c.args.offset (slices_in c.args.store.now) c.args.index c.in-Optional.is (rw c.if-present.false at c.bit_at-present.ensures.bit)) c.push_bytes.ensures
+
+pub write_row-bit_at-is_ok-requires-clause-in_range : goal.write_row-bit_at-is_ok-requires-clause-in_range
+write_row-bit_at-is_ok-requires-clause-in_range t c = mark_in c.args.schema.now c.args.offset (slices_in c.args.store.now) c.args.index c.in-Fallible.is c.requires.in_range
+
+pub write_row-write_between-requires : goal.write_row-write_between-requires
+write_row-write_between-requires t c = (
+  rw c.decreases at (ok_falls c.args.schema.now c.deref-then-is_ok.result.now c.in-Fallible.is c.deref-then-is_ok.ensures),
+  (
+    ok_counted c.args.schema.now c.deref-then-is_ok.result.now c.in-Fallible.is c.deref-then-is_ok.ensures c.requires.counted,
+    (
+      rw c.deref-then-is_ok.ensures (values_fit c.args.schema.now c.args.offset (slices_in c.args.store.now) c.in-Fallible.is c.requires.fits),
+      rw (c.deref-then-is_ok.ensures, c.bit_at-is_ok.ensures.rank) (ok_in c.args.schema.now c.args.offset (slices_in c.args.store.now) c.args.index c.in-Fallible.is c.requires.fits (rw c.if-is_ok.true at c.bit_at-is_ok.ensures.bit)),
+    ),
+  ),
+)
+
+pub write_row-returns-then-is_ok : goal.write_row-returns-then-is_ok
+write_row-returns-then-is_ok t c = ok_wrote c.args.schema.now _ _ c.args.out.now.items c.write_between.new.out.items c.write_between.result c.in-Fallible.is (ok_row c.args.schema.now c.args.offset (slices_in c.args.store.now) c.args.index c.in-Fallible.is c.requires.fits (rw c.if-is_ok.true at c.bit_at-is_ok.ensures.bit)) (rw (c.deref-then-is_ok.ensures, c.bit_at-is_ok.ensures.rank) at c.write_between.ensures)
+
+pub write_row-overflow_sub-index : goal.write_row-overflow_sub-index
+write_row-overflow_sub-index t c = ones_before c.args.schema.now c.args.offset (slices_in c.args.store.now) c.args.index c.bit_at-is_ok.result.1 c.in-Fallible.is c.bit_at-is_ok.ensures.rank
+
+pub write_row-write_between-requires-else-is_ok : goal.write_row-write_between-requires-else-is_ok
+write_row-write_between-requires-else-is_ok t c =
+    let z = zeros_before c.args.schema.now c.args.offset (slices_in c.args.store.now) c.args.index c.bit_at-is_ok.result.1 c.in-Fallible.is c.requires.in_range c.bit_at-is_ok.ensures.rank in (
+      rw c.decreases at (err_falls c.args.schema.now c.deref-else-is_ok-2.result.now c.in-Fallible.is c.deref-else-is_ok-2.ensures),
+      (
+        err_counted c.args.schema.now c.deref-else-is_ok-2.result.now c.in-Fallible.is c.deref-else-is_ok-2.ensures c.requires.counted,
+        (
+          rw (c.deref-else-is_ok-2.ensures, c.slice_count_of.ensures, c.deref-else-is_ok.ensures) (errors_fit c.args.schema.now c.args.offset (slices_in c.args.store.now) c.in-Fallible.is c.requires.fits),
+          rw (c.deref-else-is_ok-2.ensures, c.slice_count_of.ensures, c.deref-else-is_ok.ensures, z) (err_in c.args.schema.now c.args.offset (slices_in c.args.store.now) c.args.index c.in-Fallible.is c.requires.fits (rw c.if-is_ok.false at c.bit_at-is_ok.ensures.bit)),
+        ),
+      ),
+    )
+
+pub write_row-returns-else-is_ok : goal.write_row-returns-else-is_ok
+write_row-returns-else-is_ok t c =
+    let z = zeros_before c.args.schema.now c.args.offset (slices_in c.args.store.now) c.args.index c.bit_at-is_ok.result.1 c.in-Fallible.is c.requires.in_range c.bit_at-is_ok.ensures.rank in
+    err_wrote c.args.schema.now _ _ c.args.out.now.items c.write_between-else-is_ok.new.out.items c.write_between-else-is_ok.result c.in-Fallible.is (err_row c.args.schema.now c.args.offset (slices_in c.args.store.now) c.args.index c.in-Fallible.is c.requires.fits (rw c.if-is_ok.false at c.bit_at-is_ok.ensures.bit)) (rw (c.slice_count_of.ensures, c.deref-else-is_ok.ensures, c.deref-else-is_ok-2.ensures, z) at c.write_between-else-is_ok.ensures)
+
+pub write_row-range_at-lower-requires-clause-in_range : goal.write_row-range_at-lower-requires-clause-in_range
+write_row-range_at-lower-requires-clause-in_range t c = bound_in c.args.schema.now c.args.offset (slices_in c.args.store.now) c.args.index c.in-Lists.is c.requires.in_range
+
+pub write_row-write_items-requires : goal.write_row-write_items-requires
+write_row-write_items-requires t c =
+    let r = items_in c.args.schema.now c.args.offset (slices_in c.args.store.now) c.args.index c.range_at-lower.result.0 c.range_at-lower.result.1 c.in-Lists.is c.requires.fits c.range_at-lower.ensures.lower c.range_at-lower.ensures.upper in (
+      rw c.decreases at (items_fall c.args.schema.now c.deref-in-Lists.result.now c.in-Lists.is c.deref-in-Lists.ensures),
+      (
+        items_counted c.args.schema.now c.deref-in-Lists.result.now c.in-Lists.is c.deref-in-Lists.ensures c.requires.counted,
+        (
+          rw (c.deref-in-Lists.ensures, c.bounds_slices.ensures) (items_fit c.args.schema.now c.args.offset (slices_in c.args.store.now) c.in-Lists.is c.requires.fits),
+          (
+            r.0,
+            rw (c.deref-in-Lists.ensures, c.bounds_slices.ensures) r.1,
+          ),
+        ),
+      ),
+    )
+
+pub write_row-returns-in_err-write_items-in-Lists : goal.write_row-returns-in_err-write_items-in-Lists
+write_row-returns-in_err-write_items-in-Lists t c =
+    let row = stored_row c.args.schema.now (slices_in c.args.store.now) c.args.offset c.args.index in
+    passed c.args.out.now.items c.write_items.new.out.items (json_of c.args.schema.now row) (flaws_of c.args.schema.now row) c.in_err-write_items-in-Lists.field-0.0 c.from_residual-in_err-write_items-in-Lists.result c.from_residual-in_err-write_items-in-Lists.ensures.1
+    (list_wrote c.args.schema.now row _ c.args.out.now.items c.write_items.new.out.items (Err c.in_err-write_items-in-Lists.field-0.0) c.in-Lists.is (items_row c.args.schema.now c.args.offset (slices_in c.args.store.now) c.args.index c.range_at-lower.result.0 c.range_at-lower.result.1 c.in-Lists.is c.range_at-lower.ensures.lower c.range_at-lower.ensures.upper)
+    (between_failed c.args.out.now.items c.push_bytes-in-Lists.new.out.items c.write_items.new.out.items (codes "[") [] (codes "]") _ c.in_err-write_items-in-Lists.field-0.0 c.in_ok-push_bytes-in-Lists.ensures (rw (c.deref-in-Lists.ensures, c.bounds_slices.ensures) at c.in_err-write_items-in-Lists.ensures)))
+
+pub write_row-returns-in_ok-write_items-in-Lists : goal.write_row-returns-in_ok-write_items-in-Lists
+write_row-returns-in_ok-write_items-in-Lists t c =
+    list_wrote c.args.schema.now _ _ c.args.out.now.items c.push_bytes-in-Lists-2.new.out.items c.push_bytes-in-Lists-2.result c.in-Lists.is (items_row c.args.schema.now c.args.offset (slices_in c.args.store.now) c.args.index c.range_at-lower.result.0 c.range_at-lower.result.1 c.in-Lists.is c.range_at-lower.ensures.lower c.range_at-lower.ensures.upper)
+    (between_wrote c.args.out.now.items c.push_bytes-in-Lists.new.out.items c.write_items.new.out.items c.push_bytes-in-Lists-2.new.out.items (codes "[") _ (codes "]") _ c.push_bytes-in-Lists-2.result c.in_ok-push_bytes-in-Lists.ensures (rw (c.deref-in-Lists.ensures, c.bounds_slices.ensures) at c.in_ok-write_items-in-Lists.ensures) c.push_bytes-in-Lists-2.ensures)
+
+pub write_row-returns-in-Solo : goal.write_row-returns-in-Solo
+write_row-returns-in-Solo t c = solo_wrote c.args.schema.now _ _ c.args.out.now.items c.write_between-in-Solo.new.out.items c.write_between-in-Solo.result c.in-Solo.is (only_row c.args.schema.now c.args.offset (slices_in c.args.store.now) c.args.index c.in-Solo.is c.requires.in_range) (rw c.deref-in-Solo.ensures at c.write_between-in-Solo.ensures)
+
+pub write_row-write_fields-requires : goal.write_row-write_fields-requires
+write_row-write_fields-requires t c =
+    let r = fields_in c.args.schema.now c.args.offset (slices_in c.args.store.now) c.args.index c.in-Tuple.is c.requires.in_range in (
+      rw c.decreases at (fields_fall c.args.schema.now c.deref-in-Tuple.result.now c.deref-in-Tuple-2.result.now c.in-Tuple.is c.deref-in-Tuple.ensures c.deref-in-Tuple-2.ensures),
+      (
+        rw c.deref-in-Tuple.ensures (first_counted c.args.schema.now c.in-Tuple.is c.requires.counted),
+        (
+          rw c.deref-in-Tuple-2.ensures (others_counted c.args.schema.now c.in-Tuple.is c.requires.counted),
+          (
+            rw c.deref-in-Tuple.ensures (first_fit c.args.schema.now c.args.offset (slices_in c.args.store.now) c.in-Tuple.is c.requires.fits),
+            (
+              rw (c.deref-in-Tuple.ensures, c.deref-in-Tuple-2.ensures) (others_fit c.args.schema.now c.args.offset (slices_in c.args.store.now) c.in-Tuple.is c.requires.fits),
+              (
+                rw c.deref-in-Tuple.ensures r.0,
+                rw (c.deref-in-Tuple.ensures, c.deref-in-Tuple-2.ensures) r.1,
+              ),
+            ),
+          ),
+        ),
+      ),
+    )
+
+pub write_row-returns-in_err-write_fields-in-Tuple : goal.write_row-returns-in_err-write_fields-in-Tuple
+write_row-returns-in_err-write_fields-in-Tuple t c =
+    let row = stored_row c.args.schema.now (slices_in c.args.store.now) c.args.offset c.args.index in
+    passed c.args.out.now.items c.write_fields.new.out.items (json_of c.args.schema.now row) (flaws_of c.args.schema.now row) c.in_err-write_fields-in-Tuple.field-0.0 c.from_residual-in_err-write_fields-in-Tuple.result c.from_residual-in_err-write_fields-in-Tuple.ensures.1
+    (tuple_wrote c.args.schema.now row _ _ c.args.out.now.items c.write_fields.new.out.items (Err c.in_err-write_fields-in-Tuple.field-0.0) c.in-Tuple.is (fields_row c.args.schema.now c.args.offset (slices_in c.args.store.now) c.args.index c.in-Tuple.is c.requires.in_range)
+    (between_failed c.args.out.now.items c.push_bytes-in-Tuple.new.out.items c.write_fields.new.out.items (codes "[") [] (codes "]") _ c.in_err-write_fields-in-Tuple.field-0.0 c.in_ok-push_bytes-in-Tuple.ensures (rw (c.deref-in-Tuple.ensures, c.deref-in-Tuple-2.ensures) at c.in_err-write_fields-in-Tuple.ensures)))
+
+pub write_row-returns-in_ok-write_fields-in-Tuple : goal.write_row-returns-in_ok-write_fields-in-Tuple
+write_row-returns-in_ok-write_fields-in-Tuple t c =
+    tuple_wrote c.args.schema.now _ _ _ c.args.out.now.items c.push_bytes-in-Tuple-2.new.out.items c.push_bytes-in-Tuple-2.result c.in-Tuple.is (fields_row c.args.schema.now c.args.offset (slices_in c.args.store.now) c.args.index c.in-Tuple.is c.requires.in_range)
+    (between_wrote c.args.out.now.items c.push_bytes-in-Tuple.new.out.items c.write_fields.new.out.items c.push_bytes-in-Tuple-2.new.out.items (codes "[") _ (codes "]") _ c.push_bytes-in-Tuple-2.result c.in_ok-push_bytes-in-Tuple.ensures (rw (c.deref-in-Tuple.ensures, c.deref-in-Tuple-2.ensures) at c.in_ok-write_fields-in-Tuple.ensures) c.push_bytes-in-Tuple-2.ensures)
+
+pub write_row-write_fields-requires-in-Beside : goal.write_row-write_fields-requires-in-Beside
+write_row-write_fields-requires-in-Beside t c =
+    let r = later_in c.args.schema.now c.args.offset (slices_in c.args.store.now) c.args.index c.in-Beside.is c.requires.in_range in (
+      rw c.decreases at (later_falls c.args.schema.now c.deref-in-Beside.result.now c.deref-in-Beside-2.result.now c.in-Beside.is c.deref-in-Beside.ensures c.deref-in-Beside-2.ensures),
+      (
+        rw c.deref-in-Beside.ensures (field_counted c.args.schema.now c.in-Beside.is c.requires.counted),
+        (
+          rw c.deref-in-Beside-2.ensures (later_counted c.args.schema.now c.in-Beside.is c.requires.counted),
+          (
+            rw c.deref-in-Beside.ensures (field_fit c.args.schema.now c.args.offset (slices_in c.args.store.now) c.in-Beside.is c.requires.fits),
+            (
+              rw (c.deref-in-Beside.ensures, c.deref-in-Beside-2.ensures) (later_fit c.args.schema.now c.args.offset (slices_in c.args.store.now) c.in-Beside.is c.requires.fits),
+              (
+                rw c.deref-in-Beside.ensures r.0,
+                rw (c.deref-in-Beside.ensures, c.deref-in-Beside-2.ensures) r.1,
+              ),
+            ),
+          ),
+        ),
+      ),
+    )
+
+pub write_row-returns-in-Beside : goal.write_row-returns-in-Beside
+write_row-returns-in-Beside t c = beside_wrote c.args.schema.now _ _ _ c.args.out.now.items c.write_fields-in-Beside.new.out.items c.write_fields-in-Beside.result c.in-Beside.is (later_row c.args.schema.now c.args.offset (slices_in c.args.store.now) c.args.index c.in-Beside.is c.requires.in_range) (rw (c.deref-in-Beside.ensures, c.deref-in-Beside-2.ensures) at c.write_fields-in-Beside.ensures)

@@ -1,0 +1,9 @@
+pub mod Json
+pub mod Written
+pub mod WrittenLaws
+pub mod TextLaws
+pub mod Stored
+pub mod PartLaws
+pub mod ItemLaws
+pub mod RowTextLaws
+pub mod Refusals

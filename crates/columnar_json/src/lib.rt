@@ -1,0 +1,8 @@
+//! Rows of a store as JSON texts, for types that are read at run time.
+#![tactic(auto)]
+
+mod leaf;
+mod row;
+pub mod rows;
+mod text;
+pub mod unwritten;

@@ -6,8 +6,6 @@ mod claims;
 #[cfg(test)]
 mod event;
 #[cfg(test)]
-mod generic;
-#[cfg(test)]
 mod hashes;
 #[cfg(test)]
 mod numbers;

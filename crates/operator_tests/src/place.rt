@@ -44,7 +44,7 @@ type NowhereRow = OwnRow<(), Nowhere>;
 
 type FoundRow = OwnRow<Nth<PlaceRow, Last<NowhereRow>>, Found>;
 
-fn place(far: u64, high: u32) -> PlaceRow {
+fn place_row(far: u64, high: u32) -> PlaceRow {
     OwnRow::new((OwnRow::new((far,)), high))
 }
 
@@ -98,7 +98,7 @@ impl Places {
 fn fields_without_names_are_pushed_and_read(rt: HostRuntime) -> Result<(), Fail> {
     let mut places = Places::empty(rt.alloc());
     holds!(rt; places.takes(13, 2) && places.takes_row(40, 1));
-    holds!(rt; places.reads(&[place(13, 2), place(40, 1)]));
+    holds!(rt; places.reads(&[place_row(13, 2), place_row(40, 1)]));
     equal!(rt; places.far(), 53);
     equal!(rt; places.shown(1), Some((40, 1)));
     equal!(rt; places.shown(2), None);
@@ -165,7 +165,7 @@ impl Finds {
     }
 
     fn takes_row(&mut self, far: u64, high: u32) -> bool {
-        let found: FoundReference<PlaceRow, NowhereRow> = FoundReference::At(place(far, high));
+        let found: FoundReference<PlaceRow, NowhereRow> = FoundReference::At(place_row(far, high));
         takes(&mut self.column, found)
     }
 
@@ -180,8 +180,8 @@ fn variants_of_such_structs_are_pushed_and_read(rt: HostRuntime) -> Result<(), F
     holds!(rt; finds.takes(&Found::Lost(Nowhere)) && finds.takes(&Found::At(Place(Meters(7), 3))));
     holds!(rt; finds.takes_row(8, 4));
     let lost: FoundRow = OwnRow::new(Nth::Next(Last(OwnRow::new(()))));
-    let near: FoundRow = OwnRow::new(Nth::This(place(7, 3)));
-    let far: FoundRow = OwnRow::new(Nth::This(place(8, 4)));
+    let near: FoundRow = OwnRow::new(Nth::This(place_row(7, 3)));
+    let far: FoundRow = OwnRow::new(Nth::This(place_row(8, 4)));
     holds!(rt; finds.reads(&[lost, near, far]));
     Ok(())
 }

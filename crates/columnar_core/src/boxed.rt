@@ -73,6 +73,8 @@ impl<C: Column> Column for Boxed<C> {
     ghost format = { C.format };
 
     ghost content = { λ b. C.content b.0 };
+
+    ghost room = { λ b. C.room b.0 };
 }
 
 impl<C: Column> Boxed<C> {
@@ -167,6 +169,10 @@ impl<C: Storage> Storage for Boxed<C> {
 
 impl<C: Reserve> Reserve for Boxed<C> {
     type Room = C::Room;
+
+    ghost reserves = { C.reserves };
+
+    ghost covers = { C.covers };
 
     fn no_room() -> C::Room {
         C::no_room()

@@ -95,6 +95,8 @@ impl PushAfter for Vec<u64> {
 
 /// Reserves capacity for all offsets at once, then pushes each.
 impl<W: Offsets> ExtendShifted<W> for Vec<u64> {
+    ghost by_number = { λ n rs ss e h l. rw e at (h l) };
+
     fn extend_shifted_tallied<L>(
         &mut self,
         view: &W,

@@ -5,6 +5,7 @@ ghost use Rattle.columnar_base.specs.Format.{both, IsSound};
 ghost use Rattle.columnar_base.specs.TwoPartsLaws.{two_counted};
 ghost use Rattle.columnar_core.specs.Bounds.{numbers};
 ghost use Rattle.columnar_lists.specs.Lists.{joined, lists_format};
+ghost use Rattle.columnar_lists.specs.Rooms.{lists_room};
 ghost use Rattle.columnar_lists.specs.ListLaws.{same_lists, lists_lawful, lists_storable};
 
 mod earlier;
@@ -42,6 +43,8 @@ impl<TC: Column, BC: Column> Column for Vecs<TC, BC> {
     ghost format = { lists_format BC.format TC.format };
 
     ghost content = { λ v. both (BC.content v.bounds) (TC.content v.values) };
+
+    ghost room = { λ v. lists_room (BC.room v.bounds) (TC.room v.values) };
 }
 
 impl<TC: Column, BC: Len> Len for Vecs<TC, BC> {
@@ -178,6 +181,10 @@ impl<TC: Storage, BC: Storage + Offsets> Storage for Vecs<TC, BC> {
 
 impl<TC: Reserve, BC: Reserve> Reserve for Vecs<TC, BC> {
     type Room = (BC::Room, TC::Room);
+
+    ghost reserves = { BC.reserves × TC.reserves };
+
+    ghost covers = { λ r. lists_room (BC.covers r.0) (TC.covers r.1) };
 
     fn no_room() -> (BC::Room, TC::Room) {
         (BC::no_room(), TC::no_room())

@@ -10,6 +10,7 @@ ghost use Rattle.columnar_base.specs.Texts.{text_bytes, text_row};
 ghost use Rattle.columnar_base.specs.TwoPartsLaws.{two_counted};
 ghost use Rattle.columnar_lists.specs.Lists.{lists_format};
 ghost use Rattle.columnar_lists.specs.ListLaws.{same_lists, lists_lawful, lists_storable};
+ghost use Rattle.columnar_lists.specs.Rooms.{lists_room};
 ghost use Rattle.columnar_strings.specs.Strings.{strings_format};
 
 mod earlier;
@@ -55,6 +56,8 @@ impl<BC: Column, VC: Column> Column for Strings<BC, VC> {
     ghost format = { lists_format BC.format VC.format };
 
     ghost content = { λ s. both (BC.content s.bounds) (VC.content s.values) };
+
+    ghost room = { λ s. lists_room (BC.room s.bounds) (VC.room s.values) };
 }
 
 impl<BC: Len, VC: Column> Len for Strings<BC, VC> {
@@ -156,6 +159,10 @@ impl<BC: Storage + Offsets, VC: Storage> Storage for Strings<BC, VC> {
 
 impl<BC: Reserve, VC: Reserve> Reserve for Strings<BC, VC> {
     type Room = (BC::Room, VC::Room);
+
+    ghost reserves = { BC.reserves × VC.reserves };
+
+    ghost covers = { λ r. lists_room (BC.covers r.0) (VC.covers r.1) };
 
     fn no_room() -> (BC::Room, VC::Room) {
         (BC::no_room(), VC::no_room())

@@ -20,4 +20,4 @@ pub truncate-requires-2-clause-in_range : goal.truncate-requires-2-clause-in_ran
 truncate-requires-2-clause-in_range g c = lists_within_le g.BC.Column.format g.TC.Column.format (g.BC.Column.content c.args.bounds.now) (g.TC.Column.content c.args.values.now) c.args.n c.requires.in_range
 
 pub returns : goal.returns
-returns g c = lists_cut_at g.BC.Column.format g.TC.Column.format c.requires.sound c.start_of-end.ensures c.truncate-2.ensures c.truncate.ensures
+returns g c = lists_cut_at g.BC.Column.format g.TC.Column.format c.requires.sound c.start_of-end.ensures c.truncate-2.ensures.cut c.truncate.ensures.cut

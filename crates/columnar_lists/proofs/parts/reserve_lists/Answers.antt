@@ -1,5 +1,7 @@
 use Rattle.columnar_base.specs.ChangeLaws.{unchanged}
 use Rattle.columnar_lists.specs.ListLaws.{lists_parts, lists_stayed}
+use Rattle.columnar_base.specs.RoomLaws.{on_ok_as}
+use Rattle.columnar_lists.specs.RoomLaws.{both_lists_covered}
 use Rattle.columnar_lists.proofs.parts.reserve_lists.Goals as goal
 
 pub reserve_room-requires : goal.reserve_room-requires
@@ -13,3 +15,6 @@ returns-in_err-reserve_room-clause-stayed g c = lists_stayed g.BC.Column.format 
 
 pub returns-clause-stayed : goal.returns-clause-stayed
 returns-clause-stayed g c = lists_stayed g.BC.Column.format g.TC.Column.format c.requires c.in_ok-reserve_room.ensures.stayed c.reserve_room-2.ensures.stayed
+
+pub returns-clause-room : goal.returns-clause-room
+returns-clause-room g c = both_lists_covered _ _ _ _ _ _ c.reserve_room-2.result (on_ok_as _ c.reserve_room-2.result c.in_ok-reserve_room.ensures.room) c.reserve_room-2.ensures.room

@@ -15,6 +15,6 @@ word_or_tail-requires-clause-in_range c =
     let l : c.args.n ≤ length (bits_in (le_bytes c.args.self.now.values.items) (le_bytes c.args.self.now.tail)) = omega (arith, c.requires.in_range, length-map (bits_in (le_bytes c.args.self.now.values.items) (le_bytes c.args.self.now.tail)) truth) in
     rw (c.words.ensures, c.words-2.ensures) (word_there c.args.n (bools_parts c.requires.sound) l)
 
-pub returns : goal.returns
-returns c = owned_cut c.args.self.now.values.items c.truncate.new.self.items c.args.self.now.tail c.tail_of-self.result c.requires.sound c.truncate.ensures.items c.tail_of-self.ensures c.requires.in_range c.low_bits-word.ensures.below
+pub returns-clause-cut : goal.returns-clause-cut
+returns-clause-cut c = owned_cut c.args.self.now.values.items c.truncate.new.self.items c.args.self.now.tail c.tail_of-self.result c.requires.sound c.truncate.ensures.items c.tail_of-self.ensures c.requires.in_range c.low_bits-word.ensures.below
     (λ j l. c.low_bits-word.ensures.same j l ∙ ap (λ (x : ℕ). bit x j) (rw (c.words.ensures, c.words-2.ensures) at c.word_or_tail.ensures))

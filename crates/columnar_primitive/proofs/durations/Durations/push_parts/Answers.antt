@@ -30,4 +30,4 @@ pub returns-in-Err-clause-err : goal.returns-in-Err-clause-err
 returns-in-Err-clause-err g c =
     let e : c.args.seconds % 2 ^ 64 ≡ c.args.seconds = omega (arith, c.ranges.seconds) in
     let f : c.args.nanoseconds % 2 ^ 32 ≡ c.args.nanoseconds = omega (arith, c.ranges.nanoseconds) in
-    rw (e, f) at (durations_refused_right g.SC.Column.format g.NC.Column.format (number (c.args.seconds % 2 ^ 64)) (number (c.args.nanoseconds % 2 ^ 32)) g.met.SC.Flat.flat g.met.NC.Flat.flat c.requires.sound (undone g.met.SC.Truncate.lawful (durations_parts g.SC.Column.format g.NC.Column.format c.requires.sound).left c.in_ok-push.ensures.ok.grew (rw c.len-before.ensures at c.truncate.ensures)) c.in-Err.ensures.err)
+    rw (e, f) at (durations_refused_right g.SC.Column.format g.NC.Column.format (number (c.args.seconds % 2 ^ 64)) (number (c.args.nanoseconds % 2 ^ 32)) g.met.SC.Flat.flat g.met.NC.Flat.flat c.requires.sound (undone g.met.SC.Truncate.lawful (durations_parts g.SC.Column.format g.NC.Column.format c.requires.sound).left c.in_ok-push.ensures.ok.grew (rw c.len-before.ensures at c.truncate.ensures.cut)) c.in-Err.ensures.err)

@@ -19,4 +19,4 @@ pub returns-in-Ok-clause-ok : goal.returns-in-Ok-clause-ok
 returns-in-Ok-clause-ok g c = durations_copied g.SC.Column.format g.NC.Column.format g.V.Column.format g.W.Column.format (g.V.Column.content c.args.view.seconds) (g.W.Column.content c.args.view.nanoseconds) c.args.range.start (c.args.range.«end» - c.args.range.start) g.met.SC.Flat.flat g.met.NC.Flat.flat c.requires.sound c.requires.view_sound c.in_ok-extend_from_self.ensures.ok c.in-Ok.ensures.ok
 
 pub returns-in-Err-clause-err : goal.returns-in-Err-clause-err
-returns-in-Err-clause-err g c = durations_refused_right_piece g.SC.Column.format g.NC.Column.format g.V.Column.format g.W.Column.format (g.V.Column.content c.args.view.seconds) (g.W.Column.content c.args.view.nanoseconds) c.args.range.start (c.args.range.«end» - c.args.range.start) g.met.SC.Flat.flat g.met.NC.Flat.flat c.requires.sound c.requires.view_sound (undone g.met.SC.Truncate.lawful (durations_parts g.SC.Column.format g.NC.Column.format c.requires.sound).left c.in_ok-extend_from_self.ensures.ok.took.grew (rw c.len-rows.ensures at c.truncate.ensures)) c.in-Err.ensures.err
+returns-in-Err-clause-err g c = durations_refused_right_piece g.SC.Column.format g.NC.Column.format g.V.Column.format g.W.Column.format (g.V.Column.content c.args.view.seconds) (g.W.Column.content c.args.view.nanoseconds) c.args.range.start (c.args.range.«end» - c.args.range.start) g.met.SC.Flat.flat g.met.NC.Flat.flat c.requires.sound c.requires.view_sound (undone g.met.SC.Truncate.lawful (durations_parts g.SC.Column.format g.NC.Column.format c.requires.sound).left c.in_ok-extend_from_self.ensures.ok.took.grew (rw c.len-rows.ensures at c.truncate.ensures.cut)) c.in-Err.ensures.err

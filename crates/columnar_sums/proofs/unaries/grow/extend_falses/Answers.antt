@@ -42,10 +42,10 @@ pub returns-in-Err-clause-err : goal.returns-in-Err-clause-err
 returns-in-Err-clause-err c =
     let s = (ranks_parts c.requires.sound).bools in
     let h = bools_grew (record { sound = bools_parts c.push_falses.ensures.sound; bits = c.in_ok-push_falses.ensures.ok }) in
-    rw c.in-Err.ensures.err (ranks_stayed c.requires.sound (undone bools_lawful (bools_sound s) h (rw c.len-start.ensures at c.truncate.ensures)))
+    rw c.in-Err.ensures.err (ranks_stayed c.requires.sound (undone bools_lawful (bools_sound s) h (rw c.len-start.ensures at c.truncate.ensures.cut)))
 
 pub returns-in-Err-clause-sound : goal.returns-in-Err-clause-sound
 returns-in-Err-clause-sound c =
     let s = (ranks_parts c.requires.sound).bools in
     let h = bools_grew (record { sound = bools_parts c.push_falses.ensures.sound; bits = c.in_ok-push_falses.ensures.ok }) in
-    rw c.in-Err.ensures.err ((ranks_stayed c.requires.sound (undone bools_lawful (bools_sound s) h (rw c.len-start.ensures at c.truncate.ensures))).sound)
+    rw c.in-Err.ensures.err ((ranks_stayed c.requires.sound (undone bools_lawful (bools_sound s) h (rw c.len-start.ensures at c.truncate.ensures.cut))).sound)

@@ -8,7 +8,7 @@ pub returns-in-Err-clause-err : goal.returns-in-Err-clause-err
 returns-in-Err-clause-err c =
     let i = c.loop-done.invariant in
     let h = bools_grew (record { sound = bools_parts i.sound; bits = i.bits }) in
-    undone bools_lawful c.requires.sound (grew_to c.in-Err.ensures.err h) (rw c.len-start.ensures at c.truncate.ensures)
+    undone bools_lawful c.requires.sound (grew_to c.in-Err.ensures.err h) (rw c.len-start.ensures at c.truncate.ensures.cut)
 
 pub loop-done-preserved : goal.loop-done-preserved
 loop-done-preserved c =

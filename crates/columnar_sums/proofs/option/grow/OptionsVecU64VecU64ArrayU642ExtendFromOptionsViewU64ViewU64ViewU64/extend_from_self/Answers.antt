@@ -40,4 +40,4 @@ pub returns-in-Ok-clause-ok : goal.returns-in-Ok-clause-ok
 returns-in-Ok-clause-ok g c = options_copied_range g.TC.Column.format g.V.Column.format (ranks_content view_bytes view_bytes view_bytes c.args.view.indexes) (g.V.Column.content c.args.view.somes) c.args.range.start c.args.range.«end» g.met.TC.Truncate.lawful.same c.requires.sound c.requires.view_sound c.requires.ordered c.requires.in_range c.in-Ok.ensures.ok (rw (c.rank-first.ensures.value, c.rank-last.ensures.value) at c.in_ok-extend_from_self.ensures.ok)
 
 pub returns-in-Err-clause-err : goal.returns-in-Err-clause-err
-returns-in-Err-clause-err g c = options_refused_bits_range g.TC.Column.format g.V.Column.format (ranks_content view_bytes view_bytes view_bytes c.args.view.indexes) (g.V.Column.content c.args.view.somes) c.args.range.start c.args.range.«end» c.requires.sound c.requires.ordered c.in-Err.ensures.err (undone g.met.TC.Truncate.lawful (options_parts g.TC.Column.format c.requires.sound).values c.in_ok-extend_from_self.ensures.ok.took.grew (rw c.len-taken.ensures at c.truncate.ensures))
+returns-in-Err-clause-err g c = options_refused_bits_range g.TC.Column.format g.V.Column.format (ranks_content view_bytes view_bytes view_bytes c.args.view.indexes) (g.V.Column.content c.args.view.somes) c.args.range.start c.args.range.«end» c.requires.sound c.requires.ordered c.in-Err.ensures.err (undone g.met.TC.Truncate.lawful (options_parts g.TC.Column.format c.requires.sound).values c.in_ok-extend_from_self.ensures.ok.took.grew (rw c.len-taken.ensures at c.truncate.ensures.cut))

@@ -18,5 +18,5 @@ truncate-requires-clause-in_range g c = rw c.rank-values.ensures.value (options_
 pub truncate-requires-2-clause-in_range : goal.truncate-requires-2-clause-in_range
 truncate-requires-2-clause-in_range g c = omega (arith, length-map (ranks_bits (owned_ranks c.args.self.now.indexes)) truth, options_within g.TC.Column.format (owned_ranks c.args.self.now.indexes) (g.TC.Column.content c.args.self.now.somes) c.args.n c.requires.in_range)
 
-pub returns : goal.returns
-returns g c = options_cut g.TC.Column.format c.requires.sound c.truncate-2.ensures (rw c.rank-values.ensures.value at c.truncate.ensures) c.requires.in_range
+pub returns-clause-cut : goal.returns-clause-cut
+returns-clause-cut g c = options_cut g.TC.Column.format c.requires.sound c.truncate-2.ensures.cut (rw c.rank-values.ensures.value at c.truncate.ensures.cut) c.requires.in_range

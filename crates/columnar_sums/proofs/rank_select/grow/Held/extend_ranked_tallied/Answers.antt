@@ -43,13 +43,13 @@ returns-in-Err-clause-err g c =
     let b : List ℕ = le_bytes c.args.self.now.values.tail in
     let s = (ranks_parts c.requires.sound).bools in
     let h = bools_grew (record { sound = bools_parts c.extend_bits_from_tallied.ensures.sound; bits = c.in_ok-extend_bits_from_tallied.ensures.ok }) in
-    rw c.in-Err.ensures.err (ranks_stayed c.requires.sound (undone bools_lawful (bools_sound s) h (rw c.len-start.ensures at c.truncate.ensures)))
+    rw c.in-Err.ensures.err (ranks_stayed c.requires.sound (undone bools_lawful (bools_sound s) h (rw c.len-start.ensures at c.truncate.ensures.cut)))
 
 pub returns-in-Err-clause-sound : goal.returns-in-Err-clause-sound
 returns-in-Err-clause-sound g c =
     let s = (ranks_parts c.requires.sound).bools in
     let h = bools_grew (record { sound = bools_parts c.extend_bits_from_tallied.ensures.sound; bits = c.in_ok-extend_bits_from_tallied.ensures.ok }) in
-    rw c.in-Err.ensures.err (ranks_stayed c.requires.sound (undone bools_lawful (bools_sound s) h (rw c.len-start.ensures at c.truncate.ensures))).sound
+    rw c.in-Err.ensures.err (ranks_stayed c.requires.sound (undone bools_lawful (bools_sound s) h (rw c.len-start.ensures at c.truncate.ensures.cut))).sound
 
 pub returns-in-Err-clause-turns : goal.returns-in-Err-clause-turns
 returns-in-Err-clause-turns g c =

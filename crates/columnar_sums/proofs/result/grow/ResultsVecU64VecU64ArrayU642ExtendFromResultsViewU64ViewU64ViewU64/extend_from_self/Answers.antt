@@ -82,7 +82,7 @@ returns-in-Err-clause-err g c =
     let p = results_clear_of g.V.Column.format g.W.Column.format x y z c.args.range.start c.rank-first.result c.rank-first.ensures.value (omega arith) in
     let q = results_clear_of g.V.Column.format g.W.Column.format x y z c.args.range.«end» c.rank-last.result c.rank-last.ensures.value c.requires.in_range in
     let k = results_parts g.SC.Column.format g.TC.Column.format c.requires.sound in
-    results_refused_errs_range g.SC.Column.format g.TC.Column.format g.V.Column.format g.W.Column.format x y z c.args.range.start c.args.range.«end» c.requires.sound c.requires.view_sound c.requires.ordered c.requires.in_range (unchanged k.bits) (undone g.met.SC.Truncate.lawful k.oks c.in_ok-extend_from_self.ensures.ok.took.grew (rw c.len-oks.ensures at c.truncate.ensures)) (rw (p, q) at c.in-Err.ensures.err)
+    results_refused_errs_range g.SC.Column.format g.TC.Column.format g.V.Column.format g.W.Column.format x y z c.args.range.start c.args.range.«end» c.requires.sound c.requires.view_sound c.requires.ordered c.requires.in_range (unchanged k.bits) (undone g.met.SC.Truncate.lawful k.oks c.in_ok-extend_from_self.ensures.ok.took.grew (rw c.len-oks.ensures at c.truncate.ensures.cut)) (rw (p, q) at c.in-Err.ensures.err)
 
 pub extend_from_self-requires-3-clause-in_range : goal.extend_from_self-requires-3-clause-in_range
 extend_from_self-requires-3-clause-in_range g c = omega (arith, length-map (ranks_bits (ranks_content view_bytes view_bytes view_bytes c.args.view.indexes)) truth, results_within g.V.Column.format g.W.Column.format (ranks_content view_bytes view_bytes view_bytes c.args.view.indexes) (g.V.Column.content c.args.view.oks) (g.W.Column.content c.args.view.errs) c.args.range.«end» c.requires.in_range)

@@ -30,7 +30,7 @@ truncate-requires-2-clause-in_range g c =
 pub truncate-requires-3-clause-in_range : goal.truncate-requires-3-clause-in_range
 truncate-requires-3-clause-in_range g c = omega (arith, length-map (ranks_bits (owned_ranks c.args.self.now.indexes)) truth, results_within g.SC.Column.format g.TC.Column.format (owned_ranks c.args.self.now.indexes) (g.SC.Column.content c.args.self.now.oks) (g.TC.Column.content c.args.self.now.errs) c.args.n c.requires.in_range)
 
-pub returns : goal.returns
-returns g c =
+pub returns-clause-cut : goal.returns-clause-cut
+returns-clause-cut g c =
     let e = results_clear_of g.SC.Column.format g.TC.Column.format (owned_ranks c.args.self.now.indexes) (g.SC.Column.content c.args.self.now.oks) (g.TC.Column.content c.args.self.now.errs) c.args.n c.rank-oks.result c.rank-oks.ensures.value c.requires.in_range in
-    results_cut g.SC.Column.format g.TC.Column.format c.requires.sound c.truncate-3.ensures (rw c.rank-oks.ensures.value at c.truncate.ensures) (rw e at c.truncate-2.ensures) c.requires.in_range
+    results_cut g.SC.Column.format g.TC.Column.format c.requires.sound c.truncate-3.ensures.cut (rw c.rank-oks.ensures.value at c.truncate.ensures.cut) (rw e at c.truncate-2.ensures.cut) c.requires.in_range

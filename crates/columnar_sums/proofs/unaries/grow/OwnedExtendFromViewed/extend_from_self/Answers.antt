@@ -21,7 +21,7 @@ loop-i-preserved c = took_more (unaries_format.rows (unaries_content view_bytes 
 pub returns-in-Err-clause-err : goal.returns-in-Err-clause-err
 returns-in-Err-clause-err c =
     refused_more (unaries_format.rows (unaries_content view_bytes view_bytes view_bytes c.args.view)) c.args.range.start c.loop-i.i c.args.range.«end» (word_row c.get.result) (unary_lawful ranks_format ranks_lawful) c.loop-i.auto.i c.loop-i-test.true c.get.ensures.row c.loop-i.invariant c.in-Err.ensures.err.cause
-    (undone {mid = owned_unaries c.push.new.self} (unary_lawful ranks_format ranks_lawful) c.requires.sound (grew_stayed {z = owned_unaries c.push.new.self} c.loop-i.invariant.grew c.in-Err.ensures.err.stayed) (rw c.len-before.ensures at c.truncate.ensures))
+    (undone {mid = owned_unaries c.push.new.self} (unary_lawful ranks_format ranks_lawful) c.requires.sound (grew_stayed {z = owned_unaries c.push.new.self} c.loop-i.invariant.grew c.in-Err.ensures.err.stayed) (rw c.len-before.ensures at c.truncate.ensures.cut))
 
 pub returns-clause-ok : goal.returns-clause-ok
 returns-clause-ok c =

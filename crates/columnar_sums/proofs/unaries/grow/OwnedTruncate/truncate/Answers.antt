@@ -5,5 +5,5 @@ use Rattle.columnar_sums.proofs.unaries.grow.OwnedTruncate.truncate.Goals as goa
 pub truncate-requires-clause-in_range : goal.truncate-requires-clause-in_range
 truncate-requires-clause-in_range c = rw c.cut_end-end.ensures (cut_within (le_bytes c.args.self.now.bits.counts.items) (le_bytes c.args.self.now.bits.values.values.items) (le_bytes c.args.self.now.bits.values.tail) c.args.n)
 
-pub returns : goal.returns
-returns c = unaries_cut {c = le_bytes c.args.self.now.bits.counts.items} {a = le_bytes c.args.self.now.bits.values.values.items} {b = le_bytes c.args.self.now.bits.values.tail} c.args.n c.cut_end-end.result c.requires.sound c.requires.in_range c.cut_end-end.ensures c.truncate.ensures
+pub returns-clause-cut : goal.returns-clause-cut
+returns-clause-cut c = unaries_cut {c = le_bytes c.args.self.now.bits.counts.items} {a = le_bytes c.args.self.now.bits.values.values.items} {b = le_bytes c.args.self.now.bits.values.tail} c.args.n c.cut_end-end.result c.requires.sound c.requires.in_range c.cut_end-end.ensures c.truncate.ensures.cut

@@ -9,7 +9,7 @@ use Rattle.columnar_base.specs.Tuples.{tuples}
 use Rattle.columnar_base.specs.TupleLaws.{length-tuples, length-piece, tuples-drop, tuples-take, pair_parts, pair_copied, pair_refused_left, pair_refused_right}
 use Rattle.columnar_base.specs.LongTuples.{nested, tuple_format, PartOf, Parts}
 use Rattle.columnar_base.specs.LongTupleLaws.{tuple_same, tuple_parts, under_took, under_copied, under_refused, up_to}
-use Rattle.columnar_base.specs.Room.{WasFull, Leaves, AddsRoom, pair_room}
+use Rattle.columnar_base.specs.Room.{WasFull, Leaves, Frees, AddsRoom, pair_room}
 use Rattle.columnar_base.specs.RoomLaws.{pair_leaves, pair_full_left, pair_full_right}
 use Rattle.columnar_base.specs.Entries.{Entry, pushed, piece, entry_pieces, HasPiece, HavePieces, Level, joined_entry, Entered}
 
@@ -131,3 +131,6 @@ copied_full x a' b' fs' start stop s (Err e) h = rw (views_rows a' b' fs' start 
 
 pub tuple_adds_room : (a b : Format) (fs : List Format) {c : Content} {x y : List Row → Type 0} → AddsRoom (nested a (b ∷ fs)) c x y → AddsRoom (tuple_format a b fs) c x y
 tuple_adds_room a b fs {c} p = record { adds = λ s rs h. p.adds ((tuple_same a b fs).back c s) rs h }
+
+pub tuple_frees : (a b : Format) (fs : List Format) {c : Content} {x y : List Row → Type 0} → Frees (nested a (b ∷ fs)) c x y → Frees (tuple_format a b fs) c x y
+tuple_frees a b fs {c} p = record { frees = λ s rs h. p.frees ((tuple_same a b fs).back c s) rs h }

@@ -5,7 +5,7 @@ ghost use Rattle.std.specs.Iterator.{IsFinite, HoldsAlong, Drains, Yields};
 ghost use Rattle.columnar_base.specs.Row.{Row};
 ghost use Rattle.columnar_base.specs.Format.{Content, Format, IsSound};
 ghost use Rattle.columnar_base.specs.Change.{Took, Refused, StoppedAt};
-ghost use Rattle.columnar_base.specs.Room.{WasFull, Leaves, KeepsRoom, AddsRoom};
+ghost use Rattle.columnar_base.specs.Room.{WasFull, Leaves, KeepsRoom, Frees};
 
 use crate::fault::GrowError;
 use crate::iter::IterOwn;
@@ -62,7 +62,7 @@ pub trait Clear: Column {
         ensures sound { IsSound Self.format (Self.content self.new) }
         ensures rows { Self.format.rows (Self.content self.new) ≡ [] }
         ensures room { KeepsRoom (Self.room self.old) (Self.room self.new) }
-        ensures freed { AddsRoom Self.format (Self.content self.old) (Self.room self.old) (Self.room self.new) };
+        ensures freed { Frees Self.format (Self.content self.old) (Self.room self.old) (Self.room self.new) };
 }
 
 /// A column that takes items of type `T`.

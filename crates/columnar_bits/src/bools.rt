@@ -39,6 +39,8 @@ impl<VC: Words, TC: Words> Column for Bools<VC, TC> {
     ghost format = { bools_format };
 
     ghost content = { bools_content VC.bytes TC.bytes };
+
+    ghost room = { λ b. count_room (length (bits_held VC.bytes TC.bytes b)) (bits_top (VC.capacity b.values)) };
 }
 
 /// Returns the number of bits of whole words and a tail.
@@ -74,10 +76,6 @@ pub fn bit_at(values: View<'_, u64>, tail: View<'_, u64>, index: usize) -> bool
     ensures { result ≡ slice_index_or (bits_in (view_bytes values.entry) (view_bytes tail.entry)) index false }
 {
     (word_or_tail(values, tail, index / 64) >> (index % 64)) & 1 == 1
-}
-
-impl Roomy for Bools<Vec<u64>, [u64; 2]> {
-    ghost room = { λ b. count_room (length (owned_bits b)) (bits_top (vec_capacity b.values)) };
 }
 
 impl<VC: Words, TC: Words> Len for Bools<VC, TC> {

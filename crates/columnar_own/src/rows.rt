@@ -116,6 +116,8 @@ impl<P: Column, K> Column for OwnRows<P, K> {
     ghost format = { P.format };
 
     ghost content = { λ c. P.content c.parts };
+
+    ghost room = { λ c. P.room c.parts };
 }
 
 impl<P: Len, K> Len for OwnRows<P, K> {

@@ -37,6 +37,8 @@ impl<CC: Count> Column for Empties<CC> {
     ghost format = { units_format };
 
     ghost content = { λ c. CC.held c.count };
+
+    ghost room = { λ c rs. Unit {0} };
 }
 
 impl<CC: Count> Len for Empties<CC> {

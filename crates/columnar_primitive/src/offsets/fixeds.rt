@@ -41,6 +41,8 @@ impl<const K: u64, CC: Words> Column for Fixeds<K, CC> {
     ghost format = { fixed_format K };
 
     ghost content = { λ c. slice (CC.bytes c.count) };
+
+    ghost room = { λ c rs. Unit {0} };
 }
 
 impl<const K: u64, CC: Words> Len for Fixeds<K, CC> {

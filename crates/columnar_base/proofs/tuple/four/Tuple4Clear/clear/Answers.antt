@@ -1,9 +1,9 @@
 -- Made by .ci/widths.py: change .ci/widths/answers.template, and not this file.
 use Rattle.std.proofs.Common.{[], ◌∷◌}
 use Rattle.columnar_base.specs.LongTupleLaws.{tuple_sound, no_rows}
-use Rattle.columnar_base.specs.RoomLaws.{pair_keeps_room, pair_adds_room}
+use Rattle.columnar_base.specs.RoomLaws.{pair_keeps_room, pair_frees}
 use Rattle.columnar_base.specs.LongTuples.{nested}
-use Rattle.columnar_base.specs.EntryLaws.{tuple_adds_room}
+use Rattle.columnar_base.specs.EntryLaws.{tuple_frees}
 use Rattle.columnar_base.proofs.tuple.four.Tuple4Clear.clear.Goals as goal
 
 pub returns-clause-sound : goal.returns-clause-sound
@@ -13,4 +13,4 @@ pub returns-clause-room : goal.returns-clause-room
 returns-clause-room g c = pair_keeps_room c.clear.ensures.room (pair_keeps_room c.clear-2.ensures.room (pair_keeps_room c.clear-3.ensures.room c.clear-4.ensures.room))
 
 pub returns-clause-freed : goal.returns-clause-freed
-returns-clause-freed g c = tuple_adds_room g.A.Column.format g.B.Column.format (g.C.Column.format ∷ g.D.Column.format ∷ []) (pair_adds_room g.A.Column.format (nested g.B.Column.format (g.C.Column.format ∷ g.D.Column.format ∷ [])) c.clear.ensures.freed (pair_adds_room g.B.Column.format (nested g.C.Column.format (g.D.Column.format ∷ [])) c.clear-2.ensures.freed (pair_adds_room g.C.Column.format (nested g.D.Column.format ([])) c.clear-3.ensures.freed c.clear-4.ensures.freed)))
+returns-clause-freed g c = tuple_frees g.A.Column.format g.B.Column.format (g.C.Column.format ∷ g.D.Column.format ∷ []) (pair_frees g.A.Column.format (nested g.B.Column.format (g.C.Column.format ∷ g.D.Column.format ∷ [])) c.clear.ensures.freed (pair_frees g.B.Column.format (nested g.C.Column.format (g.D.Column.format ∷ [])) c.clear-2.ensures.freed (pair_frees g.C.Column.format (nested g.D.Column.format ([])) c.clear-3.ensures.freed c.clear-4.ensures.freed)))

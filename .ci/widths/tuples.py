@@ -43,11 +43,12 @@ def halves(part, width, wide):
     return fill(f"let later = ⟨nest[{half}:]: {part}⟩;\n", width), fill(f"⟨nest[:{half + 1}]: {part} | later⟩", width)
 
 
-def nested_room(width, law, column, fact, first=0):
-    """Returns the proof of a fact about the room of nested parts, by a law for two parts; `column` is the type of a part."""
+def nested_room(width, law, column, fact, cut="", first=0):
+    """Returns the proof of a fact about the room of nested parts, by a law for two parts; `column` is the type of a part, `cut` the number of
+    rows that stay, if the law has one."""
     if first == width - 1:
         return fill(fact, width, [first])
-    text = f"({law} ⟨[:1]: g.{column}.Column.format⟩ (nested ⟨1+list[1:]: g.{column}.Column.format⟩) {fact} {nested_room(width, law, column, fact, first + 1)})"
+    text = f"({law} ⟨[:1]: g.{column}.Column.format⟩ (nested ⟨1+list[1:]: g.{column}.Column.format⟩) {cut}{fact} {nested_room(width, law, column, fact, cut, first + 1)})"
     return fill(text, width, range(first, width))
 
 
@@ -84,4 +85,4 @@ def made():
     for width in WIDTHS:
         yield f"crates/columnar_base/src/tuple/{NUMBERS[width]}.rt", "base", base(width)
         yield f"crates/columnar_core/src/tuple/{NUMBERS[width]}.rt", "core", core(width)
-    yield from answers("answers", lambda width: {"added": nested_room(width, "pair_adds_room", "$P", "c.add_room⟨[:1]: $-2⟩.ensures"), "freed": nested_room(width, "pair_frees", "$A", "c.clear⟨[:1]: $-2⟩.ensures.freed"), "reserved": reserved(width)})
+    yield from answers("answers", lambda width: {"added": nested_room(width, "pair_adds_room", "$P", "c.add_room⟨[:1]: $-2⟩.ensures"), "freed": nested_room(width, "pair_frees", "$A", "c.clear⟨[:1]: $-2⟩.ensures.freed", "0 "), "cut_freed": nested_room(width, "pair_frees", "$A", "c.truncate⟨[:1]: $-2⟩.ensures.freed", "c.args.n "), "reserved": reserved(width)})

@@ -132,5 +132,5 @@ copied_full x a' b' fs' start stop s (Err e) h = rw (views_rows a' b' fs' start 
 pub tuple_adds_room : (a b : Format) (fs : List Format) {c : Content} {x y : List Row → Type 0} → AddsRoom (nested a (b ∷ fs)) c x y → AddsRoom (tuple_format a b fs) c x y
 tuple_adds_room a b fs {c} p = record { adds = λ s rs h. p.adds ((tuple_same a b fs).back c s) rs h }
 
-pub tuple_frees : (a b : Format) (fs : List Format) {c : Content} {x y : List Row → Type 0} → Frees (nested a (b ∷ fs)) c x y → Frees (tuple_format a b fs) c x y
-tuple_frees a b fs {c} p = record { frees = λ s rs h. p.frees ((tuple_same a b fs).back c s) rs h }
+pub tuple_frees : (a b : Format) (fs : List Format) {c : Content} {x y : List Row → Type 0} (n : ℕ) → Frees (nested a (b ∷ fs)) c n x y → Frees (tuple_format a b fs) c n x y
+tuple_frees a b fs {c} n p = record { frees = λ s rs h. p.frees ((tuple_same a b fs).back c s) rs h }

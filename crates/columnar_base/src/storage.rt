@@ -3,7 +3,7 @@ ghost use Rattle.std.specs.Prelude.{◌≡◌, ℕ, ◌≤◌, ◌<◌, ◌↔�
 ghost use Rattle.columnar_base.specs.Row.{Row};
 ghost use Rattle.columnar_base.specs.Format.{Content, Format, IsSound, IsLawful};
 ghost use Rattle.columnar_base.specs.Change.{Stayed, WasCut};
-ghost use Rattle.columnar_base.specs.Room.{KeepsRoom};
+ghost use Rattle.columnar_base.specs.Room.{Frees, KeepsRoom};
 
 use crate::fault::GrowError;
 use crate::traits::{Clear, Column, Len};
@@ -12,7 +12,7 @@ use std::alloc::Global;
 /// A column that can be cut to its first rows. A column of several parts requires only this trait to roll a part back
 /// after another part refuses.
 pub trait Truncate: Len {
-    /// Keeps the first `n` rows and the capacity; allocates nothing.
+    /// Keeps the first `n` rows; allocates nothing. There is room for the removed rows again.
     ///
     /// # Requires
     /// A well-formed column of at least `n` rows.
@@ -20,7 +20,7 @@ pub trait Truncate: Len {
         requires sound { IsSound Self.format (Self.content self.old) }
         requires in_range { n ≤ length (Self.format.rows (Self.content self.old)) }
         ensures cut { WasCut Self.format (Self.content self.old) (Self.content self.new) n }
-        ensures room { KeepsRoom (Self.room self.old) (Self.room self.new) };
+        ensures freed { Frees Self.format (Self.content self.old) n (Self.room self.old) (Self.room self.new) };
 
     /// Keeps the first `n` rows; allocates nothing. Returns `None` and changes nothing if there are fewer than `n`
     /// rows.

@@ -5,7 +5,7 @@ ghost use Rattle.std.specs.Iterator.{IsFinite, HoldsAlong, Drains, Yields};
 ghost use Rattle.columnar_base.specs.Row.{Row};
 ghost use Rattle.columnar_base.specs.Format.{Content, Format, IsSound};
 ghost use Rattle.columnar_base.specs.Change.{Took, Refused, StoppedAt};
-ghost use Rattle.columnar_base.specs.Room.{WasFull, Leaves, KeepsRoom, Frees};
+ghost use Rattle.columnar_base.specs.Room.{WasFull, Leaves, Frees};
 
 use crate::fault::GrowError;
 use crate::iter::IterOwn;
@@ -56,13 +56,11 @@ pub trait Len: Column {
 
 /// A column that can be emptied.
 pub trait Clear: Column {
-    /// Removes all rows and leaves a well-formed column; allocates nothing. The capacity for the removed rows is free
-    /// again.
+    /// Removes all rows and leaves a well-formed column; allocates nothing. There is room for the removed rows again.
     fn clear(&mut self)
         ensures sound { IsSound Self.format (Self.content self.new) }
         ensures rows { Self.format.rows (Self.content self.new) ≡ [] }
-        ensures room { KeepsRoom (Self.room self.old) (Self.room self.new) }
-        ensures freed { Frees Self.format (Self.content self.old) (Self.room self.old) (Self.room self.new) };
+        ensures freed { Frees Self.format (Self.content self.old) 0 (Self.room self.old) (Self.room self.new) };
 }
 
 /// A column that takes items of type `T`.

@@ -1,5 +1,5 @@
 use Rattle.columnar_base.specs.TupleLaws.{pair_parts, pair_top, pair_cut}
-use Rattle.columnar_base.specs.RoomLaws.{pair_keeps_room}
+use Rattle.columnar_base.specs.RoomLaws.{pair_frees}
 use Rattle.columnar_base.proofs.tuple.Tuple2Truncate.truncate.Goals as goal
 
 pub truncate-requires : goal.truncate-requires
@@ -11,5 +11,5 @@ truncate-requires-2 g c = record { sound = (pair_parts g.A.Column.format g.B.Col
 pub returns-clause-cut : goal.returns-clause-cut
 returns-clause-cut g c = pair_cut g.A.Column.format g.B.Column.format c.requires.sound c.truncate.ensures.cut c.truncate-2.ensures.cut
 
-pub returns-clause-room : goal.returns-clause-room
-returns-clause-room g c = pair_keeps_room c.truncate.ensures.room c.truncate-2.ensures.room
+pub returns-clause-freed : goal.returns-clause-freed
+returns-clause-freed g c = pair_frees g.A.Column.format g.B.Column.format c.args.n c.truncate.ensures.freed c.truncate-2.ensures.freed

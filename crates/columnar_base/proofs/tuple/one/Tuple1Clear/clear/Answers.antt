@@ -11,4 +11,4 @@ pub returns-clause-rows : goal.returns-clause-rows
 returns-clause-rows g c = ap solos c.clear.ensures.rows
 
 pub returns-clause-freed : goal.returns-clause-freed
-returns-clause-freed g c = solo_frees g.A.Column.format c.clear.ensures.freed
+returns-clause-freed g c = solo_frees g.A.Column.format 0 c.clear.ensures.freed

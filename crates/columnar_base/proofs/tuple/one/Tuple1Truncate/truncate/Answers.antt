@@ -1,5 +1,6 @@
 use Rattle.std.proofs.Common.{arith}
 use Rattle.columnar_base.specs.SoloLaws.{solo_part, solo_length, solo_cut}
+use Rattle.columnar_base.specs.RoomLaws.{solo_frees}
 use Rattle.columnar_base.proofs.tuple.one.Tuple1Truncate.truncate.Goals as goal
 
 pub truncate-requires : goal.truncate-requires
@@ -7,3 +8,6 @@ truncate-requires g c = record { sound = solo_part g.A.Column.format c.requires.
 
 pub returns-clause-cut : goal.returns-clause-cut
 returns-clause-cut g c = solo_cut g.A.Column.format c.args.n c.truncate.ensures.cut
+
+pub returns-clause-freed : goal.returns-clause-freed
+returns-clause-freed g c = solo_frees g.A.Column.format c.args.n c.truncate.ensures.freed

@@ -465,7 +465,8 @@ impl Reserve for Bools<Vec<u64>, [u64; 2]> {
             return Err(GrowError::Memory);
         }
         let (_, have) = tail_parts(self.tail.words());
-        self.values.reserve(room / 64 + (room % 64 + have as usize) / 64)?;
+        self.values
+            .reserve(room / 64 + (room % 64 + have as usize) / 64)?;
         Ok(())
     }
 }

@@ -53,3 +53,4 @@ pub use Rattle.columnar_base.specs.May
 pub use Rattle.columnar_base.specs.MayLaws
 pub mod LentLaws
 pub mod RoomViews
+pub mod OffsetRoomLaws

@@ -1,10 +1,10 @@
 //! Columns of offsets: the bounds of lists and strings.
-ghost use Rattle.std.specs.Prelude.{◌≡◌, ℕ, ◌+◌, ◌-◌, ◌*◌, ◌^◌, ◌<◌, ◌≤◌, ◌∷◌, [], List, length, take, drop, slice_get, Some, IsTrue, OnOk, IfErr};
+ghost use Rattle.std.specs.Prelude.{◌≡◌, ℕ, ◌+◌, ◌-◌, ◌*◌, ◌^◌, ◌<◌, ◌≤◌, ◌∷◌, ◌++◌, [], List, length, take, drop, slice_get, Some, IsTrue, OnOk, IfErr};
 ghost use Rattle.columnar_base.specs.Row.{Row, number};
 ghost use Rattle.columnar_base.specs.Format.{IsSound, Fits, bytes_held, representable};
 ghost use Rattle.columnar_base.specs.Elements.{word_row};
 ghost use Rattle.columnar_base.specs.Change.{Refused, Took};
-ghost use Rattle.columnar_base.specs.Room.{WasFull, Leaves};
+ghost use Rattle.columnar_base.specs.Room.{WasFull, Leaves, KeepsRoom};
 ghost use Rattle.columnar_core.specs.Bounds.{rises, numbers, last_or, shifted, IsBounds};
 ghost use Rattle.columnar_core.specs.Store.{slices_in};
 
@@ -120,8 +120,17 @@ pub trait PushAfter: Column {
         ensures left { OnOk result (Leaves (Self.room self.old) (Self.room self.new) (word_row offset ∷ [])) };
 }
 
+/// A column of offsets whose reserved capacity is for offsets from any start.
+pub trait ReserveOffsets: Reserve {
+    // a column with the capacity has room for the offsets, shifted to follow its last one
+    ghost follow: { (column : Self) (room : Self.Room) (last : ℕ) (os : List Row) → last ≡ last_or 0 (numbers (Self.format.rows (Self.content column))) → KeepsRoom (Self.covers room) (Self.room column) → Self.covers room os → Self.room column (shifted 0 last (numbers os)) };
+
+    // capacity for any offsets and then for others is also for these, shifted to follow the last one
+    ghost add: { (room more : Self.Room) (os others : List Row) → ((xs : List Row) → Self.covers room xs → Self.covers more (xs ++ others)) → Self.covers room os → Self.covers more (os ++ shifted 0 (last_or 0 (numbers os)) (numbers others)) };
+}
+
 /// A column of offsets that takes those of views of type `W`, shifted to follow its own.
-pub trait ExtendShifted<W: Offsets>: Reserve {
+pub trait ExtendShifted<W: Offsets>: ReserveOffsets {
     /// Appends the offsets of the range, shifted by `start - lower`, or none. `lower` is the offset before the range,
     /// `start` the column's last one. Counts a step in the tally for each offset that it reads one by one.
     ///
@@ -151,9 +160,6 @@ pub trait ExtendShifted<W: Offsets>: Reserve {
         ensures wanted { IfErr result (WasFull (Self.room self.old) (take (range.«end» - range.start) (drop range.start (shifted lower start (numbers (W.format.rows (W.content view.now))))))) }
         ensures left { OnOk result (Leaves (Self.room self.old) (Self.room self.new) (take (range.«end» - range.start) (drop range.start (shifted lower start (numbers (W.format.rows (W.content view.now))))))) }
         ensures turns { tally.new.turns ≤ tally.old.turns + (range.«end» - range.start) };
-
-    // room for offsets is room for as many others
-    ghost by_number: { (room : Self.Room) (rs ss : List Row) → length rs ≡ length ss → Self.covers room rs → Self.covers room ss };
 }
 
 /// Does what `extend_shifted_tallied` does, by a push for each offset, for columns that take any offset at the end.

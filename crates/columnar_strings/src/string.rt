@@ -28,7 +28,7 @@ use columnar_core::bytes::{AsBytes, Check, FromBytes, Stored};
 use columnar_core::container::{
     Borrow, Container, ContainerBytes, ExtendFrom, Named, Reborrow, Reserve, Storage, Truncate,
 };
-use columnar_core::offsets::{ExtendShifted, Offsets, PushAfter, StoredOffsets};
+use columnar_core::offsets::{ExtendShifted, Offsets, PushAfter, ReserveOffsets, StoredOffsets};
 use columnar_core::store::DecodedStore;
 use columnar_core::two::{byte_slice_of_two, slice_of_two};
 use columnar_core::vector::elements_between;
@@ -57,7 +57,7 @@ impl<BC: Column, VC: Column> Column for Strings<BC, VC> {
 
     ghost content = { λ s. both (BC.content s.bounds) (VC.content s.values) };
 
-    ghost room = { λ s. lists_room (BC.room s.bounds) (VC.room s.values) };
+    ghost room = { λ s. lists_room (BC.room s.bounds) (VC.room s.values) (length (VC.format.rows (VC.content s.values))) };
 }
 
 impl<BC: Len, VC: Column> Len for Strings<BC, VC> {
@@ -128,7 +128,7 @@ impl<'a, BC: Offsets> Strings<BC, &'a [u8]> {
     }
 }
 
-impl<BC: Clear, VC: Clear> Clear for Strings<BC, VC> {
+impl<BC: Clear + Offsets, VC: Clear> Clear for Strings<BC, VC> {
     fn clear(&mut self) {
         self.bounds.clear();
         self.values.clear();
@@ -157,12 +157,12 @@ impl<BC: Storage + Offsets, VC: Storage> Storage for Strings<BC, VC> {
     }
 }
 
-impl<BC: Reserve, VC: Reserve> Reserve for Strings<BC, VC> {
+impl<BC: ReserveOffsets, VC: Reserve> Reserve for Strings<BC, VC> {
     type Room = (BC::Room, VC::Room);
 
     ghost reserves = { BC.reserves × VC.reserves };
 
-    ghost covers = { λ r. lists_room (BC.covers r.0) (VC.covers r.1) };
+    ghost covers = { λ r. lists_room (BC.covers r.0) (VC.covers r.1) 0 };
 
     fn no_room() -> (BC::Room, VC::Room) {
         (BC::no_room(), VC::no_room())

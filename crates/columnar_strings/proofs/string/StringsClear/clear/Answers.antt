@@ -1,5 +1,6 @@
-use Rattle.columnar_lists.specs.RoomLaws.{lists_keep_room}
+use Rattle.std.proofs.Common.{length, refl, ap}
+use Rattle.columnar_lists.specs.RoomLaws.{lists_free}
 use Rattle.columnar_strings.proofs.string.StringsClear.clear.Goals as goal
 
-pub returns-clause-room : goal.returns-clause-room
-returns-clause-room g c = lists_keep_room _ _ _ _ c.clear.ensures.room c.clear-2.ensures.room
+pub returns-clause-freed : goal.returns-clause-freed
+returns-clause-freed g c = lists_free g.BC.Column.format g.VC.Column.format 0 0 _ g.met.BC.Offsets.bounds.are_numbers refl (ap length c.clear-2.ensures.rows) c.clear.ensures.freed c.clear-2.ensures.freed

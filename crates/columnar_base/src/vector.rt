@@ -95,7 +95,7 @@ impl<T: Element> Reserve for Vec<T> {
     }
 
     fn reserve_room(&mut self, room: usize) -> Result<(), GrowError> {
-        // (so many elements no memory has: the sum of what was asked for may have been cut to that)
+        // no memory has so many elements: a saturated sum
         if room == usize::MAX {
             return Err(GrowError::Memory);
         }

@@ -458,9 +458,9 @@ impl Reserve for Bools<Vec<u64>, [u64; 2]> {
         0
     }
 
-    /// Room for so many bits: for the words that they fill with the bits of the tail.
+    /// Reserves capacity for `room` bits: for the words that they fill with the bits of the tail.
     fn reserve_room(&mut self, room: usize) -> Result<(), GrowError> {
-        // (so many bits no column holds: the sum of what was asked for may have been cut to that)
+        // no column has so many bits: a saturated sum
         if room == usize::MAX {
             return Err(GrowError::Memory);
         }

@@ -13,7 +13,7 @@ use crate::container::{Reserve, Truncate};
 use crate::store::DecodedStore;
 use columnar_base::fault::GrowError;
 use columnar_base::tally::Tally;
-use columnar_base::traits::{Len, Push};
+use columnar_base::traits::{Column, Len, Push};
 use std::ops::Range;
 
 /// A column of offsets: the ends of consecutive lists.

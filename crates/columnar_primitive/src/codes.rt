@@ -6,7 +6,7 @@ ghost use Rattle.columnar_core.specs.Store.{slices_in};
 ghost use Rattle.columnar_primitive.specs.Mapped.{all_pass, mapped_format};
 ghost use Rattle.columnar_primitive.specs.MappedLaws.{mapped_lawful, mapped_storable, same_mapped};
 
-use crate::flat::Flat;
+use crate::flat::{Flat, ReserveFlat};
 use crate::rule::{Rule, all_fit, all_fit_in};
 use columnar_core::byte_slice::ByteSlice;
 use columnar_core::bytes::{AsBytes, Check, FromBytes, Stored};
@@ -65,6 +65,8 @@ impl<CV: Column, T: Coded> Column for Codes<CV, T> {
     ghost format = { mapped_format CV.format T.row_of T.is_code };
 
     ghost content = { λ c. CV.content c.values };
+
+    ghost room = { λ c. CV.room c.values };
 }
 
 impl<CV: Len, T: Coded> Len for Codes<CV, T> {
@@ -140,8 +142,12 @@ impl<CV: Storage, T: Coded> Storage for Codes<CV, T> {
     }
 }
 
-impl<CV: Reserve, T: Coded> Reserve for Codes<CV, T> {
+impl<CV: ReserveFlat, T: Coded> Reserve for Codes<CV, T> {
     type Room = CV::Room;
+
+    ghost reserves = { CV.reserves };
+
+    ghost covers = { CV.covers };
 
     fn no_room() -> CV::Room {
         CV::no_room()
@@ -152,7 +158,7 @@ impl<CV: Reserve, T: Coded> Reserve for Codes<CV, T> {
     }
 }
 
-impl<T: Coded, V: Column + Copy, CV: Flat + ExtendFrom<V>> ExtendFrom<Codes<V, T>>
+impl<T: Coded, V: Column + Copy, CV: Flat + ReserveFlat + ExtendFrom<V>> ExtendFrom<Codes<V, T>>
     for Codes<CV, T> {
     fn add_room(room: CV::Room, view: Codes<V, T>) -> CV::Room {
         CV::add_room(room, view.values)
@@ -184,7 +190,8 @@ impl<'a, T: Coded, CV: Borrow<'a, Ref = T::Code>> Borrow<'a> for Codes<CV, T> {
     }
 }
 
-impl<'a, T: Coded, CV: Flat + Container<'a, Ref = T::Code>> Container<'a> for Codes<CV, T> {}
+impl<'a, T: Coded, CV: Flat + ReserveFlat + Container<'a, Ref = T::Code>> Container<'a>
+    for Codes<CV, T> {}
 
 impl<'b, T: Coded, V: Reborrow<'b>> Reborrow<'b> for Codes<V, T> {
     type Short = Codes<V::Short, T>;

@@ -4,11 +4,12 @@ ghost use Rattle.std.specs.Duration.{as_nanos};
 ghost use Rattle.columnar_base.specs.Row.{duration};
 ghost use Rattle.columnar_base.specs.Format.{both, IsSound, slices_of};
 ghost use Rattle.columnar_base.specs.Change.{Refused, Took};
+ghost use Rattle.columnar_core.specs.Room.{WasFull, Leaves};
 ghost use Rattle.columnar_base.specs.TwoPartsLaws.{two_counted};
 ghost use Rattle.columnar_primitive.specs.Durations.{durations_format, is_part_second};
 ghost use Rattle.columnar_primitive.specs.DurationLaws.{durations_lawful, durations_storable, same_durations};
 
-use crate::flat::Flat;
+use crate::flat::{Flat, ReserveFlat};
 use crate::rule::{Rule, all_fit, all_fit_in};
 use columnar_core::byte_slice::ByteSlice;
 use columnar_core::bytes::{AsBytes, Check, FromBytes, Stored};
@@ -53,6 +54,8 @@ impl<SC: Column, NC: Column> Column for Durations<SC, NC> {
     ghost format = { durations_format SC.format NC.format };
 
     ghost content = { λ c. both (SC.content c.seconds) (NC.content c.nanoseconds) };
+
+    ghost room = { λ c rs. SC.room c.seconds rs × NC.room c.nanoseconds rs };
 }
 
 impl<SC: Len, NC: Len> Len for Durations<SC, NC> {
@@ -125,8 +128,12 @@ impl<SC: Storage, NC: Storage> Storage for Durations<SC, NC> {
     }
 }
 
-impl<SC: Reserve, NC: Reserve> Reserve for Durations<SC, NC> {
+impl<SC: ReserveFlat, NC: ReserveFlat> Reserve for Durations<SC, NC> {
     type Room = (SC::Room, NC::Room);
+
+    ghost reserves = { SC.reserves × NC.reserves };
+
+    ghost covers = { λ r rs. SC.covers r.0 rs × NC.covers r.1 rs };
 
     fn no_room() -> (SC::Room, NC::Room) {
         (SC::no_room(), NC::no_room())
@@ -151,6 +158,8 @@ impl<SC: Flat + Truncate + Push<u64>, NC: Flat + Push<u32>> Durations<SC, NC> {
         requires short { nanoseconds < 1000000000 }
         ensures ok { OnOk result (Took (durations_format SC.format NC.format) (both (SC.content self.old.seconds) (NC.content self.old.nanoseconds)) (both (SC.content self.new.seconds) (NC.content self.new.nanoseconds)) (duration seconds nanoseconds ∷ [])) }
         ensures err { IfErr result (λ e. Refused (durations_format SC.format NC.format) (both (SC.content self.old.seconds) (NC.content self.old.nanoseconds)) (both (SC.content self.new.seconds) (NC.content self.new.nanoseconds)) (duration seconds nanoseconds ∷ []) e) }
+        ensures wanted { IfErr result (WasFull (λ rs. SC.room self.old.seconds rs × NC.room self.old.nanoseconds rs) (duration seconds nanoseconds ∷ [])) }
+        ensures left { OnOk result (Leaves (λ rs. SC.room self.old.seconds rs × NC.room self.old.nanoseconds rs) (λ rs. SC.room self.new.seconds rs × NC.room self.new.nanoseconds rs) (duration seconds nanoseconds ∷ [])) }
     {
         let before = self.seconds.len();
         self.seconds.push(seconds)?;
@@ -187,8 +196,8 @@ impl<SC: Flat + Truncate + Push<u64>, NC: Flat + Push<u32>> PushRef<Duration>
 impl<
     V: Column + Copy,
     W: Column + Copy,
-    SC: Flat + ExtendFrom<V>,
-    NC: Flat + ExtendFrom<W>,
+    SC: Flat + ReserveFlat + ExtendFrom<V>,
+    NC: Flat + ReserveFlat + ExtendFrom<W>,
 > ExtendFrom<Durations<V, W>> for Durations<SC, NC> {
     fn add_room(room: (SC::Room, NC::Room), view: Durations<V, W>) -> (SC::Room, NC::Room) {
         (
@@ -238,8 +247,11 @@ impl<'a, SC: Borrow<'a, Ref = u64>, NC: Borrow<'a, Ref = u32>> Borrow<'a> for Du
     }
 }
 
-impl<'a, SC: Flat + Container<'a, Ref = u64>, NC: Flat + Container<'a, Ref = u32>> Container<'a>
-    for Durations<SC, NC> {}
+impl<
+    'a,
+    SC: Flat + ReserveFlat + Container<'a, Ref = u64>,
+    NC: Flat + ReserveFlat + Container<'a, Ref = u32>,
+> Container<'a> for Durations<SC, NC> {}
 
 impl<'b, V: Reborrow<'b>, W: Reborrow<'b>> Reborrow<'b> for Durations<V, W> {
     type Short = Durations<V::Short, W::Short>;

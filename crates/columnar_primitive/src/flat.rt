@@ -1,11 +1,13 @@
 //! Columns that store each row in bytes of its own, in one slice.
-ghost use Rattle.std.specs.Prelude.{◌≡◌, ◌+◌, ◌<◌, length, drop, slice_get, Some, IsTrue, refl};
+ghost use Rattle.std.specs.Prelude.{◌≡◌, ◌+◌, ◌<◌, List, length, drop, slice_get, Some, IsTrue, refl};
+ghost use Rattle.columnar_base.specs.Row.{Row};
 ghost use Rattle.columnar_base.specs.Format.{Fits, representable};
 ghost use Rattle.columnar_core.specs.Store.{slices_in};
 ghost use Rattle.columnar_primitive.specs.Mapped.{IsFlat};
 ghost use Rattle.columnar_primitive.specs.MappedLaws.{elements_flat};
 
 use columnar_core::bytes::Stored;
+use columnar_core::container::Reserve;
 use columnar_core::element::Element;
 use columnar_core::store::DecodedStore;
 use columnar_core::traits::Index;
@@ -28,12 +30,26 @@ pub trait Flat: Index + Stored {
 
     // its validation takes no steps
     ghost still: { Self.format.turns ≡ 0 };
+
+    // its room depends only on the number of rows
+    ghost counted_room: { (column : Self) (rs ss : List Row) → length rs ≡ length ss → Self.room column rs → Self.room column ss };
+}
+
+/// A flat column that reserves capacity for a number of rows.
+pub trait ReserveFlat: Reserve {
+    ghost counted_covers: { (room : Self.Room) (rs ss : List Row) → length rs ≡ length ss → Self.covers room rs → Self.covers room ss };
+}
+
+impl<T: Element> ReserveFlat for Vec<T> {
+    ghost counted_covers = { λ room rs ss e h. rw e at h };
 }
 
 impl<T: Element> Flat for Vec<T> {
     ghost flat = { elements_flat T.size T.align T.row_of T.element.positive };
 
     ghost still = { refl };
+
+    ghost counted_room = { λ v rs ss e h. rw e at h };
 
     fn row_in(store: &DecodedStore<'_>, offset: usize, index: usize) -> T {
         element_in(store.get(offset), index)
@@ -44,6 +60,8 @@ impl<'v, T: Element> Flat for View<'v, T> {
     ghost flat = { elements_flat T.size T.align T.row_of T.element.positive };
 
     ghost still = { refl };
+
+    ghost counted_room = { λ v rs ss e h. h };
 
     fn row_in(store: &DecodedStore<'_>, offset: usize, index: usize) -> T {
         Vec::<T>::row_in(store, offset, index)

@@ -33,3 +33,5 @@ pub mod EarlierSumLaws
 pub mod PackedLaws
 pub mod MaySums
 pub mod MaySumLaws
+pub mod Rooms
+

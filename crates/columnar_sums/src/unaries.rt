@@ -44,6 +44,8 @@ impl<CC: Words, VC: Words, WC: Words> Column for Unaries<CC, VC, WC> {
     ghost format = { unaries_format };
 
     ghost content = { unaries_content CC.bytes VC.bytes WC.bytes };
+
+    ghost room = { λ c rs. ⊥ };
 }
 
 impl<CC: Words, VC: Words, WC: Words> Len for Unaries<CC, VC, WC> {

@@ -36,7 +36,7 @@ impl<C: Stored + Storage, B: ByteStore> Clear for Stash<C, B> {
 }
 
 impl<T: Item + Drop, C: ContainerBytes + Drop + Push<T>, B: ByteStore> Push<T> for Stash<C, B> {
-    ghost use Rattle.columnar_bytes.specs.Stashes.{stash_content, variant_of, typed};
+    ghost use Rattle.columnar_bytes.specs.Stashes.{stash_content, stash_room, variant_of, typed};
 
     /// Pushes to the column; bytes are first loaded.
     ///
@@ -50,6 +50,8 @@ impl<T: Item + Drop, C: ContainerBytes + Drop + Push<T>, B: ByteStore> Push<T> f
         requires valid { T.valid item }
         ensures ok { OnOk result (Took C.format (stash_content self.old) (stash_content self.new) (T.meaning item ∷ [])) }
         ensures err { IfErr result (λ e. Refused C.format (stash_content self.old) (stash_content self.new) (T.meaning item ∷ []) e) }
+        ensures wanted { IfErr result (WasFull (stash_room self.old) (T.meaning item ∷ [])) }
+        ensures left { OnOk result (Leaves (stash_room self.old) (stash_room self.new) (T.meaning item ∷ [])) }
         ensures typed { OnOk result (variant_of self.new ≡ typed) }
         ensures variant { OnErr result (variant_of self.new ≡ variant_of self.old) }
         ensures bytes { OnErr result (variant_of self.old ≢ typed → self.new ≡ self.old) }
@@ -65,7 +67,7 @@ impl<T: Item + Drop, C: ContainerBytes + Drop + Push<T>, B: ByteStore> Push<T> f
 }
 
 impl<T: Item, C: ContainerBytes + Drop + PushRef<T>, B: ByteStore> PushRef<T> for Stash<C, B> {
-    ghost use Rattle.columnar_bytes.specs.Stashes.{stash_content, variant_of, typed};
+    ghost use Rattle.columnar_bytes.specs.Stashes.{stash_content, stash_room, variant_of, typed};
 
     /// Pushes by reference, as a push of `&T` does.
     ///
@@ -79,6 +81,8 @@ impl<T: Item, C: ContainerBytes + Drop + PushRef<T>, B: ByteStore> PushRef<T> fo
         requires valid { T.valid item.now }
         ensures ok { OnOk result (Took C.format (stash_content self.old) (stash_content self.new) (T.meaning item.now ∷ [])) }
         ensures err { IfErr result (λ e. Refused C.format (stash_content self.old) (stash_content self.new) (T.meaning item.now ∷ []) e) }
+        ensures wanted { IfErr result (WasFull (stash_room self.old) (T.meaning item.now ∷ [])) }
+        ensures left { OnOk result (Leaves (stash_room self.old) (stash_room self.new) (T.meaning item.now ∷ [])) }
         ensures typed { OnOk result (variant_of self.new ≡ typed) }
         ensures variant { OnErr result (variant_of self.new ≡ variant_of self.old) }
         ensures bytes { OnErr result (variant_of self.old ≢ typed → self.new ≡ self.old) }

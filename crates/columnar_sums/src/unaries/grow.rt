@@ -2,6 +2,7 @@
 ghost use Rattle.std.specs.Prelude.{◌≡◌, ℕ, ◌+◌, ◌-◌, ◌*◌, ◌/◌, ◌%◌, ◌^◌, ◌<◌, ◌≤◌, [], ◌∷◌, ◌++◌, length, take, drop, slice_get, slice_range, Some, true, OnOk, OnErr, IfErr, refl};
 ghost use Rattle.columnar_core.specs.Format.{IsSound};
 ghost use Rattle.columnar_core.specs.Change.{Stayed, Took, Copied, Refused};
+ghost use Rattle.columnar_core.specs.Room.{WasFull, Leaves};
 ghost use Rattle.columnar_core.specs.Row.{number};
 ghost use Rattle.columnar_core.specs.Elements.{word_row};
 ghost use Rattle.columnar_core.specs.WordViews.{words_in, le_bytes, view_bytes};
@@ -22,9 +23,9 @@ use columnar_core::container::{
     Borrow, Container, ExtendFrom, Reborrow, Reserve, Storage, Truncate,
 };
 use columnar_core::fault::GrowError;
-use columnar_core::offsets::{ExtendShifted, PushAfter};
+use columnar_core::offsets::{ExtendShifted, PushAfter, ReserveOffsets};
 use columnar_core::tally::Tally;
-use columnar_core::traits::{Clear, Index, Len, Push, PushRef};
+use columnar_core::traits::{Clear, Column, Index, Len, Push, PushRef};
 use columnar_core::view::View;
 use std::alloc::Global;
 use std::ops::Range;
@@ -285,6 +286,8 @@ impl PushAfter for Owned {
         requires last { last_offset (owned_unaries self.old) ≡ last }
         ensures ok { OnOk result (Took unaries_format (owned_unaries self.old) (owned_unaries self.new) (word_row offset ∷ [])) }
         ensures err { IfErr result (λ e. Refused unaries_format (owned_unaries self.old) (owned_unaries self.new) (word_row offset ∷ []) e) }
+        ensures wanted { IfErr result (WasFull (⟦<Owned as Column>⟧.room self.old) (word_row offset ∷ [])) }
+        ensures left { OnOk result (Leaves (⟦<Owned as Column>⟧.room self.old) (⟦<Owned as Column>⟧.room self.new) (word_row offset ∷ [])) }
         ensures offset { offset < last → result ≡ Err GrowError.Offset }
         ensures full { last ≤ offset → 2 ^ 64 ≤ length (ranked_bits self.old.bits) + (offset - last) + 1 → result ≡ Err GrowError.Length }
     {
@@ -309,6 +312,8 @@ impl Push<u64> for Owned {
         requires sound { IsSound unaries_format (owned_unaries self.old) }
         ensures ok { OnOk result (Took unaries_format (owned_unaries self.old) (owned_unaries self.new) (word_row item ∷ [])) }
         ensures err { IfErr result (λ e. Refused unaries_format (owned_unaries self.old) (owned_unaries self.new) (word_row item ∷ []) e) }
+        ensures wanted { IfErr result (WasFull (⟦<Owned as Column>⟧.room self.old) (word_row item ∷ [])) }
+        ensures left { OnOk result (Leaves (⟦<Owned as Column>⟧.room self.old) (⟦<Owned as Column>⟧.room self.new) (word_row item ∷ [])) }
         ensures offset { item < last_offset (owned_unaries self.old) → result ≡ Err GrowError.Offset }
         ensures full { last_offset (owned_unaries self.old) ≤ item → 2 ^ 64 ≤ length (ranked_bits self.old.bits) + (item - last_offset (owned_unaries self.old)) + 1 → result ≡ Err GrowError.Length }
     {
@@ -322,6 +327,8 @@ impl<'x> Push<&'x u64> for Owned {
         requires sound { IsSound unaries_format (owned_unaries self.old) }
         ensures ok { OnOk result (Took unaries_format (owned_unaries self.old) (owned_unaries self.new) (word_row item.now ∷ [])) }
         ensures err { IfErr result (λ e. Refused unaries_format (owned_unaries self.old) (owned_unaries self.new) (word_row item.now ∷ []) e) }
+        ensures wanted { IfErr result (WasFull (⟦<Owned as Column>⟧.room self.old) (word_row item.now ∷ [])) }
+        ensures left { OnOk result (Leaves (⟦<Owned as Column>⟧.room self.old) (⟦<Owned as Column>⟧.room self.new) (word_row item.now ∷ [])) }
         ensures offset { item.now < last_offset (owned_unaries self.old) → result ≡ Err GrowError.Offset }
         ensures full { last_offset (owned_unaries self.old) ≤ item.now → 2 ^ 64 ≤ length (ranked_bits self.old.bits) + (item.now - last_offset (owned_unaries self.old)) + 1 → result ≡ Err GrowError.Length }
     {
@@ -334,6 +341,8 @@ impl PushRef<u64> for Owned {
         requires sound { IsSound unaries_format (owned_unaries self.old) }
         ensures ok { OnOk result (Took unaries_format (owned_unaries self.old) (owned_unaries self.new) (word_row item.now ∷ [])) }
         ensures err { IfErr result (λ e. Refused unaries_format (owned_unaries self.old) (owned_unaries self.new) (word_row item.now ∷ []) e) }
+        ensures wanted { IfErr result (WasFull (⟦<Owned as Column>⟧.room self.old) (word_row item.now ∷ [])) }
+        ensures left { OnOk result (Leaves (⟦<Owned as Column>⟧.room self.old) (⟦<Owned as Column>⟧.room self.new) (word_row item.now ∷ [])) }
         ensures offset { item.now < last_offset (owned_unaries self.old) → result ≡ Err GrowError.Offset }
         ensures full { last_offset (owned_unaries self.old) ≤ item.now → 2 ^ 64 ≤ length (ranked_bits self.old.bits) + (item.now - last_offset (owned_unaries self.old)) + 1 → result ≡ Err GrowError.Length }
     {
@@ -370,19 +379,23 @@ impl Storage for Owned {
 }
 
 impl Reserve for Owned {
-    type Room = (usize, usize);
+    type Room = usize;
 
-    fn no_room() -> (usize, usize) {
-        (0, 0)
+    ghost reserves = { ⊥ };
+
+    ghost covers = { λ r rs. ⊥ };
+
+    fn no_room() -> usize {
+        0
     }
 
-    fn reserve_room(&mut self, room: (usize, usize)) -> Result<(), GrowError> {
+    fn reserve_room(&mut self, room: usize) -> Result<(), GrowError> {
         self.bits.reserve_room(room)
     }
 }
 
 impl<'x> ExtendFrom<Viewed<'x>> for Owned {
-    fn add_room(room: (usize, usize), view: Viewed<'x>) -> (usize, usize) {
+    fn add_room(room: usize, view: Viewed<'x>) -> usize {
         Held::add_room(room, view.bits)
     }
 
@@ -400,6 +413,8 @@ impl<'x> ExtendFrom<Viewed<'x>> for Owned {
         requires in_range { range.«end» ≤ length (unaries_format.rows (unaries_content view_bytes view_bytes view_bytes view)) }
         ensures ok { OnOk result (Copied unaries_format (owned_unaries self.old) (owned_unaries self.new) range.start (take (range.«end» - range.start) (drop range.start (unaries_format.rows (unaries_content view_bytes view_bytes view_bytes view.entry))))) }
         ensures err { IfErr result (λ e. Refused unaries_format (owned_unaries self.old) (owned_unaries self.new) (take (range.«end» - range.start) (drop range.start (unaries_format.rows (unaries_content view_bytes view_bytes view_bytes view.entry)))) e) }
+        ensures wanted { IfErr result (WasFull (⟦<Owned as Column>⟧.room self.old) (take (range.«end» - range.start) (drop range.start (unaries_format.rows (unaries_content view_bytes view_bytes view_bytes view.entry))))) }
+        ensures left { OnOk result (Leaves (⟦<Owned as Column>⟧.room self.old) (⟦<Owned as Column>⟧.room self.new) (take (range.«end» - range.start) (drop range.start (unaries_format.rows (unaries_content view_bytes view_bytes view_bytes view.entry))))) }
         ensures offset { (n : ℕ) → range.start < range.«end» → slice_get (unaries_format.rows (unaries_content view_bytes view_bytes view_bytes view.entry)) range.start ≡ Some (number n) → n < last_offset (owned_unaries self.old) → result ≡ Err GrowError.Offset }
     {
         let before = self.len();
@@ -414,6 +429,12 @@ impl<'x> ExtendFrom<Viewed<'x>> for Owned {
         }
         Ok(())
     }
+}
+
+impl ReserveOffsets for Owned {
+    ghost follow = { λ column room last os e h c. c };
+
+    ghost add = { λ room more os others f c. c };
 }
 
 /// The bits of the range are copied at once: bits between two set bits do not depend on what precedes them. The steps

@@ -2,13 +2,13 @@
 ghost use Rattle.std.specs.Prelude.{◌≡◌, ℕ, ◌+◌, ◌-◌, ◌*◌, ◌/◌, ◌%◌, ◌^◌, ◌<◌, ◌≤◌, [], ◌∷◌, ◌++◌, length, vec_len, vec_capacity, slice_index_or, slice_range, false, OnOk, OnErr, IfErr, IsOk, refl};
 ghost use Rattle.columnar_core.specs.Row.{truth};
 ghost use Rattle.columnar_core.specs.Format.{IsSound};
-ghost use Rattle.columnar_core.specs.Change.{Stayed, Took, Refused};
+ghost use Rattle.columnar_core.specs.Change.{Stayed, Took, Refused, WasCut};
 ghost use Rattle.columnar_core.specs.WordViews.{le_bytes, view_bytes};
 ghost use Rattle.columnar_bits.specs.Bits.{bit as bit_of, truths, number_of_bits};
 ghost use Rattle.columnar_bits.specs.BoolColumns.{bools_format, bools_content, IsOfGrowth, bits_held, bits_in, owned_content, owned_bits, last_word, last_count, SoundBools, Tail};
 ghost use Rattle.columnar_bits.specs.BoolLaws.{bools_lawful};
 ghost use Rattle.columnar_bits.specs.Rooms.{count_room, bits_top};
-ghost use Rattle.columnar_core.specs.Room.{WasFull, Leaves, up_to_count};
+ghost use Rattle.columnar_core.specs.Room.{WasFull, Leaves, Frees, up_to_count};
 
 use columnar_core::container::{
     Borrow, Container, ExtendFrom, Reborrow, Reserve, Storage, Truncate,
@@ -413,7 +413,12 @@ impl Bools<Vec<u64>, [u64; 2]> {
 }
 
 impl Clear for Bools<Vec<u64>, [u64; 2]> {
-    fn clear(&mut self) {
+    fn clear(&mut self)
+        ensures sound { IsSound bools_format (owned_content self.new) }
+        ensures rows { bools_format.rows (owned_content self.new) ≡ [] }
+        ensures freed { Frees bools_format (owned_content self.old) 0 (count_room (length (owned_bits self.old)) (bits_top (vec_capacity self.old.values))) (count_room (length (owned_bits self.new)) (bits_top (vec_capacity self.new.values))) }
+        ensures capacity { vec_capacity self.old.values ≤ vec_capacity self.new.values }
+    {
         self.values.clear();
         self.tail = tail_of(0, 0);
     }
@@ -422,7 +427,13 @@ impl Clear for Bools<Vec<u64>, [u64; 2]> {
 impl Truncate for Bools<Vec<u64>, [u64; 2]> {
     ghost lawful = { bools_lawful };
 
-    fn truncate(&mut self, n: usize) {
+    fn truncate(&mut self, n: usize)
+        requires sound { IsSound bools_format (owned_content self.old) }
+        requires in_range { n ≤ length (bools_format.rows (owned_content self.old)) }
+        ensures cut { WasCut bools_format (owned_content self.old) (owned_content self.new) n }
+        ensures freed { Frees bools_format (owned_content self.old) n (count_room (length (owned_bits self.old)) (bits_top (vec_capacity self.old.values))) (count_room (length (owned_bits self.new)) (bits_top (vec_capacity self.new.values))) }
+        ensures capacity { vec_capacity self.old.values ≤ vec_capacity self.new.values }
+    {
         let count = (n % 64) as u64;
         let word = low_bits(
             word_or_tail(self.values.words(), self.tail.words(), n / 64),

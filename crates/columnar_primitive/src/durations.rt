@@ -9,7 +9,7 @@ ghost use Rattle.columnar_base.specs.TwoPartsLaws.{two_counted};
 ghost use Rattle.columnar_primitive.specs.Durations.{durations_format, is_part_second};
 ghost use Rattle.columnar_primitive.specs.DurationLaws.{durations_lawful, durations_storable, same_durations};
 
-use crate::flat::{Flat, ReserveFlat};
+use crate::flat::{CountedRoom, Flat, ReserveCounted};
 use crate::rule::{Rule, all_fit, all_fit_in};
 use columnar_core::byte_slice::ByteSlice;
 use columnar_core::bytes::{AsBytes, Check, FromBytes, Stored};
@@ -92,14 +92,14 @@ fn duration_of(seconds: u64, nanoseconds: u32) -> Duration
     Duration::new(seconds, nanoseconds)
 }
 
-impl<SC: Clear, NC: Clear> Clear for Durations<SC, NC> {
+impl<SC: Clear + CountedRoom, NC: Clear + CountedRoom> Clear for Durations<SC, NC> {
     fn clear(&mut self) {
         self.seconds.clear();
         self.nanoseconds.clear();
     }
 }
 
-impl<SC: Truncate, NC: Truncate> Truncate for Durations<SC, NC> {
+impl<SC: Truncate + CountedRoom, NC: Truncate + CountedRoom> Truncate for Durations<SC, NC> {
     ghost lawful = { durations_lawful SC.format NC.format SC.lawful NC.lawful };
 
     fn truncate(&mut self, n: usize) {
@@ -108,7 +108,7 @@ impl<SC: Truncate, NC: Truncate> Truncate for Durations<SC, NC> {
     }
 }
 
-impl<SC: Storage, NC: Storage> Storage for Durations<SC, NC> {
+impl<SC: Storage + CountedRoom, NC: Storage + CountedRoom> Storage for Durations<SC, NC> {
     fn empty(alloc: Global) -> Self {
         let seconds = SC::empty(alloc);
         let nanoseconds = NC::empty(alloc);
@@ -128,7 +128,7 @@ impl<SC: Storage, NC: Storage> Storage for Durations<SC, NC> {
     }
 }
 
-impl<SC: ReserveFlat, NC: ReserveFlat> Reserve for Durations<SC, NC> {
+impl<SC: Reserve, NC: Reserve> Reserve for Durations<SC, NC> {
     type Room = (SC::Room, NC::Room);
 
     ghost reserves = { SC.reserves × NC.reserves };
@@ -145,7 +145,10 @@ impl<SC: ReserveFlat, NC: ReserveFlat> Reserve for Durations<SC, NC> {
     }
 }
 
-impl<SC: Flat + Truncate + Push<u64>, NC: Flat + Push<u32>> Durations<SC, NC> {
+impl<SC: Flat + CountedRoom + Truncate + Push<u64>, NC: Flat + CountedRoom + Push<u32>> Durations<
+    SC,
+    NC,
+> {
     /// Appends the duration of the seconds and nanoseconds.
     ///
     /// # Requires
@@ -173,21 +176,25 @@ impl<SC: Flat + Truncate + Push<u64>, NC: Flat + Push<u32>> Durations<SC, NC> {
     }
 }
 
-impl<SC: Flat + Truncate + Push<u64>, NC: Flat + Push<u32>> Push<Duration> for Durations<SC, NC> {
+impl<SC: Flat + CountedRoom + Truncate + Push<u64>, NC: Flat + CountedRoom + Push<u32>> Push<
+    Duration,
+> for Durations<SC, NC> {
     fn push(&mut self, item: Duration) -> Result<(), GrowError> {
         self.push_parts(item.as_secs(), item.subsec_nanos())
     }
 }
 
-impl<'x, SC: Flat + Truncate + Push<u64>, NC: Flat + Push<u32>> Push<&'x Duration>
-    for Durations<SC, NC> {
+impl<'x, SC: Flat + CountedRoom + Truncate + Push<u64>, NC: Flat + CountedRoom + Push<u32>> Push<
+    &'x Duration,
+> for Durations<SC, NC> {
     fn push(&mut self, item: &'x Duration) -> Result<(), GrowError> {
         self.push_ref(item)
     }
 }
 
-impl<SC: Flat + Truncate + Push<u64>, NC: Flat + Push<u32>> PushRef<Duration>
-    for Durations<SC, NC> {
+impl<SC: Flat + CountedRoom + Truncate + Push<u64>, NC: Flat + CountedRoom + Push<u32>> PushRef<
+    Duration,
+> for Durations<SC, NC> {
     fn push_ref(&mut self, item: &Duration) -> Result<(), GrowError> {
         Push::<Duration>::push(self, *item)
     }
@@ -196,8 +203,8 @@ impl<SC: Flat + Truncate + Push<u64>, NC: Flat + Push<u32>> PushRef<Duration>
 impl<
     V: Column + Copy,
     W: Column + Copy,
-    SC: Flat + ReserveFlat + ExtendFrom<V>,
-    NC: Flat + ReserveFlat + ExtendFrom<W>,
+    SC: Flat + CountedRoom + ReserveCounted + ExtendFrom<V>,
+    NC: Flat + CountedRoom + ReserveCounted + ExtendFrom<W>,
 > ExtendFrom<Durations<V, W>> for Durations<SC, NC> {
     fn add_room(room: (SC::Room, NC::Room), view: Durations<V, W>) -> (SC::Room, NC::Room) {
         (
@@ -249,8 +256,8 @@ impl<'a, SC: Borrow<'a, Ref = u64>, NC: Borrow<'a, Ref = u32>> Borrow<'a> for Du
 
 impl<
     'a,
-    SC: Flat + ReserveFlat + Container<'a, Ref = u64>,
-    NC: Flat + ReserveFlat + Container<'a, Ref = u32>,
+    SC: Flat + CountedRoom + ReserveCounted + Container<'a, Ref = u64>,
+    NC: Flat + CountedRoom + ReserveCounted + Container<'a, Ref = u32>,
 > Container<'a> for Durations<SC, NC> {}
 
 impl<'b, V: Reborrow<'b>, W: Reborrow<'b>> Reborrow<'b> for Durations<V, W> {

@@ -34,4 +34,5 @@ pub mod PackedLaws
 pub mod MaySums
 pub mod MaySumLaws
 pub mod Rooms
+pub mod RoomLaws
 

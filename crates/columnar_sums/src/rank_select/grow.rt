@@ -114,7 +114,7 @@ impl Held {
         ensures full { 2 ^ 64 ≤ length (ranked_bits self.old) + 1 → result ≡ Err GrowError.Length }
         ensures kinds { IfErr result IsOfGrowth }
         ensures wanted { result ≡ Err GrowError.Memory → held_top self.old ≤ length (ranked_bits self.old) + 1 }
-        ensures more { held_top self.old ≤ held_top self.new }
+        ensures capacity { (vec_capacity self.old.values.values ≤ vec_capacity self.new.values.values) × (vec_capacity self.old.counts ≤ vec_capacity self.new.counts) }
         ensures no_memory { length (ranked_bits self.old) % 64 < 63 → IsOk result }
         ensures sound { IsSound ranks_format (owned_ranks self.new) }
     {
@@ -141,7 +141,7 @@ impl Held {
         ensures full { 2 ^ 64 ≤ length (ranked_bits self) + 1 → result.1 ≡ Err GrowError.Length }
         ensures kinds { IfErr result.1 IsOfGrowth }
         ensures wanted { result.1 ≡ Err GrowError.Memory → held_top self ≤ length (ranked_bits self) + 1 }
-        ensures more { held_top self ≤ held_top result.0 }
+        ensures capacity { (vec_capacity self.values.values ≤ vec_capacity result.0.values.values) × (vec_capacity self.counts ≤ vec_capacity result.0.counts) }
         ensures no_memory { length (ranked_bits self) % 64 < 63 → IsOk result.1 }
         ensures sound { IsSound ranks_format (owned_ranks result.0) }
     {
@@ -159,7 +159,7 @@ impl Held {
         ensures full { 2 ^ 64 ≤ length (ranked_bits self.old) + 1 → result ≡ Err GrowError.Length }
         ensures kinds { IfErr result IsOfGrowth }
         ensures wanted { result ≡ Err GrowError.Memory → held_top self.old ≤ length (ranked_bits self.old) + 1 }
-        ensures more { held_top self.old ≤ held_top self.new }
+        ensures capacity { (vec_capacity self.old.values.values ≤ vec_capacity self.new.values.values) × (vec_capacity self.old.counts ≤ vec_capacity self.new.counts) }
         ensures no_memory { length (ranked_bits self.old) % 64 < 63 → IsOk result }
         ensures sound { IsSound ranks_format (owned_ranks self.new) }
     {
@@ -183,7 +183,7 @@ impl Held {
         ensures full { 2 ^ 64 ≤ length (ranked_bits self.old) + 1 → result ≡ Err GrowError.Length }
         ensures kinds { IfErr result IsOfGrowth }
         ensures wanted { result ≡ Err GrowError.Memory → held_top self.old ≤ length (ranked_bits self.old) + 1 }
-        ensures more { held_top self.old ≤ held_top self.new }
+        ensures capacity { (vec_capacity self.old.values.values ≤ vec_capacity self.new.values.values) × (vec_capacity self.old.counts ≤ vec_capacity self.new.counts) }
         ensures sound { IsSound ranks_format (owned_ranks self.new) }
     {
         let len = self.values.len();
@@ -222,7 +222,7 @@ impl Held {
         ensures full { 2 ^ 64 ≤ length (ranked_bits self.old) + (range.«end» - range.start) → result ≡ Err GrowError.Length }
         ensures kinds { IfErr result IsOfGrowth }
         ensures wanted { result ≡ Err GrowError.Memory → held_top self.old ≤ length (ranked_bits self.old) + (range.«end» - range.start) }
-        ensures more { held_top self.old ≤ held_top self.new }
+        ensures capacity { (vec_capacity self.old.values.values ≤ vec_capacity self.new.values.values) × (vec_capacity self.old.counts ≤ vec_capacity self.new.counts) }
         ensures sound { IsSound ranks_format (owned_ranks self.new) }
         ensures turns { tally.new.turns ≤ tally.old.turns + ((range.«end» - range.start) / 16 + 64) }
     {

@@ -8,7 +8,7 @@ use Rattle.columnar_core.specs.RoomLaws.{Counted}
 use Rattle.columnar_bits.specs.Rooms.{count_room, bits_top}
 use Rattle.columnar_sums.specs.Counting.{ones}
 use Rattle.columnar_sums.specs.Options.{weave, somes}
-use Rattle.columnar_sums.specs.WeaveLaws.{ones_range, ones_zero, length-weave, weave-range, somes-append, somes-weave}
+use Rattle.columnar_sums.specs.WeaveLaws.{ones_range, length-weave, weave-range, somes-append, somes-weave}
 use Rattle.columnar_sums.specs.Results.{zeros, weave_results, oks, errs}
 use Rattle.columnar_sums.specs.WeaveBothLaws.{zeros_range, length-weave_results, weave_results-range, oks-append, errs-append, oks-woven, errs-woven}
 use Rattle.columnar_sums.specs.Rooms.{ranks_top}

@@ -3,6 +3,7 @@ ghost use Rattle.std.specs.Prelude.{◌≡◌, ◌≢◌, ◌-◌, ◌≤◌, Li
 ghost use Rattle.std.specs.Iterator.{IsFinite, HoldsAlong, Drains, Yields};
 ghost use Rattle.columnar_core.specs.Format.{IsSound};
 ghost use Rattle.columnar_core.specs.Change.{Took, Copied, Refused, Stayed, StoppedAt, WasCut};
+ghost use Rattle.columnar_core.specs.Room.{WasFull, Leaves, Frees, rows_of_all};
 
 use super::{ByteStore, Stash};
 use columnar_core::bytes::Stored;
@@ -13,12 +14,13 @@ use std::alloc::Global;
 use std::ops::Range;
 
 impl<C: Stored + Storage, B: ByteStore> Clear for Stash<C, B> {
-    ghost use Rattle.columnar_bytes.specs.Stashes.{stash_content, variant_of, typed};
+    ghost use Rattle.columnar_bytes.specs.Stashes.{stash_content, stash_room, variant_of, typed};
 
     /// Removes all rows, and leaves a column; allocates nothing.
     fn clear(&mut self)
         ensures sound { IsSound C.format (stash_content self.new) }
         ensures rows { C.format.rows (stash_content self.new) ≡ [] }
+        ensures freed { Frees C.format (stash_content self.old) 0 (stash_room self.old) (stash_room self.new) }
         ensures variant { variant_of self.new ≡ typed }
     {
         match self {
@@ -98,7 +100,7 @@ impl<T: Item, C: ContainerBytes + Drop + PushRef<T>, B: ByteStore> PushRef<T> fo
 }
 
 impl<C: ContainerBytes + Drop, B: ByteStore> Stash<C, B> {
-    ghost use Rattle.columnar_bytes.specs.Stashes.{stash_content, variant_of, typed};
+    ghost use Rattle.columnar_bytes.specs.Stashes.{stash_content, stash_room, variant_of, typed};
 
     /// Makes a stash of a column without rows, with capacity for the rows of all views.
     ///
@@ -118,6 +120,7 @@ impl<C: ContainerBytes + Drop, B: ByteStore> Stash<C, B> {
         ensures variant { IfOk result (λ s. variant_of s ≡ typed) }
         ensures sound { IfOk result (λ s. IsSound C.format (stash_content s)) }
         ensures rows { IfOk result (λ s. C.format.rows (stash_content s) ≡ []) }
+        ensures room { IfOk result (λ s. (vs : List V) × (Drains I.next_gives views vs × (C.reserves → All (λ v. IsSound V.format (V.content v)) vs → stash_room s (rows_of_all V.format V.content vs)))) }
         ensures memory { IfErr result (λ e. e ≡ GrowError.Memory) }
     {
         let column = C::with_capacity_for(alloc, views)?;
@@ -141,6 +144,7 @@ impl<C: ContainerBytes + Drop, B: ByteStore> Stash<C, B> {
         requires callable { I.can_next views }
         requires finite { IsFinite (I.remaining views) }
         ensures stayed { Stayed C.format (stash_content self.old) (stash_content self.new) }
+        ensures room { OnOk result ((vs : List V) × (Drains I.next_gives views vs × (C.reserves → All (λ v. IsSound V.format (V.content v)) vs → stash_room self.new (rows_of_all V.format V.content vs)))) }
         ensures typed { OnOk result (variant_of self.new ≡ typed) }
         ensures variant { OnErr result (variant_of self.new ≡ variant_of self.old) }
         ensures bytes { OnErr result (variant_of self.old ≢ typed → self.new ≡ self.old) }
@@ -175,6 +179,8 @@ impl<C: ContainerBytes + Drop, B: ByteStore> Stash<C, B> {
         requires in_range { range.«end» ≤ length (V.format.rows (V.content view)) }
         ensures ok { OnOk result (Copied C.format (stash_content self.old) (stash_content self.new) range.start (take (range.«end» - range.start) (drop range.start (V.format.rows (V.content view))))) }
         ensures err { IfErr result (λ e. Refused C.format (stash_content self.old) (stash_content self.new) (take (range.«end» - range.start) (drop range.start (V.format.rows (V.content view)))) e) }
+        ensures wanted { IfErr result (WasFull (stash_room self.old) (take (range.«end» - range.start) (drop range.start (V.format.rows (V.content view))))) }
+        ensures left { OnOk result (Leaves (stash_room self.old) (stash_room self.new) (take (range.«end» - range.start) (drop range.start (V.format.rows (V.content view))))) }
         ensures typed { OnOk result (variant_of self.new ≡ typed) }
         ensures variant { OnErr result (variant_of self.new ≡ variant_of self.old) }
         ensures bytes { OnErr result (variant_of self.old ≢ typed → self.new ≡ self.old) }
@@ -190,7 +196,7 @@ impl<C: ContainerBytes + Drop, B: ByteStore> Stash<C, B> {
 }
 
 impl<C: ContainerBytes + Drop, B: ByteStore> Stash<C, B> {
-    ghost use Rattle.columnar_bytes.specs.Stashes.{stash_content, variant_of, typed};
+    ghost use Rattle.columnar_bytes.specs.Stashes.{stash_content, stash_room, variant_of, typed};
 
     /// Pushes the items in order. Once an item is taken, the stash is a column. Without items the variant stays, and
     /// bytes stay.
@@ -225,7 +231,7 @@ impl<C: ContainerBytes + Drop, B: ByteStore> Stash<C, B> {
 }
 
 impl<C: ContainerBytes + Truncate + Drop, B: ByteStore> Stash<C, B> {
-    ghost use Rattle.columnar_bytes.specs.Stashes.{stash_content, variant_of, typed};
+    ghost use Rattle.columnar_bytes.specs.Stashes.{stash_content, stash_room, variant_of, typed};
 
     /// Appends rows that represent the items, one each and in order, or none.
     ///
@@ -241,6 +247,8 @@ impl<C: ContainerBytes + Truncate + Drop, B: ByteStore> Stash<C, B> {
         requires valid { All T.valid items.now }
         ensures ok { OnOk result (Took C.format (stash_content self.old) (stash_content self.new) (map T.meaning items.now)) }
         ensures err { IfErr result (λ e. Refused C.format (stash_content self.old) (stash_content self.new) (map T.meaning items.now) e) }
+        ensures wanted { IfErr result (WasFull (stash_room self.old) (map T.meaning items.now)) }
+        ensures left { OnOk result (Leaves (stash_room self.old) (stash_room self.new) (map T.meaning items.now)) }
         ensures typed { OnOk result (variant_of self.new ≡ typed) }
         ensures variant { OnErr result (variant_of self.new ≡ variant_of self.old) }
         ensures bytes { OnErr result (variant_of self.old ≢ typed → self.new ≡ self.old) }
@@ -265,6 +273,7 @@ impl<C: ContainerBytes + Truncate + Drop, B: ByteStore> Stash<C, B> {
         requires sound { IsSound C.format (stash_content self.old) }
         requires in_range { n ≤ length (C.format.rows (stash_content self.old)) }
         ensures ok { OnOk result (WasCut C.format (stash_content self.old) (stash_content self.new) n) }
+        ensures freed { OnOk result (Frees C.format (stash_content self.old) n (stash_room self.old) (stash_room self.new)) }
         ensures typed { OnOk result (variant_of self.new ≡ typed) }
         ensures stays { OnErr result (self.new ≡ self.old) }
         ensures bytes { OnErr result (variant_of self.old ≢ typed) }

@@ -222,7 +222,7 @@ impl Held {
         ensures full { 2 ^ 64 ≤ length (ranked_bits self.old) + (range.«end» - range.start) → result ≡ Err GrowError.Length }
         ensures kinds { IfErr result IsOfGrowth }
         ensures wanted { result ≡ Err GrowError.Memory → held_top self.old ≤ length (ranked_bits self.old) + (range.«end» - range.start) }
-        ensures capacity { (vec_capacity self.old.values.values ≤ vec_capacity self.new.values.values) × (vec_capacity self.old.counts ≤ vec_capacity self.new.counts) }
+        ensures capacity { OnOk result ((vec_capacity self.old.values.values ≤ vec_capacity self.new.values.values) × (vec_capacity self.old.counts ≤ vec_capacity self.new.counts)) }
         ensures sound { IsSound ranks_format (owned_ranks self.new) }
         ensures turns { tally.new.turns ≤ tally.old.turns + ((range.«end» - range.start) / 16 + 64) }
     {

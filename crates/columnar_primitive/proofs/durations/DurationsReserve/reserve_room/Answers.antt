@@ -16,4 +16,4 @@ pub returns-clause-stayed : goal.returns-clause-stayed
 returns-clause-stayed g c = durations_stayed g.SC.Column.format g.NC.Column.format c.requires c.reserve_room.ensures.stayed c.reserve_room-2.ensures.stayed
 
 pub returns-clause-room : goal.returns-clause-room
-returns-clause-room g c = both_reserved _ _ c.reserve_room-2.result c.in_ok-reserve_room.ensures.room c.reserve_room-2.ensures.room
+returns-clause-room g c = both_reserved _ _ _ _ _ _ c.reserve_room-2.result c.in_ok-reserve_room.ensures.room c.reserve_room-2.ensures.room

@@ -1,8 +1,8 @@
 use Rattle.std.proofs.lemmas.Result.{on_ok_weaker, IfErr-weaker}
 use Rattle.columnar_sums.specs.MarkedLaws.{on_ok_both}
 use Rattle.columnar_sums.specs.OptionLaws.{options_parts, options_took_some, options_took_none, options_refused_some, options_refused_false}
-use Rattle.std.specs.Prelude.{⊎_elim}
-use Rattle.std.proofs.Common.{[], ◌∷◌, length, refl}
+
+use Rattle.std.proofs.Common.{[], ◌∷◌, length, refl, ⊎_elim}
 use Rattle.columnar_core.specs.Row.{some, none, truth}
 use Rattle.columnar_sums.specs.RankColumns.{ranked_bits}
 use Rattle.columnar_sums.specs.Rooms.{held_top}

@@ -1,8 +1,8 @@
 use Rattle.std.proofs.lemmas.Result.{IfErr-weaker}
 use Rattle.columnar_sums.specs.MarkedLaws.{on_ok_both}
 use Rattle.columnar_sums.specs.ResultLaws.{results_parts, results_took_ok, results_took_err, results_refused_ok, results_refused_err}
-use Rattle.std.specs.Prelude.{⊎_elim}
-use Rattle.std.proofs.Common.{[], ◌∷◌, length, refl}
+
+use Rattle.std.proofs.Common.{[], ◌∷◌, length, refl, ⊎_elim}
 use Rattle.columnar_core.specs.Row.{ok, err, truth}
 use Rattle.columnar_sums.specs.RankColumns.{ranked_bits}
 use Rattle.columnar_sums.specs.Rooms.{held_top}

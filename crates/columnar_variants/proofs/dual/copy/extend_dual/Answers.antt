@@ -109,4 +109,4 @@ returns-clause-ok g c = dual_copied g.SC.Column.format g.TC.Column.format g.V.Co
 pub returns-in-Err-extend_variants-clause-err : goal.returns-in-Err-extend_variants-clause-err
 returns-in-Err-extend_variants-clause-err g c =
     let n = range_length (variants_of (forms_content g.CVar.Variants.bytes g.COff.Words.bytes c.args.kinds.now)) c.args.range.start (c.args.range.«end» - c.args.range.start) (omega (arith, c.requires.ordered, c.requires.in_range, variants_count (dual_bank g.V.Column.format g.W.Column.format) (both (g.V.Column.content c.args.first_view) (g.W.Column.content c.args.second_view)) (forms_content g.CVar.Variants.bytes g.COff.Words.bytes c.args.kinds.now))) in
-    dual_refused_forms g.SC.Column.format g.TC.Column.format g.V.Column.format g.W.Column.format (g.V.Column.content c.args.first_view) (g.W.Column.content c.args.second_view) (forms_content g.CVar.Variants.bytes g.COff.Words.bytes c.args.kinds.now) c.args.range.start c.args.range.«end» c.requires.sound (undone g.met.SC.Truncate.lawful (firsts_sound g.SC.Column.format g.TC.Column.format c.requires.sound) c.in_ok-extend_from_self.ensures.ok.took.grew (rw c.len-firsts_before.ensures at c.truncate-in-Err-extend_variants.ensures)) (undone g.met.TC.Truncate.lawful (seconds_sound g.SC.Column.format g.TC.Column.format c.requires.sound) c.in-Ok.ensures.ok.took.grew (rw c.len-seconds_before.ensures at c.truncate-in-Err-extend_variants-2.ensures)) c.in-Err-extend_variants.ensures.stayed c.in-Err-extend_variants.ensures.variants_stay (λ rs l. c.in-Err-extend_variants.ensures.cause rs (l ∙ n))
+    dual_refused_forms g.SC.Column.format g.TC.Column.format g.V.Column.format g.W.Column.format (g.V.Column.content c.args.first_view) (g.W.Column.content c.args.second_view) (forms_content g.CVar.Variants.bytes g.COff.Words.bytes c.args.kinds.now) c.args.range.start c.args.range.«end» c.requires.sound (undone g.met.SC.Truncate.lawful (firsts_sound g.SC.Column.format g.TC.Column.format c.requires.sound) c.in_ok-extend_from_self.ensures.ok.took.grew (rw c.len-firsts_before.ensures at c.truncate-in-Err-extend_variants.ensures.cut)) (undone g.met.TC.Truncate.lawful (seconds_sound g.SC.Column.format g.TC.Column.format c.requires.sound) c.in-Ok.ensures.ok.took.grew (rw c.len-seconds_before.ensures at c.truncate-in-Err-extend_variants-2.ensures.cut)) c.in-Err-extend_variants.ensures.stayed c.in-Err-extend_variants.ensures.variants_stay (λ rs l. c.in-Err-extend_variants.ensures.cause rs (l ∙ n))

@@ -2,7 +2,7 @@ use Rattle.std.proofs.lemmas.Result.{on_ok_weaker, IfErr-weaker}
 use Rattle.columnar_sums.specs.MarkedLaws.{on_ok_both}
 use Rattle.columnar_sums.specs.OptionLaws.{options_parts, options_took_some, options_took_none, options_refused_some, options_refused_false}
 
-use Rattle.std.proofs.Common.{[], ◌∷◌, length, refl, ⊎_elim}
+use Rattle.std.proofs.Common.{true, false, [], ◌∷◌, length, refl, ⊎_elim}
 use Rattle.columnar_core.specs.Row.{some, none, truth}
 use Rattle.columnar_sums.specs.RankColumns.{ranked_bits}
 use Rattle.columnar_sums.specs.Rooms.{held_top}
@@ -36,4 +36,4 @@ pub returns-in-None-clause-wanted : goal.returns-in-None-clause-wanted
 returns-in-None-clause-wanted g c = IfErr-weaker c.push.result _ _ (λ e h. rw c.in-None.is (full_left _ (counted_full (none ∷ []) (truth false ∷ []) refl (count_counted (length (ranked_bits c.args.self.now.indexes)) (held_top c.args.self.now.indexes)) h))) c.push.ensures.wanted
 
 pub returns-in-None-clause-left : goal.returns-in-None-clause-left
-returns-in-None-clause-left g c = on_ok_weaker c.push.result (λ h. rw c.in-None.is (both_leave (counted_leaves (none ∷ []) (truth false ∷ []) refl (count_counted (length (ranked_bits c.args.self.now.indexes)) (held_top c.args.self.now.indexes)) h) (through_leaves somes (none ∷ []) (λ rs. refl) leaves_none))) c.push.ensures.left
+returns-in-None-clause-left g c = on_ok_weaker c.push.result (λ h. rw c.in-None.is (both_leave (counted_leaves (none ∷ []) (truth false ∷ []) refl (count_counted (length (ranked_bits c.args.self.now.indexes)) (held_top c.args.self.now.indexes)) h) (through_leaves {a = g.TC.Column.room c.args.self.now.somes} somes (none ∷ []) (λ rs. refl) leaves_none))) c.push.ensures.left

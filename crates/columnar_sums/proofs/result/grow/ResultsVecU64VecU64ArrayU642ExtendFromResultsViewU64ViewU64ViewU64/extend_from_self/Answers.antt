@@ -104,7 +104,7 @@ returns-in-Ok-extend_from_self-clause-ok g c =
 pub returns-in-Err-extend_from_self-clause-err : goal.returns-in-Err-extend_from_self-clause-err
 returns-in-Err-extend_from_self-clause-err g c =
     let k = results_parts g.SC.Column.format g.TC.Column.format c.requires.sound in
-    results_refused_bits_range g.SC.Column.format g.TC.Column.format g.V.Column.format g.W.Column.format (ranks_content view_bytes view_bytes view_bytes c.args.view.indexes) (g.V.Column.content c.args.view.oks) (g.W.Column.content c.args.view.errs) c.args.range.start c.args.range.«end» c.requires.sound c.requires.ordered c.in-Err-extend_from_self.ensures.err (undone g.met.SC.Truncate.lawful k.oks c.in_ok-extend_from_self.ensures.ok.took.grew (rw c.len-oks.ensures at c.truncate-in-Err-extend_from_self.ensures)) (undone g.met.TC.Truncate.lawful k.errs c.in-Ok.ensures.ok.took.grew (rw c.len-errs.ensures at c.truncate-in-Err-extend_from_self-2.ensures))
+    results_refused_bits_range g.SC.Column.format g.TC.Column.format g.V.Column.format g.W.Column.format (ranks_content view_bytes view_bytes view_bytes c.args.view.indexes) (g.V.Column.content c.args.view.oks) (g.W.Column.content c.args.view.errs) c.args.range.start c.args.range.«end» c.requires.sound c.requires.ordered c.in-Err-extend_from_self.ensures.err (undone g.met.SC.Truncate.lawful k.oks c.in_ok-extend_from_self.ensures.ok.took.grew (rw c.len-oks.ensures at c.truncate-in-Err-extend_from_self.ensures.cut)) (undone g.met.TC.Truncate.lawful k.errs c.in-Ok.ensures.ok.took.grew (rw c.len-errs.ensures at c.truncate-in-Err-extend_from_self-2.ensures.cut))
 
 pub returns-in_err-extend_from_self-clause-wanted : goal.returns-in_err-extend_from_self-clause-wanted
 returns-in_err-extend_from_self-clause-wanted g c = rw (passed_on c.from_residual.result c.from_residual.ensures.1) (full_right _ (full_left _ (through_full oks _ (λ rs. oks_range (ranks_bits (ranks_content view_bytes view_bytes view_bytes c.args.view.indexes)) (g.V.Column.format.rows (g.V.Column.content c.args.view.oks)) (g.W.Column.format.rows (g.W.Column.content c.args.view.errs)) c.args.range.start c.args.range.«end» (results_parts g.V.Column.format g.W.Column.format c.requires.view_sound).ok_level c.requires.ordered (results_within g.V.Column.format g.W.Column.format (ranks_content view_bytes view_bytes view_bytes c.args.view.indexes) (g.V.Column.content c.args.view.oks) (g.W.Column.content c.args.view.errs) c.args.range.«end» c.requires.in_range) rs) (rw (c.rank-first.ensures.value, c.rank-last.ensures.value) at c.in_err-extend_from_self.ensures.wanted))))

@@ -30,7 +30,7 @@ pub returns-in_err-push_slice-clause-wanted : goal.returns-in_err-push_slice-cla
 returns-in_err-push_slice-clause-wanted g c = rw (passed_on c.from_residual.result c.from_residual.ensures.1) (list_full_values (g.BC.Column.room c.args.bounds.now) _ _ c.in_err-push_slice.ensures.wanted)
 
 pub returns-clause-left : goal.returns-clause-left
-returns-clause-left g c = on_list_leaves c.end_list.result g.TC.Column.format (g.TC.Column.content c.push_slice.new.self) _ _ _ _ _ _ _ _ (took_length c.in_ok-push_slice.ensures.ok) c.end_list.ensures.ok c.in_ok-push_slice.ensures.left c.end_list.ensures.left c.end_list.ensures.values
+returns-clause-left g c = on_list_leaves _ c.end_list.result g.TC.Column.format (g.TC.Column.content c.push_slice.new.self) _ _ _ _ _ _ _ _ (took_length c.in_ok-push_slice.ensures.ok) c.end_list.ensures.ok c.in_ok-push_slice.ensures.left c.end_list.ensures.left c.end_list.ensures.values
 
 pub returns-clause-wanted : goal.returns-clause-wanted
 returns-clause-wanted g c = on_list_full c.end_list.result _ (g.TC.Column.room c.args.values.now) _ _ (map g.T.Item.meaning c.args.items.now) (took_length c.in_ok-push_slice.ensures.ok) c.end_list.ensures.wanted

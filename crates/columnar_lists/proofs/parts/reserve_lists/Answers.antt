@@ -21,4 +21,4 @@ returns-clause-room g c =
     let s = lists_stayed g.BC.Column.format g.TC.Column.format c.requires c.in_ok-reserve_room.ensures.stayed c.reserve_room-2.ensures.stayed in
     let n = length (g.TC.Column.format.rows (g.TC.Column.content c.reserve_room-2.new.self)) in
     let l = lists_last g.BC.Column.format g.TC.Column.format n s.sound refl in
-    both_lists_reserved _ _ _ _ _ _ n c.reserve_room-2.result (λ p os h. g.met.BC.ReserveOffsets.follow c.reserve_room.new.self c.args.room.0 n os (sym l) (c.in_ok-reserve_room.ensures.room p) h) c.reserve_room-2.ensures.room
+    both_lists_reserved g.BC.Reserve.reserves g.TC.Reserve.reserves (g.BC.Reserve.covers c.args.room.0) (g.TC.Reserve.covers c.args.room.1) (g.BC.Column.room c.reserve_room.new.self) (g.TC.Column.room c.reserve_room-2.new.self) n c.reserve_room-2.result (λ p os h. g.met.BC.ReserveOffsets.follow c.reserve_room.new.self c.args.room.0 n os (sym l) (c.in_ok-reserve_room.ensures.room p) h) c.reserve_room-2.ensures.room

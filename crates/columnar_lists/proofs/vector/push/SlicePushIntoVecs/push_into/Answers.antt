@@ -30,7 +30,7 @@ pub returns-in_err-extend_from_self-clause-wanted : goal.returns-in_err-extend_f
 returns-in_err-extend_from_self-clause-wanted g c = rw (passed_on c.from_residual.result c.from_residual.ensures.1) (list_full_values (g.BC.Column.room c.args.column.now.bounds) _ _ c.in_err-extend_from_self.ensures.wanted)
 
 pub returns-clause-left : goal.returns-clause-left
-returns-clause-left g c = on_list_leaves c.end_list.result g.TC.Column.format (g.TC.Column.content c.extend_from_self.new.self) _ _ _ _ _ _ _ _ (took_length c.in_ok-extend_from_self.ensures.ok.took) c.end_list.ensures.ok c.in_ok-extend_from_self.ensures.left c.end_list.ensures.left c.end_list.ensures.values
+returns-clause-left g c = on_list_leaves _ c.end_list.result g.TC.Column.format (g.TC.Column.content c.extend_from_self.new.self) _ _ _ _ _ _ _ _ (took_length c.in_ok-extend_from_self.ensures.ok.took) c.end_list.ensures.ok c.in_ok-extend_from_self.ensures.left c.end_list.ensures.left c.end_list.ensures.values
 
 pub returns-clause-wanted : goal.returns-clause-wanted
 returns-clause-wanted g c = on_list_full c.end_list.result _ (g.TC.Column.room c.args.column.now.values) _ _ (take (c.args.self.upper - c.args.self.lower) (drop c.args.self.lower (g.V.Column.format.rows (g.V.Column.content c.args.self.slice)))) (took_length c.in_ok-extend_from_self.ensures.ok.took) c.end_list.ensures.wanted

@@ -5,6 +5,7 @@ ghost use Rattle.std.specs.Int.{to_le_bytes, w8};
 ghost use Rattle.columnar_base.specs.Row.{Row};
 ghost use Rattle.columnar_base.specs.Format.{both, IsSound};
 ghost use Rattle.columnar_base.specs.Change.{Copied, Refused};
+ghost use Rattle.columnar_base.specs.Room.{WasFull, Leaves};
 ghost use Rattle.columnar_base.specs.Elements.{elements, bytes_format};
 ghost use Rattle.columnar_base.specs.Texts.{text_bytes, text_row};
 ghost use Rattle.columnar_base.specs.TwoPartsLaws.{two_counted};
@@ -234,6 +235,8 @@ impl<BC: Offsets, VC: Column> Strings<BC, VC> {
         requires in_range { range.«end» ≤ length ((lists_format W.format V.format).rows (both (W.content view.bounds) (V.content view.values))) }
         ensures ok { OnOk result (Copied (lists_format BC.format VC.format) (both (BC.content self.old.bounds) (VC.content self.old.values)) (both (BC.content self.new.bounds) (VC.content self.new.values)) range.start (take (range.«end» - range.start) (drop range.start ((lists_format W.format V.format).rows (both (W.content view.bounds) (V.content view.values)))))) }
         ensures err { IfErr result (λ e. Refused (lists_format BC.format VC.format) (both (BC.content self.old.bounds) (VC.content self.old.values)) (both (BC.content self.new.bounds) (VC.content self.new.values)) (take (range.«end» - range.start) (drop range.start ((lists_format W.format V.format).rows (both (W.content view.bounds) (V.content view.values))))) e) }
+        ensures wanted { IfErr result (WasFull (lists_room (BC.room self.old.bounds) (VC.room self.old.values) (length (VC.format.rows (VC.content self.old.values)))) (take (range.«end» - range.start) (drop range.start ((lists_format W.format V.format).rows (both (W.content view.bounds) (V.content view.values)))))) }
+        ensures left { OnOk result (Leaves (lists_room (BC.room self.old.bounds) (VC.room self.old.values) (length (VC.format.rows (VC.content self.old.values)))) (lists_room (BC.room self.new.bounds) (VC.room self.new.values) (length (VC.format.rows (VC.content self.new.values)))) (take (range.«end» - range.start) (drop range.start ((lists_format W.format V.format).rows (both (W.content view.bounds) (V.content view.values)))))) }
         ensures turns { tally.new.turns ≤ tally.old.turns + (range.«end» - range.start) }
     {
         copy_lists_tallied(

@@ -2,6 +2,7 @@
  * the validator below, which is written from docs/FORMAT.md alone, and compares the results. It writes a row of each, and changes the
  * texts of the types too. Bytes, texts and rows lie between two unreadable pages, once next to each page. It prints the numbers of
  * stores and texts. */
+#include <ctype.h>
 #include <inttypes.h>
 #include <stdbool.h>
 #include <stdio.h>
@@ -80,8 +81,8 @@ static struct found structure(struct store *store, const uint8_t *bytes, uint64_
     return none;
 }
 
-/* A reader of a text that is a type without blanks. Each function reads one part and adds its slices; if there is a store, it tests
- * the slices and returns the number of their rows. */
+/* A reader of a text that is a type without blanks but after `struct`. Each function reads one part and adds its slices; if there is a
+ * store, it tests the slices and returns the number of their rows. */
 struct reading {
     const char *text;
     uint64_t slice;
@@ -229,16 +230,29 @@ static struct found read_option(struct reading *reading, bool is_result, uint64_
     return values == ones && (!is_result || errors == *rows - ones) ? none : at(10, first);
 }
 
-static struct found read_tuple(struct reading *reading, uint64_t *rows) {
+static void pass_name(struct reading *reading) {
+    while (isalnum((unsigned char)*reading->text) || *reading->text == '_')
+        reading->text++;
+}
+
+static struct found read_field(struct reading *reading, bool has_name, uint64_t *rows) {
+    if (has_name) {
+        pass_name(reading);
+        goes_on(reading, ":");
+    }
+    return read_type(reading, rows);
+}
+
+static struct found read_fields(struct reading *reading, bool have_names, const char *end, uint64_t *rows) {
     uint64_t first = reading->slice, count = 0;
-    struct found it = read_type(reading, rows);
+    struct found it = read_field(reading, have_names, rows);
     bool same = true;
-    while (goes_on(reading, ",") && *reading->text != ')') {
-        struct found part = read_type(reading, &count);
+    while (goes_on(reading, ",") && *reading->text != *end) {
+        struct found part = read_field(reading, have_names, &count);
         same &= count == *rows;
         it = it.rule ? it : part;
     }
-    goes_on(reading, ")");
+    goes_on(reading, end);
     return it.rule || !reading->store || same ? it : at(10, first);
 }
 
@@ -282,6 +296,13 @@ static struct found read_units(struct reading *reading, uint64_t *rows) {
     return none;
 }
 
+static struct found read_struct(struct reading *reading, uint64_t *rows) {
+    pass_name(reading);
+    if (goes_on(reading, ";"))
+        return read_units(reading, rows);
+    return goes_on(reading, "{") ? read_fields(reading, true, "}", rows) : (goes_on(reading, "("), read_fields(reading, false, ");", rows));
+}
+
 static struct found read_type(struct reading *reading, uint64_t *rows) {
     static const struct {
         const char *name;
@@ -321,7 +342,9 @@ static struct found read_type(struct reading *reading, uint64_t *rows) {
         return it;
     }
     if (goes_on(reading, "("))
-        return read_tuple(reading, rows);
+        return read_fields(reading, false, ")", rows);
+    if (goes_on(reading, "struct "))
+        return read_struct(reading, rows);
     fprintf(stderr, "not a type: %s\n", reading->text);
     exit(2);
 }
@@ -429,7 +452,7 @@ static void try_row(const char *type, uint32_t bounds, const uint8_t *store, siz
     else if (told == COLUMNAR_ACCEPTED)
         right &= index < rows && size > 0 && size <= capacity;
     else
-        right &= size == 0 && (told == COLUMNAR_NO_ROW ? index >= rows : told == COLUMNAR_NOT_TEXT || told == COLUMNAR_NO_TEXT);
+        right &= size == 0 && (told == COLUMNAR_NO_ROW ? index >= rows : told == COLUMNAR_NOT_TEXT);
     for (uint64_t i = 0; i < 64; i++) {
         bool written = told == COLUMNAR_ACCEPTED && outs + i >= out && outs + i < out + size;
         bool last = told == COLUMNAR_ACCEPTED && outs + ROOM - 64 + i >= out && outs + ROOM - 64 + i < out + size;
@@ -465,7 +488,7 @@ static void try_store(const char *type, uint32_t bounds, const uint8_t *whole, s
 }
 
 static void try_text(const char *type, uint32_t bounds, uint8_t *texts, uint8_t *stores) {
-    static const char letters[] = "(),<> u8iBVSORTvecox12";
+    static const char letters[] = "(),<> u8iBVSORTvecox12{}:;_";
     uint8_t text[256];
     size_t length = strlen(type);
     memcpy(text, type, length);

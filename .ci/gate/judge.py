@@ -10,6 +10,16 @@ def reached(said):
     return said.rstrip().split("\n")[-1].startswith(("logic=not-proved", "only="))
 
 
+def proved_in(folder, goal):
+    """Returns the path of the function whose goals stand in this folder of proofs. If several call each other, its name is none of
+    theirs, and the goal begins with the function's own."""
+    path = folder.replace("/+", "/").split("/")
+    found = ["::".join(path)]
+    if "/+" in folder and goal and "-" in goal:
+        found.append("::".join([*path[:-1], goal.split("-")[0]]))
+    return found
+
+
 def judged(said):
     """Returns, by the path of a function, the goals that the check does not prove, and the errors of a proof file that names
     what the edit removed."""
@@ -22,7 +32,8 @@ def judged(said):
         at = re.match(r"(?:\./)?proofs/(\S+)/[A-Za-z]+\.antt:\d+:\d+: error: (?:`([^`]*)`: )?(.*)", line)
         if at:
             kind = gone if re.search(GONE, at[3]) else open_goals
-            kind.setdefault(at[1].replace("/+", "/").replace("/", "::"), []).append(at[2] or at[3][:60])
+            for of in proved_in(at[1], at[2]):
+                kind.setdefault(of, []).append(at[2] or at[3][:60])
     return open_goals, gone
 
 

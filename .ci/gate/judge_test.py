@@ -65,6 +65,10 @@ class Judge(unittest.TestCase):
         self.assertEqual(in_group("name_gone", "ordered::same_rows_of"), refused)
         self.assertEqual(alone("name_gone", Edit("ordered::same_rows_of")), refused)
 
+    def test_a_goal_of_functions_that_call_each_other_is_its_own_function_s(self):
+        self.assertEqual(in_group("in_turn", "row::write_row"), (True, "refused: write_row-returns-in_ok-push_quoted-in-Field"))
+        self.assertEqual(in_group("in_turn", "row::write_items"), (False, "NOT REFUSED"))
+
     def test_still_proved(self):
         self.assertEqual(in_group("still_proved_by_contract", "slice::SliceLen::len"), (False, "NOT REFUSED"))
         self.assertEqual(alone("still_proved", Edit("slice::SliceLen::len")), (False, "NOT REFUSED: its function is still proved"))

@@ -91,7 +91,7 @@ int main(int argc, char **argv) {
         printf("no such row\n");
         break;
     default:
-        printf("%s has no text\n", answer == COLUMNAR_NOT_TEXT ? "a string" : "a float");
+        printf("a string has no text\n");
     }
     free(bytes);
     return (int)answer;

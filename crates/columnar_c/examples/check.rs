@@ -116,8 +116,7 @@ fn main() -> ExitCode {
         3 => println!("no memory"),
         4 => println!("no bounds"),
         5 => println!("no such row"),
-        6 => println!("a string has no text"),
-        _ => println!("a float has no text"),
+        _ => println!("a string has no text"),
     }
     ExitCode::from(answer as u8)
 }

@@ -1,12 +1,12 @@
 -- The report on a store to a program in C, for the text of a type.
-use Rattle.std.specs.Prelude.{ℕ, List, Option, Some, None, ◌≡◌, ◌==◌, ◌↔◌, if◌then◌else◌, false, length}
+use Rattle.std.specs.Prelude.{ℕ, List, Option, Some, None, ◌≡◌, ◌==◌, ◌↔◌, if◌then◌else◌, length}
 use Rattle.columnar_core.specs.Format.{Format}
 use Rattle.columnar_core.specs.Faults.{fault_number, fault_slice}
 use Rattle.columnar_core.specs.Frame.{framed_slices}
 use Rattle.columnar_core.specs.declared.fault.StoreFault.{StoreFault}
 use Rattle.columnar_bytes.specs.Accepted.{Accepts, IsFirstFault}
 use Rattle.columnar_schema.specs.Formats.{format_of}
-use Rattle.columnar_schema.specs.Names.{Names, unspaced}
+use Rattle.columnar_schema.specs.Names.{Names, a_type, unspaced}
 use Rattle.columnar_schema.specs.declared.schema.Bounds.{Bounds}
 use Rattle.columnar_schema.specs.declared.schema.Bounds.TheVariants.{Words, Strides, Unaries}
 use Rattle.columnar_schema.specs.declared.schema.Schema.{Schema}
@@ -19,7 +19,7 @@ bounds_of n = if n == 0 then Some Words else (if n == 1 then Some Unaries else (
 pub record IsTypeOf (bounds : ℕ) (text : List ℕ) (schema : Schema) : Type 0 where
   pub lists : Bounds
   pub kept : bounds_of bounds ≡ Some lists
-  pub named : Names lists false (unspaced text) schema
+  pub named : Names lists a_type (unspaced text) schema
 
 -- the first rule that the bytes break, and its slice
 pub record BreaksFirst (f : Format) (bytes : List ℕ) (rule slice : ℕ) : Type 0 where

@@ -6,10 +6,11 @@ use Rattle.columnar_bytes.specs.Accepted.{Accepts, IsFirstFault}
 use Rattle.columnar_schema.specs.Formats.{format_of}
 use Rattle.columnar_schema.specs.declared.schema.Schema.{Schema}
 use Rattle.columnar_json.specs.Json.{flaws_of, json_of, row_at}
+use Rattle.columnar_json.specs.Pieces.{Spells}
 use Rattle.columnar_json.specs.Refusals.{IsRefusal}
 use Rattle.columnar_json.specs.Stored.{stored_rows}
 use Rattle.columnar_json.specs.declared.unwritten.Unwritten.{Unwritten}
-use Rattle.columnar_json.specs.declared.unwritten.Unwritten.TheVariants.{Memory, NoRow, NotText, NoText}
+use Rattle.columnar_json.specs.declared.unwritten.Unwritten.TheVariants.{Memory, NoRow, NotText}
 use Rattle.columnar_c.specs.Answers.{BreaksFirst, IsTypeOf}
 use Rattle.columnar_c.specs.declared.json.Untold.{Untold}
 use Rattle.columnar_c.specs.declared.json.Untold.TheVariants.{Broken, Row as RowUntold}
@@ -23,7 +24,7 @@ pub record IsRowText (s : Schema) (bytes : List ℕ) (i : ℕ) (text : List ℕ)
   pub accepted : Accepts (format_of s) bytes
   pub in_range : i < length (rows_in s bytes)
   pub flawless : flaws_of s (row_at (rows_in s bytes) i) ≡ []
-  pub is : text ≡ json_of s (row_at (rows_in s bytes) i)
+  pub is : Spells (json_of s (row_at (rows_in s bytes) i)) text
 
 -- Accepted bytes have no row i, or it is refused.
 pub record HasNoText (s : Schema) (bytes : List ℕ) (i : ℕ) (why : Unwritten) : Type 0 where
@@ -39,7 +40,6 @@ abbrev pub refusal_number : Unwritten → ℕ
 refusal_number Memory = 3
 refusal_number NoRow = 5
 refusal_number NotText = 6
-refusal_number NoText = 7
 
 -- The buffer begins with the text; after it, it is as before.
 pub record Holds (text old new : List ℕ) (written : ℕ) : Type 0 where
@@ -53,7 +53,7 @@ pub record LacksRoom (text old : List ℕ) (written : ℕ) : Type 0 where
   pub count : written ≡ length text
 
 -- The text names a type. What each answer says of row i of the bytes, as a column of it: 0 its text is written; 1 the bytes
--- break a rule; 5 there is no row i; 6, 7 its first flaw is a text that is not UTF-8, a float; 8 its text does not fit.
+-- break a rule; 5 there is no row i; 6 its first flaw is a text that is not UTF-8; 8 its text does not fit.
 pub record Told (bounds : ℕ) (text bytes : List ℕ) (i answer : ℕ) (old new : List ℕ) (written rule slice : ℕ) : Type 0 where
   pub schema : Schema
   pub named : IsTypeOf bounds text schema
@@ -61,5 +61,4 @@ pub record Told (bounds : ℕ) (text bytes : List ℕ) (i answer : ℕ) (old new
   pub broken : answer ≡ 1 → BreaksFirst (format_of schema) bytes rule slice
   pub no_row : answer ≡ 5 → HasNoText schema bytes i NoRow
   pub not_text : answer ≡ 6 → HasNoText schema bytes i NotText
-  pub no_text : answer ≡ 7 → HasNoText schema bytes i NoText
   pub no_room : answer ≡ 8 → (line : List ℕ) × (IsRowText schema bytes i line × LacksRoom line old written)

@@ -18,8 +18,6 @@ use std::alloc::Global;
 pub const NO_ROW: u32 = 5;
 /// A text in the row is not UTF-8.
 pub const NOT_TEXT: u32 = 6;
-/// The row has a float, and no text is defined for floats.
-pub const NO_TEXT: u32 = 7;
 /// The text does not fit in the buffer.
 pub const NO_ROOM: u32 = 8;
 
@@ -71,7 +69,6 @@ fn unwritten_number(why: Unwritten) -> u32
         Unwritten::Memory => NO_MEMORY,
         Unwritten::NoRow => NO_ROW,
         Unwritten::NotText => NOT_TEXT,
-        Unwritten::NoText => NO_TEXT,
     }
 }
 
@@ -79,7 +76,7 @@ fn unwritten_number(why: Unwritten) -> u32
 /// ends of the lists of `Vec<T>` are stored (`bounds_of_number`). The whole store is tested first.
 ///
 /// Returns ACCEPTED if the row is written. Otherwise `out` stays, and it returns NO_ROOM, with the length of the text
-/// in `written`; NO_ROW, NOT_TEXT or NO_TEXT; BROKEN, with the first broken rule and its slice; NO_TYPE, with the first
+/// in `written`; NO_ROW or NOT_TEXT; BROKEN, with the first broken rule and its slice; NO_TYPE, with the first
 /// position of the text that cannot be parsed; NO_MEMORY if an allocation fails; or NO_BOUNDS. `written` is then 0.
 #[unsafe(no_mangle)]
 pub extern "C" fn columnar_row_json(
@@ -98,7 +95,7 @@ pub extern "C" fn columnar_row_json(
     ensures unbroken { (result ≡ 1) ⊎ (fault.new.rule ≡ 0) }
     ensures place { fault.new.place ≤ length text.now }
     ensures bounds { (result ≡ 4) ↔ (bounds_of bounds ≡ None) }
-    ensures answers { result ≤ 8 }
+    ensures answers { (result ≤ 6) ⊎ (result ≡ 8) }
 {
     *written = 0;
     *fault = no_fault();

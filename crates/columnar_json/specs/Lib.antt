@@ -1,3 +1,4 @@
+pub mod Pieces
 pub mod Json
 pub mod Written
 pub mod WrittenLaws
@@ -5,5 +6,6 @@ pub mod TextLaws
 pub mod Stored
 pub mod PartLaws
 pub mod ItemLaws
+pub mod RealLaws
 pub mod RowTextLaws
 pub mod Refusals

@@ -23,7 +23,7 @@ use Rattle.columnar_sums.specs.ResultLaws.{oks_fit, errs_fit, results_at, result
 use Rattle.columnar_lists.specs.Lists.{lists_format}
 use Rattle.columnar_lists.specs.CutLaws.{cut_get, rises_get}
 use Rattle.columnar_lists.specs.ListLaws.{lists_two, lists_parts, length-lists}
-use Rattle.columnar_schema.specs.declared.schema.Schema.{Schema, Optional', Fallible', Lists', Solo', Tuple', Beside'}
+use Rattle.columnar_schema.specs.declared.schema.Schema.{Schema, Optional', Fallible', Lists', Solo', Tuple', Beside', Field'}
 use Rattle.columnar_schema.specs.Formats.{bounds_format, columns_of, format_of}
 use Rattle.columnar_schema.specs.TypeLaws.{depth_of, optional_two, lists_of_two, tuple_rows_of, beside_rows_of}
 use Rattle.columnar_json.specs.Json.{row_at}
@@ -171,8 +171,8 @@ items_row s {b} {p} {t} o ss i l u e q h =
 
 -- ---- tuples
 
-pub only_in : (s : Schema) {p : _} {t : Schema} (o : ℕ) (ss : List (List ℕ)) (i : ℕ) → s ≡ Solo' p t → i < length (stored_rows s ss o) → i < length (stored_rows t ss o)
-only_in s {p} {t} o ss i e l =
+pub only_in : (s : Schema) {br : _} {p : _} {t : Schema} (o : ℕ) (ss : List (List ℕ)) (i : ℕ) → s ≡ Solo' br p t → i < length (stored_rows s ss o) → i < length (stored_rows t ss o)
+only_in s {br} {p} {t} o ss i e l =
     let h : i < length ((solo_format (format_of t)).rows ((format_of t).build (drop o ss))) = rw e at l in
     omega (arith, h, solo_length (format_of t) ((format_of t).build (drop o ss)))
 
@@ -181,8 +181,8 @@ row_at-solos [] i l = absurd (omega arith)
 row_at-solos (r ∷ rs) zero l = refl
 row_at-solos (r ∷ rs) (suc i) l = row_at-solos rs i (omega arith)
 
-pub only_row : (s : Schema) {p : _} {t : Schema} (o : ℕ) (ss : List (List ℕ)) (i : ℕ) → s ≡ Solo' p t → i < length (stored_rows s ss o) → stored_row s ss o i ≡ solo (stored_row t ss o i)
-only_row s {p} {t} o ss i e l =
+pub only_row : (s : Schema) {br : _} {p : _} {t : Schema} (o : ℕ) (ss : List (List ℕ)) (i : ℕ) → s ≡ Solo' br p t → i < length (stored_rows s ss o) → stored_row s ss o i ≡ solo (stored_row t ss o i)
+only_row s {br} {p} {t} o ss i e l =
     let k = only_in s o ss i e l in
     rw e (row_at-solos (stored_rows t ss o) i k)
 
@@ -191,8 +191,8 @@ nested_rows b [] c = refl
 nested_rows b (g ∷ fs) c = refl
 
 -- both parts have a row if the whole has it
-pub fields_in : (s : Schema) {p : _} {a : Schema} {q : _} {r : Schema} (o : ℕ) (ss : List (List ℕ)) (i : ℕ) → s ≡ Tuple' p a q r → i < length (stored_rows s ss o) → (i < length (stored_rows a ss o)) × (i < length (stored_rows r ss (o + (format_of a).count)))
-fields_in s {p} {a} {q} {r} o ss i e l =
+pub fields_in : (s : Schema) {br : _} {p : _} {a : Schema} {q : _} {r : Schema} (o : ℕ) (ss : List (List ℕ)) (i : ℕ) → s ≡ Tuple' br p a q r → i < length (stored_rows s ss o) → (i < length (stored_rows a ss o)) × (i < length (stored_rows r ss (o + (format_of a).count)))
+fields_in s {br} {p} {a} {q} {r} o ss i e l =
     let n = length (stored_rows a ss o) in
     let m = length (stored_rows r ss (o + (format_of a).count)) in
     let h : min n m ≡ length (stored_rows s ss o) = tuple_rows_of s o ss n m (min n m) e refl refl refl in
@@ -210,8 +210,8 @@ row_of_both a b fs x y i l k =
     let e = nested_rows b fs y in
     rw e (row_at_get _ i _ (slice_get-tuples i (a.rows x) ((sides b fs).rows y) (row_at (a.rows x) i) (row_at ((sides b fs).rows y) i) (get_row_at (a.rows x) i l) (get_row_at ((sides b fs).rows y) i k)))
 
-pub fields_row : (s : Schema) {p : _} {a : Schema} {q : _} {r : Schema} (o : ℕ) (ss : List (List ℕ)) (i : ℕ) → s ≡ Tuple' p a q r → i < length (stored_rows s ss o) → stored_row s ss o i ≡ tuple (stored_row a ss o i) (stored_row r ss (o + (format_of a).count) i)
-fields_row s {p} {a} {q} {r} o ss i e l =
+pub fields_row : (s : Schema) {br : _} {p : _} {a : Schema} {q : _} {r : Schema} (o : ℕ) (ss : List (List ℕ)) (i : ℕ) → s ≡ Tuple' br p a q r → i < length (stored_rows s ss o) → stored_row s ss o i ≡ tuple (stored_row a ss o i) (stored_row r ss (o + (format_of a).count) i)
+fields_row s {br} {p} {a} {q} {r} o ss i e l =
     let k = fields_in s o ss i e l in
     let f = format_of a in
     let c = columns_of r in
@@ -229,6 +229,11 @@ later_row s {p} {a} {q} {r} o ss i e l =
     let y = (format_of r).build (drop (o + f.count) ss) in
     let w = row_of_both f c.head c.others x y i k.0 k.1 in
     rw e (subst (λ (d : Content). row_at ((sides f (c.head ∷ c.others)).rows d) i ≡ tuple (row_at (f.rows x) i) (row_at ((format_of r).rows y) i)) (sym (two_built (sides_two f c.head c.others) ss o)) w)
+
+-- ---- named fields
+
+pub part_row : (s : Schema) {n : _} {p : _} {t : Schema} (o : ℕ) (ss : List (List ℕ)) (i : ℕ) → s ≡ Field' n p t → stored_row s ss o i ≡ stored_row t ss o i
+part_row s o ss i e = rw e refl
 
 -- ---- measures, and numbers of slices
 
@@ -252,8 +257,8 @@ items_fall s l {b} {p} {t} e k =
     let h : 3 * depth_of t + 2 < 3 * suc (depth_of t) = omega arith in
     rw (e, k) h
 
-pub fields_fall : (s l m : Schema) {p : _} {a : Schema} {q : _} {r : Schema} → s ≡ Tuple' p a q r → l ≡ a → m ≡ r → 3 * (depth_of l + depth_of m) + 1 < 3 * depth_of s
-fields_fall s l m {p} {a} {q} {r} e k n =
+pub fields_fall : (s l m : Schema) {br : _} {p : _} {a : Schema} {q : _} {r : Schema} → s ≡ Tuple' br p a q r → l ≡ a → m ≡ r → 3 * (depth_of l + depth_of m) + 1 < 3 * depth_of s
+fields_fall s l m {br} {p} {a} {q} {r} e k n =
     let h : 3 * (depth_of a + depth_of r) + 1 < 3 * suc (depth_of a + depth_of r) = omega arith in
     rw (e, k, n) h
 

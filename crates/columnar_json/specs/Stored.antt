@@ -5,6 +5,7 @@ use Rattle.columnar_base.specs.Row.{Row}
 use Rattle.columnar_schema.specs.declared.schema.Schema.{Schema}
 use Rattle.columnar_schema.specs.Formats.{format_of}
 use Rattle.columnar_json.specs.Json.{commas, flaws_of, json_of, row_at}
+use Rattle.columnar_json.specs.Pieces.{Piece}
 use Rattle.columnar_json.specs.declared.unwritten.Unwritten.{Unwritten}
 
 abbrev pub stored_rows : Schema → List (List ℕ) → ℕ → List Row
@@ -14,7 +15,7 @@ abbrev pub stored_row : Schema → List (List ℕ) → ℕ → ℕ → Row
 stored_row s ss o i = row_at (stored_rows s ss o) i
 
 -- the texts and the flaws of n rows from row l on
-abbrev pub items_json : Schema → List Row → ℕ → ℕ → List ℕ
+abbrev pub items_json : Schema → List Row → ℕ → ℕ → List Piece
 items_json t rs l n = commas (map (json_of t) (take n (drop l rs)))
 
 abbrev pub items_flaws : Schema → List Row → ℕ → ℕ → List Unwritten

@@ -6,8 +6,9 @@ ghost use Rattle.columnar_schema.specs.Formats.{leaf_format};
 ghost use Rattle.columnar_schema.specs.declared.schema.Leaf.TheVariants.{Text};
 ghost use Rattle.columnar_base.specs.Texts.{text_row};
 ghost use Rattle.columnar_json.specs.Json.{leaf_flaws, leaf_json, row_at};
-ghost use Rattle.columnar_json.specs.Written.{Wrote};
+ghost use Rattle.columnar_json.specs.Written.{WroteRow};
 
+use crate::real::{push_double, push_single};
 use crate::text::{
     push_bytes, push_character, push_duration, push_integer, push_large, push_large_integer,
     push_number, push_text, push_truth,
@@ -20,6 +21,7 @@ use columnar_core::traits::Index;
 use columnar_core::view::View;
 use columnar_primitive::chars::Chars;
 use columnar_primitive::durations::Durations;
+use columnar_primitive::floats::{Doubles, Singles};
 use columnar_primitive::larges::{I128s, U128s};
 use columnar_primitive::numbers::{Isizes, Usizes};
 use columnar_primitive::offsets::Strides;
@@ -66,7 +68,8 @@ fn text_at<'a>(bounds: Bounds, store: &DecodedStore<'a>, offset: usize, index: u
 /// The slices from `offset` on were accepted for this type, and have this row.
 ///
 /// # Errors
-/// `NotText` for a text that is not UTF-8, `NoText` for a float, or `Memory`. `out` then begins as before.
+/// `NotText` for a text that is not UTF-8, or `Memory`. `out` then begins as before.
+#[tactic(auto, using(crate::specs::WrittenLaws::wrote_plain))]
 pub fn write_leaf(
     leaf: Leaf,
     store: &DecodedStore<'_>,
@@ -76,7 +79,7 @@ pub fn write_leaf(
 ) -> Result<(), Unwritten>
     requires fits { Fits (leaf_format leaf) offset (slices_in store.now) }
     requires in_range { index < length ((leaf_format leaf).rows ((leaf_format leaf).build (drop offset (slices_in store.now)))) }
-    ensures { Wrote out.old.items out.new.items (leaf_json leaf (row_at ((leaf_format leaf).rows ((leaf_format leaf).build (drop offset (slices_in store.now)))) index)) (leaf_flaws leaf (row_at ((leaf_format leaf).rows ((leaf_format leaf).build (drop offset (slices_in store.now)))) index)) result }
+    ensures { WroteRow out.old.items out.new.items (leaf_json leaf (row_at ((leaf_format leaf).rows ((leaf_format leaf).build (drop offset (slices_in store.now)))) index)) (leaf_flaws leaf (row_at ((leaf_format leaf).rows ((leaf_format leaf).build (drop offset (slices_in store.now)))) index)) result }
 {
     match leaf {
         Leaf::U8 => push_number(out, row_in::<View<'_, u8>>(store, offset, index) as u64),
@@ -109,7 +112,8 @@ pub fn write_leaf(
                 row_in::<Isizes<View<'_, i64>>>(store, offset, index) as i64,
             )
         }
-        Leaf::F32 | Leaf::F64 => Err(Unwritten::NoText),
+        Leaf::F32 => push_single(out, row_in::<Singles<View<'_, u32>>>(store, offset, index)),
+        Leaf::F64 => push_double(out, row_in::<Doubles<View<'_, u64>>>(store, offset, index)),
         Leaf::Bool => {
             push_truth(
                 out,

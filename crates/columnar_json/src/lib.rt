@@ -2,6 +2,7 @@
 #![tactic(auto)]
 
 mod leaf;
+mod real;
 mod row;
 pub mod rows;
 mod text;

@@ -7,12 +7,13 @@ ghost use Rattle.columnar_core.specs.Store.{slices_in};
 ghost use Rattle.columnar_sums.specs.Counting.{ones};
 ghost use Rattle.columnar_sums.specs.RankColumns.{ranks_bits, ranks_format};
 ghost use Rattle.columnar_schema.specs.Formats.{bounds_format, format_of};
-ghost use Rattle.columnar_json.specs.Json.{between, flaws_of, json_of};
+ghost use Rattle.columnar_json.specs.Json.{between, closing, flaws_of, json_of, opening};
 ghost use Rattle.columnar_json.specs.Stored.{comma, items_flaws, items_json, stored_row, stored_rows};
-ghost use Rattle.columnar_json.specs.Written.{Wrote};
+ghost use Rattle.columnar_json.specs.Pieces.{plain};
+ghost use Rattle.columnar_json.specs.Written.{WroteRow};
 
 use crate::leaf::{Multiples, Runs, write_leaf};
-use crate::text::push_bytes;
+use crate::text::{push_bytes, push_quoted};
 use crate::unwritten::Unwritten;
 use columnar_core::bytes::FromBytes;
 use columnar_core::offsets::Offsets;
@@ -22,7 +23,7 @@ use columnar_core::view::View;
 use columnar_lists::parts::range_of;
 use columnar_schema::bounds::bounds_slices;
 use columnar_schema::judge::slice_count_of;
-use columnar_schema::schema::{Bounds, Schema};
+use columnar_schema::schema::{Bounds, Brackets, Schema};
 use columnar_sums::rank_select::RankSelect;
 
 // Returns whether bit `index` is set, and the number of set bits before it.
@@ -83,7 +84,7 @@ fn write_between(
     requires counted { (format_of schema.now).count ≤ 2 ^ 60 }
     requires fits { Fits (format_of schema.now) offset (slices_in store.now) }
     requires in_range { index < length (stored_rows schema.now (slices_in store.now) offset) }
-    ensures { Wrote out.old.items out.new.items (between before.now after.now (json_of schema.now (stored_row schema.now (slices_in store.now) offset index))) (flaws_of schema.now (stored_row schema.now (slices_in store.now) offset index)) result }
+    ensures { WroteRow out.old.items out.new.items (between before.now after.now (json_of schema.now (stored_row schema.now (slices_in store.now) offset index))) (flaws_of schema.now (stored_row schema.now (slices_in store.now) offset index)) result }
 {
     push_bytes(out, before)?;
     write_row(schema, store, offset, index, out)?;
@@ -106,7 +107,7 @@ fn write_fields(
     requires later_fit { Fits (format_of later.now) (offset + (format_of field.now).count) (slices_in store.now) }
     requires in_field { index < length (stored_rows field.now (slices_in store.now) offset) }
     requires in_later { index < length (stored_rows later.now (slices_in store.now) (offset + (format_of field.now).count)) }
-    ensures { Wrote out.old.items out.new.items (json_of field.now (stored_row field.now (slices_in store.now) offset index) ++ (codes "," ++ json_of later.now (stored_row later.now (slices_in store.now) (offset + (format_of field.now).count) index))) (flaws_of field.now (stored_row field.now (slices_in store.now) offset index) ++ flaws_of later.now (stored_row later.now (slices_in store.now) (offset + (format_of field.now).count) index)) result }
+    ensures { WroteRow out.old.items out.new.items (json_of field.now (stored_row field.now (slices_in store.now) offset index) ++ (plain (codes ",") ++ json_of later.now (stored_row later.now (slices_in store.now) (offset + (format_of field.now).count) index))) (flaws_of field.now (stored_row field.now (slices_in store.now) offset index) ++ flaws_of later.now (stored_row later.now (slices_in store.now) (offset + (format_of field.now).count) index)) result }
 {
     write_row(field, store, offset, index, out)?;
     push_bytes(out, b",")?;
@@ -118,6 +119,28 @@ fn comma_unless(first: bool) -> &'static [u8]
     ensures { result.now ≡ comma first }
 {
     if first { b"" } else { b"," }
+}
+
+// Returns what stands before the fields of a type.
+fn before_fields(brackets: Brackets) -> &'static [u8]
+    ensures { result.now ≡ opening brackets }
+{
+    match brackets {
+        Brackets::Square => b"[",
+        Brackets::Curly => b"{",
+        Brackets::Bare => b"",
+    }
+}
+
+// Returns what stands after the fields of a type.
+fn after_fields(brackets: Brackets) -> &'static [u8]
+    ensures { result.now ≡ closing brackets }
+{
+    match brackets {
+        Brackets::Square => b"]",
+        Brackets::Curly => b"}",
+        Brackets::Bare => b"",
+    }
 }
 
 // Appends the JSON texts of these rows, with commas between them.
@@ -134,7 +157,7 @@ fn write_items(
     requires fits { Fits (format_of schema.now) offset (slices_in store.now) }
     requires ordered { lower ≤ upper }
     requires in_range { upper ≤ length (stored_rows schema.now (slices_in store.now) offset) }
-    ensures { Wrote out.old.items out.new.items (items_json schema.now (stored_rows schema.now (slices_in store.now) offset) lower (upper - lower)) (items_flaws schema.now (stored_rows schema.now (slices_in store.now) offset) lower (upper - lower)) result }
+    ensures { WroteRow out.old.items out.new.items (items_json schema.now (stored_rows schema.now (slices_in store.now) offset) lower (upper - lower)) (items_flaws schema.now (stored_rows schema.now (slices_in store.now) offset) lower (upper - lower)) result }
 {
     for i in lower..upper {
         let comma = comma_unless(i == lower);
@@ -161,7 +184,7 @@ pub fn write_row(
     requires counted { (format_of schema.now).count ≤ 2 ^ 60 }
     requires fits { Fits (format_of schema.now) offset (slices_in store.now) }
     requires in_range { index < length (stored_rows schema.now (slices_in store.now) offset) }
-    ensures { Wrote out.old.items out.new.items (json_of schema.now (stored_row schema.now (slices_in store.now) offset index)) (flaws_of schema.now (stored_row schema.now (slices_in store.now) offset index)) result }
+    ensures { WroteRow out.old.items out.new.items (json_of schema.now (stored_row schema.now (slices_in store.now) offset index)) (flaws_of schema.now (stored_row schema.now (slices_in store.now) offset index)) result }
 {
     match schema {
         Schema::Simple(leaf) => write_leaf(*leaf, store, offset, index, out),
@@ -196,12 +219,24 @@ pub fn write_row(
             )?;
             push_bytes(out, b"]")
         }
-        Schema::Solo(field) => write_between(field, store, offset, index, b"[", b"]", out),
-        Schema::Tuple(first, others) => {
-            push_bytes(out, b"[")?;
+        Schema::Solo(brackets, field) => write_between(
+            field,
+            store,
+            offset,
+            index,
+            before_fields(*brackets),
+            after_fields(*brackets),
+            out,
+        ),
+        Schema::Tuple(brackets, first, others) => {
+            push_bytes(out, before_fields(*brackets))?;
             write_fields(first, others, store, offset, index, out)?;
-            push_bytes(out, b"]")
+            push_bytes(out, after_fields(*brackets))
         }
         Schema::Beside(field, later) => write_fields(field, later, store, offset, index, out),
+        Schema::Field(name, part) => {
+            push_quoted(out, name.as_slice())?;
+            write_between(part, store, offset, index, b":", b"", out)
+        }
     }
 }

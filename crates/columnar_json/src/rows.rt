@@ -1,9 +1,10 @@
 //! The rows of an accepted store.
-ghost use Rattle.std.specs.Prelude.{◌≡◌, ◌++◌, ◌≤◌, ◌^◌, ◌↔◌, [], length, IsOk, IfOk, IfErr, OnOk, OnErr, Err};
+ghost use Rattle.std.specs.Prelude.{◌≡◌, ◌≤◌, ◌^◌, ◌↔◌, [], length, IsOk, IfOk, IfErr, OnOk, OnErr, Err};
 ghost use Rattle.columnar_core.specs.Frame.{framed_slices};
 ghost use Rattle.columnar_bytes.specs.Accepted.{Accepted, Accepts, IsFirstFault};
 ghost use Rattle.columnar_schema.specs.Formats.{format_of};
 ghost use Rattle.columnar_json.specs.Json.{flaws_of, json_of, row_at};
+ghost use Rattle.columnar_json.specs.Pieces.{Appended};
 ghost use Rattle.columnar_json.specs.Stored.{stored_rows};
 ghost use Rattle.columnar_json.specs.declared.unwritten.Unwritten.TheVariants.{NoRow};
 
@@ -56,13 +57,13 @@ impl<'a> Rows<'a> {
         self.count
     }
 
-    /// Appends the JSON text of row `index`, as `serde_json` writes a value of the type. Allocates only in `out`.
+    /// Appends the JSON text of row `index`, as `serde_json` writes a value of the type. A finite float gets a short
+    /// number that reads as the same float, any other float `null`. Allocates only in `out`.
     ///
     /// # Errors
-    /// `NoRow` if and only if there is no such row. `NotText` if a text of the row is not UTF-8, `NoText` if it has a
-    /// float, by the first of them in the row. `Memory`. `out` stays.
+    /// `NoRow` if and only if there is no such row. `NotText` if a text of the row is not UTF-8. `Memory`. `out` stays.
     pub fn write_row(&self, index: usize, out: &mut Vec<u8>) -> Result<(), Unwritten>
-        ensures exact { OnOk result (out.new.items ≡ out.old.items ++ json_of self.now.schema.now (row_at (all_rows self.now) index)) }
+        ensures exact { OnOk result (Appended out.old.items out.new.items (json_of self.now.schema.now (row_at (all_rows self.now) index))) }
         ensures flawless { OnOk result (flaws_of self.now.schema.now (row_at (all_rows self.now) index) ≡ []) }
         ensures refused { IfErr result (IsRefusal self.now.schema.now (all_rows self.now) index) }
         ensures no_row { length (all_rows self.now) ≤ index → result ≡ Err NoRow }

@@ -13,7 +13,4 @@ pub enum Unwritten {
     /// A text in the row is not UTF-8.
     #[error("a text is not UTF-8")]
     NotText,
-    /// The row has a float, and no text is defined for floats.
-    #[error("a float has no text")]
-    NoText,
 }

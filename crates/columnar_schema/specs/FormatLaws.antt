@@ -27,7 +27,7 @@ use Rattle.columnar_schema.specs.declared.schema.Bounds.{Bounds}
 use Rattle.columnar_schema.specs.declared.schema.Bounds.TheVariants.{Words, Strides, Unaries}
 use Rattle.columnar_schema.specs.declared.schema.Leaf.{Leaf}
 use Rattle.columnar_schema.specs.declared.schema.Leaf.TheVariants.{U8, U16, U32, U64, U128, Usize, I8, I16, I32, I64, I128, Isize, F32, F64, Bool, Char, Unit, Duration, Text}
-use Rattle.columnar_schema.specs.declared.schema.Schema.{Schema, Simple, Optional', Fallible', Lists', Solo', Tuple', Beside'}
+use Rattle.columnar_schema.specs.declared.schema.Schema.{Schema, Simple, Optional', Fallible', Lists', Solo', Tuple', Beside', Field'}
 use Rattle.columnar_schema.specs.Formats.{bounds_format, larges_format, leaf_format, columns_of, format_of}
 
 pub bounds_storable : (b : Bounds) → IsStorable (bounds_format b)
@@ -61,6 +61,7 @@ storable_of (Simple l) = leaf_storable l
 storable_of (Optional' p t) = options_storable (format_of t) (storable_of t)
 storable_of (Fallible' p t q u) = results_storable (format_of t) (format_of u) (storable_of t) (storable_of u)
 storable_of (Lists' b p t) = lists_storable (bounds_format b) (format_of t) (bounds_storable b) (storable_of t)
-storable_of (Solo' p t) = solo_storable (format_of t) (storable_of t)
-storable_of (Tuple' p a q r) = two_storable (tuple_two (format_of a) (columns_of r).head (columns_of r).others) (omega arith) (storable_of a) (storable_of r)
+storable_of (Solo' k p t) = solo_storable (format_of t) (storable_of t)
+storable_of (Tuple' k p a q r) = two_storable (tuple_two (format_of a) (columns_of r).head (columns_of r).others) (omega arith) (storable_of a) (storable_of r)
 storable_of (Beside' p a q r) = two_storable (sides_two (format_of a) (columns_of r).head (columns_of r).others) (omega arith) (storable_of a) (storable_of r)
+storable_of (Field' n p t) = storable_of t

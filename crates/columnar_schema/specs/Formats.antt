@@ -23,7 +23,7 @@ use Rattle.columnar_schema.specs.declared.schema.Bounds.{Bounds}
 use Rattle.columnar_schema.specs.declared.schema.Bounds.TheVariants.{Words, Strides, Unaries}
 use Rattle.columnar_schema.specs.declared.schema.Leaf.{Leaf}
 use Rattle.columnar_schema.specs.declared.schema.Leaf.TheVariants.{U8, U16, U32, U64, U128, Usize, I8, I16, I32, I64, I128, Isize, F32, F64, Bool, Char, Unit, Duration, Text}
-use Rattle.columnar_schema.specs.declared.schema.Schema.{Schema, Simple, Optional', Fallible', Lists', Solo', Tuple', Beside'}
+use Rattle.columnar_schema.specs.declared.schema.Schema.{Schema, Simple, Optional', Fallible', Lists', Solo', Tuple', Beside', Field'}
 
 abbrev pub bounds_format : Bounds → Format
 bounds_format Words = words_format
@@ -72,9 +72,10 @@ columns_of (Simple l) = alone (leaf_format l)
 columns_of (Optional' p t) = alone (options_format (beside (columns_of t)))
 columns_of (Fallible' p t q e) = alone (results_format (beside (columns_of t)) (beside (columns_of e)))
 columns_of (Lists' b p t) = alone (lists_format (bounds_format b) (beside (columns_of t)))
-columns_of (Solo' p t) = alone (solo_format (beside (columns_of t)))
-columns_of (Tuple' p a q r) = alone (tuple_format (beside (columns_of a)) (columns_of r).head (columns_of r).others)
+columns_of (Solo' k p t) = alone (solo_format (beside (columns_of t)))
+columns_of (Tuple' k p a q r) = alone (tuple_format (beside (columns_of a)) (columns_of r).head (columns_of r).others)
 columns_of (Beside' p a q r) = record { head = beside (columns_of a); others = (columns_of r).head ∷ (columns_of r).others }
+columns_of (Field' n p t) = alone (beside (columns_of t))
 
 abbrev pub format_of : Schema → Format
 format_of s = beside (columns_of s)

@@ -87,8 +87,8 @@ errors_refused s {p} {a} {q} {b} o ss z e h k l = rw e (two_right_at (results_tw
 pub fallible_verdict : (s : Schema) {p : _} {a : Schema} {q : _} {b : Schema} (o : ℕ) (ss : List (List ℕ)) (v : Option Fault) → s ≡ Fallible' p a q b → v ≡ first (moved o ((results_format (format_of a) (format_of b)).broken ((results_format (format_of a) (format_of b)).build (drop o ss)))) → v ≡ first (moved o ((format_of s).broken ((format_of s).build (drop o ss))))
 fallible_verdict s {p} {a} {q} {b} o ss v e h = rw e h
 
-pub tuple_verdict : (s : Schema) {p : _} {a : Schema} {q : _} {r : Schema} (o : ℕ) (ss : List (List ℕ)) (v : Option Fault) → s ≡ Tuple' p a q r → v ≡ first (moved o ((tuple_format (format_of a) (columns_of r).head (columns_of r).others).broken ((tuple_format (format_of a) (columns_of r).head (columns_of r).others).build (drop o ss)))) → v ≡ first (moved o ((format_of s).broken ((format_of s).build (drop o ss))))
-tuple_verdict s {p} {a} {q} {r} o ss v e h = rw e h
+pub tuple_verdict : (s : Schema) {br : _} {p : _} {a : Schema} {q : _} {r : Schema} (o : ℕ) (ss : List (List ℕ)) (v : Option Fault) → s ≡ Tuple' br p a q r → v ≡ first (moved o ((tuple_format (format_of a) (columns_of r).head (columns_of r).others).broken ((tuple_format (format_of a) (columns_of r).head (columns_of r).others).build (drop o ss)))) → v ≡ first (moved o ((format_of s).broken ((format_of s).build (drop o ss))))
+tuple_verdict s {br} {p} {a} {q} {r} o ss v e h = rw e h
 
 -- the verdict on the later fields is that on all, if the first is accepted
 pub beside_verdict : (s : Schema) {p : _} {a : Schema} {q : _} {r : Schema} (o n : ℕ) (ss : List (List ℕ)) (v : Option Fault) → s ≡ Beside' p a q r → n ≡ (format_of a).count → None ≡ first (moved o ((format_of a).broken ((format_of a).build (drop o ss)))) → v ≡ first (moved (o + n) ((format_of r).broken ((format_of r).build (drop (o + n) ss)))) → v ≡ first (moved o ((format_of s).broken ((format_of s).build (drop o ss))))

@@ -6,6 +6,7 @@ pub mod FormatLaws
 pub mod TurnLaws
 pub mod WholeLaws
 pub mod Names
+pub mod Gathered
 pub mod Reading
 pub mod NameLaws
 pub mod ReadingLaws

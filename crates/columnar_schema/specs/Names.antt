@@ -1,12 +1,16 @@
 -- The text of a type. Blanks do not count.
-use Rattle.std.specs.Prelude.{ℕ, Bool, true, false, List, [], ◌∷◌, ◌++◌, ◌≡◌, ◌≤◌, ◌||◌, cond, length, drop, codes, nat_eq}
+use Rattle.std.specs.Prelude.{ℕ, Bool, true, false, List, [], ◌∷◌, ◌++◌, ◌≡◌, ◌≤◌, ◌||◌, ◌&&◌, cond, not, length, drop, codes, nat_eq, Vec}
+use Rattle.std.specs.Global.{Global}
+use Rattle.std.specs.Char.{is_ascii_alphanumeric, is_ascii_digit}
+use Rattle.std.specs.List.{list_all}
+use Rattle.columnar_schema.specs.declared.schema.Brackets.TheVariants.{Square, Curly, Bare}
 use Rattle.columnar_schema.specs.declared.schema.Bounds.{Bounds}
 use Rattle.columnar_schema.specs.declared.schema.Bounds.TheVariants.{Words, Strides, Unaries}
 use Rattle.columnar_schema.specs.declared.schema.Leaf.{Leaf}
 use Rattle.columnar_schema.specs.declared.schema.Leaf.TheVariants.{U8, U16, U32, U64, U128, Usize, I8, I16, I32, I64, I128, Isize, F32, F64, Bool as BoolLeaf, Char, Unit, Duration, Text}
 use Rattle.columnar_schema.specs.declared.text.Head.{Head}
 use Rattle.columnar_schema.specs.declared.text.Head.TheVariants.{Boxed, Optional, Vector, Small}
-use Rattle.columnar_schema.specs.declared.schema.Schema.{Schema, Simple, Optional', Fallible', Lists', Solo', Tuple', Beside'}
+use Rattle.columnar_schema.specs.declared.schema.Schema.{Schema, Simple, Optional', Fallible', Lists', Solo', Tuple', Beside', Field'}
 
 -- a space, a tab, or an end of a line
 abbrev pub is_blank : ℕ → Bool
@@ -15,6 +19,19 @@ is_blank n = nat_eq n 32 || (nat_eq n 9 || (nat_eq n 10 || nat_eq n 13))
 abbrev pub unspaced : List ℕ → List ℕ
 unspaced [] = []
 unspaced (n ∷ ns) = cond (is_blank n) (unspaced ns) (n ∷ unspaced ns)
+
+-- a letter, a digit or `_`
+abbrev pub is_word_byte : ℕ → Bool
+is_word_byte n = is_ascii_alphanumeric n || nat_eq n 95
+
+-- the bytes do not begin with a digit
+abbrev pub starts_name : List ℕ → Bool
+starts_name [] = false
+starts_name (n ∷ ns) = not (is_ascii_digit n)
+
+-- a name of a struct or of a field
+abbrev pub is_name : List ℕ → Bool
+is_name ns = starts_name ns && list_all is_word_byte ns
 
 -- the names of types without parts
 abbrev pub leaf_name : Leaf → List ℕ
@@ -48,30 +65,53 @@ inside name t = name ++ (codes "<" ++ (t ++ codes ">"))
 abbrev pub with_comma : List ℕ → List ℕ → List ℕ
 with_comma t u = t ++ (codes "," ++ u)
 
--- A text names a type; `fields` is true for the fields of a tuple from the second on. `lists` chooses the bounds of
--- lists.
-pub data Names (lists : Bounds) : Bool → List ℕ → Schema → Type 0 where
-  leaf : (l : Leaf) → Names lists false (leaf_name l) (Simple l)
-  boxed : {t : List ℕ} {s : Schema} → Names lists false t s → Names lists false (inside (codes "Box") t) s
-  optional : {t : List ℕ} {s : Schema} {p : _} → Names lists false t s → Names lists false (inside (codes "Option") t) (Optional' p s)
-  listed : {t : List ℕ} {s : Schema} {p : _} → Names lists false t s → Names lists false (inside (codes "Vec") t) (Lists' lists p s)
-  numbered : {t : List ℕ} {s : Schema} {p : _} → Names lists false t s → Names lists false (inside (codes "SmallVec") t) (Lists' Words p s)
-  fallible : {t u : List ℕ} {s e : Schema} {p q : _} → Names lists false t s → Names lists false u e → Names lists false (inside (codes "Result") (with_comma t u)) (Fallible' p s q e)
-  solo : {t : List ℕ} {s : Schema} {p : _} → Names lists false t s → Names lists false (codes "(" ++ (t ++ codes ",)")) (Solo' p s)
-  tuple : {t u : List ℕ} {s r : Schema} {p q : _} → Names lists false t s → Names lists true u r → Names lists false (codes "(" ++ (with_comma t u ++ codes ")")) (Tuple' p s q r)
-  last : {t : List ℕ} {s : Schema} → Names lists false t s → Names lists true t s
-  more : {t u : List ℕ} {s r : Schema} {p q : _} → Names lists false t s → Names lists true u r → Names lists true (with_comma t u) (Beside' p s q r)
+-- a comma, or nothing
+abbrev pub last_comma : Bool → List ℕ
+last_comma true = codes ","
+last_comma false = []
 
--- From one position to the other, the text continues `begun` so that it names the type.
-pub record GoesOn (lists : Bounds) (fields : Bool) (begun text : List ℕ) (from : ℕ) (s : Schema) (to : ℕ) : Type 0 where
+-- What a text stands for: one type; the rest of the fields of a tuple, from the second on; what follows the name of a
+-- struct; a field with its name; such fields.
+pub data Part : Type 0 where
+  a_type : Part
+  other_types : Part
+  struct_body : Part
+  a_field : Part
+  all_fields : Part
+
+-- A text names a type, or a part of one. `lists` chooses the bounds of lists. A struct has the columns of the tuple of its
+-- fields.
+pub data Names (lists : Bounds) : Part → List ℕ → Schema → Type 0 where
+  leaf : (l : Leaf) → Names lists a_type (leaf_name l) (Simple l)
+  boxed : {t : List ℕ} {s : Schema} → Names lists a_type t s → Names lists a_type (inside (codes "Box") t) s
+  optional : {t : List ℕ} {s : Schema} {p : _} → Names lists a_type t s → Names lists a_type (inside (codes "Option") t) (Optional' p s)
+  listed : {t : List ℕ} {s : Schema} {p : _} → Names lists a_type t s → Names lists a_type (inside (codes "Vec") t) (Lists' lists p s)
+  numbered : {t : List ℕ} {s : Schema} {p : _} → Names lists a_type t s → Names lists a_type (inside (codes "SmallVec") t) (Lists' Words p s)
+  fallible : {t u : List ℕ} {s e : Schema} {p q : _} → Names lists a_type t s → Names lists a_type u e → Names lists a_type (inside (codes "Result") (with_comma t u)) (Fallible' p s q e)
+  solo : {t : List ℕ} {s : Schema} {p : _} → Names lists a_type t s → Names lists a_type (codes "(" ++ (t ++ codes ",)")) (Solo' Square p s)
+  tuple : {t u : List ℕ} {s r : Schema} {p q : _} → Names lists a_type t s → Names lists other_types u r → Names lists a_type (codes "(" ++ (with_comma t u ++ codes ")")) (Tuple' Square p s q r)
+  structure : (n : List ℕ) {t : List ℕ} {s : Schema} → is_name n ≡ true → Names lists struct_body t s → Names lists a_type (codes "struct" ++ (n ++ t)) s
+  last : {t : List ℕ} {s : Schema} → Names lists a_type t s → Names lists other_types t s
+  more : {t u : List ℕ} {s r : Schema} {p q : _} → Names lists a_type t s → Names lists other_types u r → Names lists other_types (with_comma t u) (Beside' p s q r)
+  nothing : Names lists struct_body (codes ";") (Simple Unit)
+  wrapped : {t : List ℕ} {s : Schema} {p : _} → Names lists a_type t s → Names lists struct_body (codes "(" ++ (t ++ codes ");")) (Solo' Bare p s)
+  placed : {t u : List ℕ} {s r : Schema} {p q : _} → Names lists a_type t s → Names lists other_types u r → Names lists struct_body (codes "(" ++ (with_comma t u ++ codes ");")) (Tuple' Square p s q r)
+  single : {t : List ℕ} {s : Schema} {p : _} (c : Bool) → Names lists a_field t s → Names lists struct_body (codes "{" ++ (t ++ (last_comma c ++ codes "}"))) (Solo' Curly p s)
+  several : {t u : List ℕ} {s r : Schema} {p q : _} (c : Bool) → Names lists a_field t s → Names lists all_fields u r → Names lists struct_body (codes "{" ++ (with_comma t u ++ (last_comma c ++ codes "}"))) (Tuple' Curly p s q r)
+  labelled : {t : List ℕ} {s : Schema} {v : Vec ℕ Global} {p : _} → is_name v.items ≡ true → Names lists a_type t s → Names lists a_field (v.items ++ (codes ":" ++ t)) (Field' v p s)
+  last_field : {t : List ℕ} {s : Schema} → Names lists a_field t s → Names lists all_fields t s
+  more_fields : {t u : List ℕ} {s r : Schema} {p q : _} → Names lists a_field t s → Names lists all_fields u r → Names lists all_fields (with_comma t u) (Beside' p s q r)
+
+-- From one position to the other, the text continues `begun` so that it stands for the type or the part.
+pub record GoesOn (lists : Bounds) (part : Part) (begun text : List ℕ) (from : ℕ) (s : Schema) (to : ℕ) : Type 0 where
   pub words : List ℕ
-  pub names : Names lists fields (begun ++ words) s
+  pub names : Names lists part (begun ++ words) s
   pub stands : unspaced (drop from text) ≡ words ++ unspaced (drop to text)
   pub within : to ≤ length text
 
--- the text from one position to the other names the type
-abbrev pub Reads : Bounds → Bool → List ℕ → ℕ → Schema → ℕ → Type 0
-Reads lists fields text from s to = GoesOn lists fields [] text from s to
+-- the text from one position to the other stands for it
+abbrev pub Reads : Bounds → Part → List ℕ → ℕ → Schema → ℕ → Type 0
+Reads lists part text from s to = GoesOn lists part [] text from s to
 
 -- the names of types of one part
 abbrev pub head_name : Head → List ℕ

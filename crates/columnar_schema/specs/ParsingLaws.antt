@@ -3,7 +3,7 @@ use Rattle.std.proofs.Common.{◌≡◌, ◌≢◌, ◌⊎◌, inl, inr, ℕ, su
 use Rattle.std.specs.Prelude.{codes, nat_eq, bytes_eq}
 use Rattle.std.specs.List.{list_any}
 use Rattle.std.proofs.lemmas.List.{drop-drop}
-use Rattle.columnar_schema.specs.Names.{Names, leaf, last, boxed, optional, listed, numbered, fallible, solo, tuple, more, head_name, inside, is_blank, leaf_name, with_comma}
+use Rattle.columnar_schema.specs.Names.{Names, Part, a_type, other_types, structure, leaf, last, boxed, optional, listed, numbered, fallible, solo, tuple, more, head_name, inside, is_blank, leaf_name, with_comma}
 use Rattle.columnar_schema.specs.Reading.{IsApart, NamesNone, NestsWithin, Reaches, ReadsFields, ReadsPart, ReadsParts, ReadsSolo, ReadsTexts, ReadsTuple, ReadsUnit, fields_of, other_leaves, signed_leaves, unsigned_leaves, word_in, word_length}
 use Rattle.columnar_schema.specs.declared.schema.Bounds.{Bounds}
 use Rattle.columnar_schema.specs.declared.schema.Bounds.TheVariants.{Words, Strides, Unaries}
@@ -55,7 +55,7 @@ leaf_begins (Text Strides) = begins_with 83 (codes "trings<Strides>") refl refl
 leaf_begins (Text Unaries) = begins_with 83 (codes "trings<Unaries>") refl refl
 leaf_begins Unit = begins_with 40 (codes ")") refl refl
 
-pub begins : {lists : Bounds} {fields : Bool} {t : List ℕ} {s : Schema} → Names lists fields t s → Begins t
+pub begins : {lists : Bounds} {t : List ℕ} {s : Schema} → Names lists a_type t s → Begins t
 begins (leaf l) = leaf_begins l
 begins (boxed n) = begins_with 66 _ refl refl
 begins (optional n) = begins_with 79 _ refl refl
@@ -64,8 +64,11 @@ begins (numbered n) = begins_with 83 _ refl refl
 begins (fallible n m) = begins_with 82 _ refl refl
 begins (solo n) = begins_with 40 _ refl refl
 begins (tuple n m) = begins_with 40 _ refl refl
-begins (last n) = begins n
-begins (more {t} {u} n m) =
+begins (structure k h n) = begins_with 115 _ refl refl
+
+pub rest_begins : {lists : Bounds} {u : List ℕ} {r : Schema} → Names lists other_types u r → Begins u
+rest_begins (last n) = begins n
+rest_begins (more {t} {u} n m) =
     let b = begins n in
     record { first = b.first; later = b.later ++ (44 ∷ u); is = ap (λ z. z ++ (44 ∷ u)) b.is; shows = b.shows; opens = b.opens }
 
@@ -73,11 +76,9 @@ begins (more {t} {u} n m) =
 pub begun : {t : List ℕ} (b : Begins t) (text after : List ℕ) (at : ℕ) → drop at text ≡ t ++ after → drop at text ≡ b.first ∷ (b.later ++ after)
 begun b text after at e = e ∙ ap (λ z. z ++ after) b.is
 
--- a type or a field does not begin with `)`
-pub not_closed : {lists : Bounds} {fields : Bool} {t : List ℕ} {s : Schema} → Names lists fields t s → (text after : List ℕ) (at : ℕ) (r : Bool) → ((k : ℕ) (x : List ℕ) → drop at text ≡ k ∷ x → is_blank k ≡ false → r ≡ nat_eq k 41) → drop at text ≡ t ++ after → r ≡ false
-not_closed n text after at r h e =
-    let b = begins n in
-    h b.first _ (begun b text after at e) b.shows ∙ b.opens
+-- such a text does not begin with `)`
+pub not_closed : {t : List ℕ} (b : Begins t) (text after : List ℕ) (at : ℕ) (r : Bool) → ((k : ℕ) (x : List ℕ) → drop at text ≡ k ∷ x → is_blank k ≡ false → r ≡ nat_eq k 41) → drop at text ≡ t ++ after → r ≡ false
+not_closed b text after at r h e = h b.first _ (begun b text after at e) b.shows ∙ b.opens
 
 -- ---- tuples
 
@@ -113,27 +114,20 @@ unit_read Unit rest text next r o e h = h rest e
 pub two_apart : (t u : List ℕ) (k : ℕ) (rest : List ℕ) → (with_comma t u ++ (k ∷ [])) ++ rest ≡ t ++ (44 ∷ (u ++ (k ∷ rest)))
 two_apart t u k rest = append_assoc (with_comma t u) (k ∷ []) rest ∙ append_assoc t (44 ∷ u) (k ∷ rest)
 
-pub tuple_read : {lists : Bounds} {t : List ℕ} {s : Schema} (n : Names lists false t s) (most : ℕ) (rest text : List ℕ) (next : ℕ) (r : Result (Schema × ℕ) Refused) → opens (t ++ rest) ≡ true → NestsWithin most n → drop next text ≡ drop 1 (t ++ rest) → ReadsUnit text (drop next text) r → ReadsSolo lists (most - 1) text (drop next text) r → ReadsTuple lists (most - 1) text (drop next text) r → Reaches r text rest
+pub tuple_read : {lists : Bounds} {t : List ℕ} {s : Schema} (n : Names lists a_type t s) (most : ℕ) (rest text : List ℕ) (next : ℕ) (r : Result (Schema × ℕ) Refused) → opens (t ++ rest) ≡ true → NestsWithin most n → drop next text ≡ drop 1 (t ++ rest) → ReadsUnit text (drop next text) r → ReadsSolo lists (most - 1) text (drop next text) r → ReadsTuple lists (most - 1) text (drop next text) r → Reaches r text rest
 tuple_read (leaf l) most rest text next r o h e unit one several = unit_read l rest text next r o e unit
 tuple_read (boxed n) most rest text next r o h e unit one several = no o
 tuple_read (optional n) most rest text next r o h e unit one several = no o
 tuple_read (listed n) most rest text next r o h e unit one several = no o
 tuple_read (numbered n) most rest text next r o h e unit one several = no o
 tuple_read (fallible n m) most rest text next r o h e unit one several = no o
+tuple_read (structure v k n) most rest text next r o h e unit one several = no o
 tuple_read (solo {t} n) most rest text next r o h e unit one several = one t rest _ n (e ∙ append_assoc t (codes ",)") rest) h.1
 tuple_read (tuple {t} {u} n m) most rest text next r o h e unit one several = several t u rest _ _ n m (e ∙ two_apart t u 41 rest) h.1.1.0 h.1.1.1 h.1.0
 
 -- ---- fields
 
-pub some_fields : {lists : Bounds} {fields : Bool} {t : List ℕ} {s : Schema} (m : Names lists fields t s) → 1 ≤ fields_of m
-some_fields (leaf l) = omega arith
-some_fields (boxed n) = omega arith
-some_fields (optional n) = omega arith
-some_fields (listed n) = omega arith
-some_fields (numbered n) = omega arith
-some_fields (fallible n m) = omega arith
-some_fields (solo n) = omega arith
-some_fields (tuple n m) = omega arith
+pub some_fields : {lists : Bounds} {u : List ℕ} {r : Schema} (m : Names lists other_types u r) → 1 ≤ fields_of m
 some_fields (last n) = omega arith
 some_fields (more n m) = omega arith
 
@@ -142,17 +136,17 @@ pub record FirstField (lists : Bounds) (depth : ℕ) (text : List ℕ) : Type 0 
   pub words : List ℕ
   pub rest : List ℕ
   pub type : Schema
-  pub names : Names lists false words type
+  pub names : Names lists a_type words type
   pub is : text ≡ words ++ rest
   pub nests : NestsWithin depth names
   pub apart : IsApart rest
 
-pub first_field : {lists : Bounds} {u : List ℕ} {r : Schema} (m : Names lists true u r) (depth : ℕ) (text rest : List ℕ) → text ≡ u ++ (41 ∷ rest) → NestsWithin depth m → FirstField lists depth text
+pub first_field : {lists : Bounds} {u : List ℕ} {r : Schema} (m : Names lists other_types u r) (depth : ℕ) (text rest : List ℕ) → text ≡ u ++ (41 ∷ rest) → NestsWithin depth m → FirstField lists depth text
 first_field (last n) depth text rest e h = record { words = _; rest = _; type = _; names = n; is = e; nests = h; apart = refl }
 first_field (more {t} {u} n m) depth text rest e h = record { words = t; rest = _; type = _; names = n; is = e ∙ append_assoc t (44 ∷ u) (41 ∷ rest); nests = h.0; apart = refl }
 
 -- without a comma after the first field, `)` follows it
-pub fields_end : {lists : Bounds} {u : List ℕ} {r : Schema} (m : Names lists true u r) (depth : ℕ) (text rest : List ℕ) (at next : ℕ) → drop at text ≡ u ++ (41 ∷ rest) → NestsWithin depth m → ((t after : List ℕ) (s : Schema) (n : Names lists false t s) → drop at text ≡ t ++ after → NestsWithin depth n → IsApart after → drop next text ≡ after) → ((k : ℕ) (x : List ℕ) → drop next text ≡ k ∷ x → is_blank k ≡ false → false ≡ nat_eq k 44) → drop next text ≡ 41 ∷ rest
+pub fields_end : {lists : Bounds} {u : List ℕ} {r : Schema} (m : Names lists other_types u r) (depth : ℕ) (text rest : List ℕ) (at next : ℕ) → drop at text ≡ u ++ (41 ∷ rest) → NestsWithin depth m → ((t after : List ℕ) (s : Schema) (n : Names lists a_type t s) → drop at text ≡ t ++ after → NestsWithin depth n → IsApart after → drop next text ≡ after) → ((k : ℕ) (x : List ℕ) → drop next text ≡ k ∷ x → is_blank k ≡ false → false ≡ nat_eq k 44) → drop next text ≡ 41 ∷ rest
 fields_end (last n) depth text rest at next e h f g = f _ _ _ n e h refl
 fields_end (more {t} {u} n m) depth text rest at next e h f g = no (g 44 _ (f t _ _ n (e ∙ append_assoc t (44 ∷ u) (41 ∷ rest)) h.0 refl) refl)
 
@@ -160,12 +154,12 @@ fields_end (more {t} {u} n m) depth text rest at next e h f g = no (g 44 _ (f t 
 pub record LaterFields (lists : Bounds) (depth most : ℕ) (text rest : List ℕ) : Type 0 where
   pub words : List ℕ
   pub type : Schema
-  pub names : Names lists true words type
+  pub names : Names lists other_types words type
   pub is : text ≡ 44 ∷ (words ++ (41 ∷ rest))
   pub nests : NestsWithin depth names
   pub few : fields_of names ≤ most - 1
 
-pub fields_go : {lists : Bounds} {u : List ℕ} {r : Schema} (m : Names lists true u r) (depth most : ℕ) (text rest : List ℕ) (at next : ℕ) → drop at text ≡ u ++ (41 ∷ rest) → NestsWithin depth m → fields_of m ≤ most → ((t after : List ℕ) (s : Schema) (n : Names lists false t s) → drop at text ≡ t ++ after → NestsWithin depth n → IsApart after → drop next text ≡ after) → ((k : ℕ) (x : List ℕ) → drop next text ≡ k ∷ x → is_blank k ≡ false → true ≡ nat_eq k 44) → LaterFields lists depth most (drop next text) rest
+pub fields_go : {lists : Bounds} {u : List ℕ} {r : Schema} (m : Names lists other_types u r) (depth most : ℕ) (text rest : List ℕ) (at next : ℕ) → drop at text ≡ u ++ (41 ∷ rest) → NestsWithin depth m → fields_of m ≤ most → ((t after : List ℕ) (s : Schema) (n : Names lists a_type t s) → drop at text ≡ t ++ after → NestsWithin depth n → IsApart after → drop next text ≡ after) → ((k : ℕ) (x : List ℕ) → drop next text ≡ k ∷ x → is_blank k ≡ false → true ≡ nat_eq k 44) → LaterFields lists depth most (drop next text) rest
 fields_go (last n) depth most text rest at next e h l f g = no (sym (g 41 _ (f _ _ _ n e h refl) refl))
 fields_go (more {t} {u} n m) depth most text rest at next e h l f g = record {
   words = u;
@@ -178,26 +172,27 @@ fields_go (more {t} {u} n m) depth most text rest at next e h l f g = record {
 
 -- ---- types that begin with a word
 
-pub nests_some : {lists : Bounds} {t : List ℕ} {s : Schema} (n : Names lists false t s) (depth : ℕ) → NestsWithin depth n → 1 ≤ depth
+pub nests_some : {lists : Bounds} {t : List ℕ} {s : Schema} (n : Names lists a_type t s) (depth : ℕ) → NestsWithin depth n → 1 ≤ depth
 nests_some (leaf l) depth h = h
 nests_some (boxed n) depth h = h.0
 nests_some (optional n) depth h = h.0
 nests_some (listed n) depth h = h.0
 nests_some (numbered n) depth h = h.0
 nests_some (fallible n m) depth h = h.0
+nests_some (structure v k n) depth h = absurd h
 nests_some (solo n) depth h = h.0
 nests_some (tuple n m) depth h = h.0
 
 -- the same depth
-nests : {lists : Bounds} {fields : Bool} {t : List ℕ} {s : Schema} (n : Names lists fields t s) {one other : ℕ} → one ≡ other → NestsWithin one n → NestsWithin other n
+nests : {lists : Bounds} {part : Part} {t : List ℕ} {s : Schema} (n : Names lists part t s) {one other : ℕ} → one ≡ other → NestsWithin one n → NestsWithin other n
 nests n e h = subst (λ d. NestsWithin d n) e h
 
 -- the word that begins a type, and what follows the word
 pub data Shape (lists : Bounds) (depth : ℕ) (rest : List ℕ) : List ℕ → List ℕ → Type 0 where
   plain : (l : Leaf) → ((w : List ℕ) → NamesNone w unsigned_leaves × (NamesNone w signed_leaves × NamesNone w other_leaves) → w ≢ leaf_name l) → Shape lists depth rest (leaf_name l) rest
   texts : (name : List ℕ) → (name ≡ codes "Strides") ⊎ (name ≡ codes "Unaries") → Shape lists depth rest (codes "Strings") (60 ∷ (name ++ (62 ∷ rest)))
-  part : (h : Head) {t : List ℕ} {s : Schema} (n : Names lists false t s) → NestsWithin depth n → Shape lists depth rest (head_name h) (60 ∷ (t ++ (62 ∷ rest)))
-  parts : {t u : List ℕ} {s e : Schema} (n : Names lists false t s) (m : Names lists false u e) → NestsWithin depth n → NestsWithin depth m → Shape lists depth rest (codes "Result") (60 ∷ (t ++ (44 ∷ (u ++ (62 ∷ rest)))))
+  part : (h : Head) {t : List ℕ} {s : Schema} (n : Names lists a_type t s) → NestsWithin depth n → Shape lists depth rest (head_name h) (60 ∷ (t ++ (62 ∷ rest)))
+  parts : {t u : List ℕ} {s e : Schema} (n : Names lists a_type t s) (m : Names lists a_type u e) → NestsWithin depth n → NestsWithin depth m → Shape lists depth rest (codes "Result") (60 ∷ (t ++ (44 ∷ (u ++ (62 ∷ rest)))))
 
 leaf_shape : (lists : Bounds) (depth : ℕ) (l : Leaf) (rest : List ℕ) → IsApart rest → ((x : List ℕ) → leaf_name l ≢ 40 ∷ x) → Shape lists depth rest (word_in (leaf_name l ++ rest)) (drop (word_length (leaf_name l ++ rest)) (leaf_name l ++ rest))
 leaf_shape lists depth U8 rest a o = rw a (plain U8 (λ w h. h.0 0 U8 (omega arith)))
@@ -222,13 +217,14 @@ leaf_shape lists depth (Text Strides) rest a o = texts (codes "Strides") (inl re
 leaf_shape lists depth (Text Unaries) rest a o = texts (codes "Unaries") (inr refl)
 leaf_shape lists depth Unit rest a o = absurd (o (41 ∷ []) refl)
 
-pub shape_of : {lists : Bounds} {t : List ℕ} {s : Schema} (n : Names lists false t s) (most depth : ℕ) (rest : List ℕ) → most - 1 ≡ depth → NestsWithin most n → IsApart rest → ((x : List ℕ) → t ≢ 40 ∷ x) → Shape lists depth rest (word_in (t ++ rest)) (drop (word_length (t ++ rest)) (t ++ rest))
+pub shape_of : {lists : Bounds} {t : List ℕ} {s : Schema} (n : Names lists a_type t s) (most depth : ℕ) (rest : List ℕ) → most - 1 ≡ depth → NestsWithin most n → IsApart rest → ((x : List ℕ) → t ≢ 40 ∷ x) → Shape lists depth rest (word_in (t ++ rest)) (drop (word_length (t ++ rest)) (t ++ rest))
 shape_of {lists} (leaf l) most depth rest d h a o = leaf_shape lists depth l rest a o
 shape_of (boxed {t} n) most depth rest d h a o = rw (append_assoc t (62 ∷ []) rest) (part Boxed n (nests n d h.1))
 shape_of (optional {t} n) most depth rest d h a o = rw (append_assoc t (62 ∷ []) rest) (part Optional n (nests n d h.1))
 shape_of (listed {t} n) most depth rest d h a o = rw (append_assoc t (62 ∷ []) rest) (part Vector n (nests n d h.1))
 shape_of (numbered {t} n) most depth rest d h a o = rw (append_assoc t (62 ∷ []) rest) (part Small n (nests n d h.1))
 shape_of (fallible {t} {u} n m) most depth rest d h a o = rw (two_apart t u 62 rest) (parts n m (nests n d h.1.0) (nests m d h.1.1))
+shape_of (structure v k n) most depth rest d h a o = absurd h
 shape_of (solo n) most depth rest d h a o = absurd (o _ refl)
 shape_of (tuple n m) most depth rest d h a o = absurd (o _ refl)
 

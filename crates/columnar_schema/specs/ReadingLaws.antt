@@ -1,10 +1,9 @@
 -- What the parser reads, from what its parts read.
 use Rattle.std.proofs.Common.{◌≡◌, ◌≢◌, ◌⊎◌, inl, inr, ℕ, suc, ◌+◌, ◌-◌, ◌<◌, ◌≤◌, Bool, true, false, List, [], ◌∷◌, ◌++◌, length, take, drop, refl, sym, ◌∙◌, ap, arith, append_assoc, append-nil, Result, Ok, Err}
 use Rattle.std.specs.Prelude.{cond, codes, get_or, nat_eq}
-use Rattle.std.specs.Char.{is_ascii_alphanumeric}
 use Rattle.std.proofs.lemmas.List.{drop_more, length-drop, drop-drop}
 use Rattle.std.proofs.Math.Seq.{drop-length, take-append_seam, drop-append_seam}
-use Rattle.columnar_schema.specs.Names.{is_blank}
+use Rattle.columnar_schema.specs.Names.{is_blank, is_word_byte}
 use Rattle.columnar_schema.specs.Reading.{word_length}
 
 -- the first byte of the rest of a text
@@ -32,16 +31,16 @@ blank_elsewhere text at i b d l e h p n x s k =
     absurd no
 
 -- the length of a word that continues
-pub word_goes_on : (text : List ℕ) (at i b d : ℕ) → i < length text → b ≡ get_or text i d → is_ascii_alphanumeric b ≡ true → at + word_length (drop at text) ≡ i + word_length (drop i text) → at + word_length (drop at text) ≡ (i + 1) + word_length (drop (i + 1) text)
+pub word_goes_on : (text : List ℕ) (at i b d : ℕ) → i < length text → b ≡ get_or text i d → is_word_byte b ≡ true → at + word_length (drop at text) ≡ i + word_length (drop i text) → at + word_length (drop at text) ≡ (i + 1) + word_length (drop (i + 1) text)
 word_goes_on text at i b d l e h p =
-    let k : is_ascii_alphanumeric (get_or text i d) ≡ true = rw (sym e) h in
+    let k : is_word_byte (get_or text i d) ≡ true = rw (sym e) h in
     let m : word_length (drop i text) ≡ suc (word_length (drop (i + 1) text)) = rw (drop_more text i d l) (rw k refl) in
     omega (arith, p, m)
 
 -- a word ends at a byte that is none of its
-pub word_ends : (text : List ℕ) (at i b d : ℕ) → i < length text → b ≡ get_or text i d → is_ascii_alphanumeric b ≡ false → at + word_length (drop at text) ≡ i + word_length (drop i text) → i ≡ at + word_length (drop at text)
+pub word_ends : (text : List ℕ) (at i b d : ℕ) → i < length text → b ≡ get_or text i d → is_word_byte b ≡ false → at + word_length (drop at text) ≡ i + word_length (drop i text) → i ≡ at + word_length (drop at text)
 word_ends text at i b d l e h p =
-    let k : is_ascii_alphanumeric (get_or text i d) ≡ false = rw (sym e) h in
+    let k : is_word_byte (get_or text i d) ≡ false = rw (sym e) h in
     let m : word_length (drop i text) ≡ 0 = rw (drop_more text i d l) (rw k refl) in
     omega (arith, p, m)
 

@@ -6,13 +6,14 @@ use Rattle.columnar_sums.specs.RankColumns.{ranks_format}
 use Rattle.columnar_sums.specs.Results.{beside_format}
 use Rattle.columnar_schema.specs.CountLaws.{tuple_count, beside_count}
 use Rattle.columnar_schema.specs.Formats.{bounds_format, format_of, leaf_format}
-use Rattle.columnar_schema.specs.Names.{Names, leaf, last, boxed, optional, listed, numbered, fallible, solo, tuple, more, inside, is_blank, leaf_name, unspaced, with_comma}
+use Rattle.columnar_schema.specs.Names.{Names, Part, a_type, last_comma, structure, nothing, wrapped, placed, single, several, labelled, last_field, more_fields, leaf, last, boxed, optional, listed, numbered, fallible, solo, tuple, more, inside, is_blank, leaf_name, unspaced, with_comma}
 use Rattle.columnar_schema.specs.TypeLaws.{optional_two, fallible_two, lists_of_two}
 use Rattle.columnar_schema.specs.declared.schema.Bounds.{Bounds}
 use Rattle.columnar_schema.specs.declared.schema.Bounds.TheVariants.{Words, Strides, Unaries}
+use Rattle.columnar_schema.specs.declared.schema.Brackets.TheVariants.{Square, Curly}
 use Rattle.columnar_schema.specs.declared.schema.Leaf.{Leaf}
 use Rattle.columnar_schema.specs.declared.schema.Leaf.TheVariants.{U8, U16, U32, U64, U128, Usize, I8, I16, I32, I64, I128, Isize, F32, F64, Bool as BoolLeaf, Char, Unit, Duration, Text}
-use Rattle.columnar_schema.specs.declared.schema.Schema.{Schema, Simple, Optional', Fallible', Lists', Solo', Tuple', Beside'}
+use Rattle.columnar_schema.specs.declared.schema.Schema.{Schema, Simple, Optional', Fallible', Lists', Solo', Tuple', Beside', Field'}
 
 bounds_few : (b : Bounds) → (bounds_format b).count ≤ 3
 bounds_few Words = omega arith
@@ -42,7 +43,7 @@ leaf_few (Text Strides) = omega arith
 leaf_few (Text Unaries) = omega arith
 leaf_few Unit = omega arith
 
-few_slices : {lists : Bounds} {fields : _} {t : List ℕ} {s : Schema} → Names lists fields t s → (format_of s).count ≤ 4 * length t
+few_slices : {lists : Bounds} {part : Part} {t : List ℕ} {s : Schema} → Names lists part t s → (format_of s).count ≤ 4 * length t
 few_slices (leaf l) = leaf_few l
 few_slices (boxed {t} n) = omega (arith, few_slices n, length-append t (codes ">"))
 few_slices (optional {t} {s} {p} n) =
@@ -61,9 +62,18 @@ few_slices (fallible {t} {u} {s} {e} {p} {q} n m) =
     let both : (beside_format (format_of s) (format_of e)).count ≡ (format_of s).count + (format_of e).count = refl in
     omega (arith, few_slices n, few_slices m, length-append (with_comma t u) (codes ">"), length-append t (codes "," ++ u), two, three, both)
 few_slices (solo {t} n) = omega (arith, few_slices n, length-append t (codes ",)"))
-few_slices (tuple {t} {u} {s} {r} {p} {q} n m) = omega (arith, few_slices n, few_slices m, length-append (with_comma t u) (codes ")"), length-append t (codes "," ++ u), tuple_count (Tuple' p s q r) refl)
+few_slices (tuple {t} {u} {s} {r} {p} {q} n m) = omega (arith, few_slices n, few_slices m, length-append (with_comma t u) (codes ")"), length-append t (codes "," ++ u), tuple_count (Tuple' Square p s q r) refl)
 few_slices (last n) = few_slices n
 few_slices (more {t} {u} {s} {r} {p} {q} n m) = omega (arith, few_slices n, few_slices m, length-append t (codes "," ++ u), beside_count (Beside' p s q r) refl)
+few_slices (structure n {t} h k) = omega (arith, few_slices k, length-append n t)
+few_slices nothing = omega arith
+few_slices (wrapped {t} n) = omega (arith, few_slices n, length-append t (codes ");"))
+few_slices (placed {t} {u} {s} {r} {p} {q} n m) = omega (arith, few_slices n, few_slices m, length-append (with_comma t u) (codes ");"), length-append t (codes "," ++ u), tuple_count (Tuple' Square p s q r) refl)
+few_slices (single {t} c n) = omega (arith, few_slices n, length-append t (last_comma c ++ codes "}"))
+few_slices (several {t} {u} {s} {r} {p} {q} c n m) = omega (arith, few_slices n, few_slices m, length-append (with_comma t u) (last_comma c ++ codes "}"), length-append t (codes "," ++ u), tuple_count (Tuple' Curly p s q r) refl)
+few_slices (labelled {t} {s} {v} h k) = omega (arith, few_slices k, length-append v.items (codes ":" ++ t))
+few_slices (last_field n) = few_slices n
+few_slices (more_fields {t} {u} {s} {r} {p} {q} n m) = omega (arith, few_slices n, few_slices m, length-append t (codes "," ++ u), beside_count (Beside' p s q r) refl)
 
 one_shorter : (b : Bool) (n : ℕ) (ns us : List ℕ) → length us ≤ length ns → length (cond b us (n ∷ us)) ≤ length (n ∷ ns)
 one_shorter true n ns us h = omega (arith, h)
@@ -74,5 +84,5 @@ shorter [] = omega arith
 shorter (n ∷ ns) = one_shorter (is_blank n) n ns (unspaced ns) (shorter ns)
 
 -- a type with too many slices has a longer text
-pub text_longer : {lists : Bounds} (text : List ℕ) (s : Schema) → Names lists false (unspaced text) s → length text ≤ 2 ^ 58 → (format_of s).count ≤ 2 ^ 60
+pub text_longer : {lists : Bounds} (text : List ℕ) (s : Schema) → Names lists a_type (unspaced text) s → length text ≤ 2 ^ 58 → (format_of s).count ≤ 2 ^ 60
 text_longer text s n l = omega (arith, few_slices n, shorter text, l)

@@ -38,9 +38,10 @@ pub fn slice_count_of(schema: &Schema) -> usize
         Schema::Optional(values) => 3 + slice_count_of(values),
         Schema::Fallible(values, errors) => 3 + (slice_count_of(values) + slice_count_of(errors)),
         Schema::Lists(bounds, values) => bounds_slices(*bounds) + slice_count_of(values),
-        Schema::Solo(field) => slice_count_of(field),
-        Schema::Tuple(first, others) => slice_count_of(first) + slice_count_of(others),
+        Schema::Solo(_, field) => slice_count_of(field),
+        Schema::Tuple(_, first, others) => slice_count_of(first) + slice_count_of(others),
         Schema::Beside(field, later) => slice_count_of(field) + slice_count_of(later),
+        Schema::Field(_, part) => slice_count_of(part),
     }
 }
 
@@ -48,7 +49,7 @@ pub fn slice_count_of(schema: &Schema) -> usize
 ///
 /// # Requires
 /// The type has at most 2^60 slices, and those from `offset` on were accepted for it.
-#[tactic(auto, using(crate::specs::TypeLaws::solo_fit, crate::specs::TypeLaws::first_fit, crate::specs::TypeLaws::others_fit, crate::specs::TypeLaws::field_fit, crate::specs::TypeLaws::later_fit, crate::specs::CountLaws::tuple_count, crate::specs::CountLaws::beside_count, crate::specs::CountLaws::first_counted, crate::specs::CountLaws::others_counted, crate::specs::CountLaws::field_counted, crate::specs::CountLaws::later_counted))]
+#[tactic(auto, using(crate::specs::TypeLaws::solo_fit, crate::specs::TypeLaws::first_fit, crate::specs::TypeLaws::others_fit, crate::specs::TypeLaws::field_fit, crate::specs::TypeLaws::later_fit, crate::specs::TypeLaws::part_fit, crate::specs::CountLaws::tuple_count, crate::specs::CountLaws::beside_count, crate::specs::CountLaws::first_counted, crate::specs::CountLaws::others_counted, crate::specs::CountLaws::field_counted, crate::specs::CountLaws::later_counted))]
 pub fn rows_of(schema: &Schema, store: &DecodedStore<'_>, offset: usize) -> usize
     requires counted { (format_of schema.now).count ≤ 2 ^ 60 }
     requires fits { Fits (format_of schema.now) offset (slices_in store.now) }
@@ -59,8 +60,8 @@ pub fn rows_of(schema: &Schema, store: &DecodedStore<'_>, offset: usize) -> usiz
         Schema::Optional(_) => Bits::rows_in(store, offset),
         Schema::Fallible(_, _) => Bits::rows_in(store, offset),
         Schema::Lists(bounds, _) => bounds_rows(*bounds, store, offset),
-        Schema::Solo(field) => rows_of(field, store, offset),
-        Schema::Tuple(first, others) => {
+        Schema::Solo(_, field) => rows_of(field, store, offset),
+        Schema::Tuple(_, first, others) => {
             let rows = rows_of(first, store, offset);
             rows.min(rows_of(others, store, offset + slice_count_of(first)))
         }
@@ -68,6 +69,7 @@ pub fn rows_of(schema: &Schema, store: &DecodedStore<'_>, offset: usize) -> usiz
             let rows = rows_of(field, store, offset);
             rows.min(rows_of(later, store, offset + slice_count_of(field)))
         }
+        Schema::Field(_, part) => rows_of(part, store, offset),
     }
 }
 
@@ -231,8 +233,8 @@ pub fn judge_of<L>(
             judge_of(values, store, offset + bounds_slices(*bounds), tally)?;
             close_lists(*bounds, values, store, offset, tally)
         }
-        Schema::Solo(field) => judge_of(field, store, offset, tally),
-        Schema::Tuple(first, others) => {
+        Schema::Solo(_, field) => judge_of(field, store, offset, tally),
+        Schema::Tuple(_, first, others) => {
             judge_of(first, store, offset, tally)?;
             let after = offset + slice_count_of(first);
             judge_of(others, store, after, tally)?;
@@ -242,5 +244,6 @@ pub fn judge_of<L>(
             judge_of(field, store, offset, tally)?;
             judge_of(later, store, offset + slice_count_of(field), tally)
         }
+        Schema::Field(_, part) => judge_of(part, store, offset, tally),
     }
 }

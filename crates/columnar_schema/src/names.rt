@@ -6,6 +6,7 @@ ghost use Rattle.columnar_schema.specs.Formats.{format_of};
 use crate::bounds::bounds_slices;
 use crate::judge::slice_count_of;
 use crate::schema::{Bounds, Leaf, Schema};
+use columnar_strings::string::as_text;
 use std::alloc::AllocError;
 
 // Appends a field to a path.
@@ -71,11 +72,29 @@ fn field_name(field: usize) -> &'static str {
     }
 }
 
-// Tests whether there are fields after the first of these.
-fn goes_on(schema: &Schema) -> bool {
+// Appends the name of a field.
+fn push_label(path: &mut String, name: &[u8]) -> Result<(), AllocError> {
+    match as_text(name) {
+        Ok(name) => push_field(path, name),
+        Err(_) => Ok(()),
+    }
+}
+
+// Tests whether this is one field, without a name.
+fn has_number(schema: &Schema) -> bool {
     match schema {
-        Schema::Beside(_, _) => true,
-        _ => false,
+        Schema::Beside(_, _) => false,
+        Schema::Field(_, _) => false,
+        _ => true,
+    }
+}
+
+// Appends the number of a field without a name.
+fn push_number(path: &mut String, schema: &Schema, field: usize) -> Result<(), AllocError> {
+    if has_number(schema) {
+        push_field(path, field_name(field))
+    } else {
+        Ok(())
     }
 }
 
@@ -94,8 +113,8 @@ pub fn push_name(
 ) -> Result<(), AllocError>
     requires { (format_of schema.now).count ≤ 2 ^ 60 }
 {
-    if field > 0 && !goes_on(schema) {
-        push_field(path, field_name(field))?;
+    if field > 0 {
+        push_number(path, schema, field)?;
     }
     match schema {
         Schema::Simple(leaf) => push_leaf(path, *leaf, index),
@@ -128,14 +147,14 @@ pub fn push_name(
             push_field(path, "values")?;
             push_name(values, index - count, 0, path)
         }
-        Schema::Solo(only) => {
-            push_field(path, "0")?;
+        Schema::Solo(_, only) => {
+            push_number(path, only, 0)?;
             push_name(only, index, 0, path)
         }
-        Schema::Tuple(first, others) => {
+        Schema::Tuple(_, first, others) => {
             let count = slice_count_of(first);
             if index < count {
-                push_field(path, "0")?;
+                push_number(path, first, 0)?;
                 return push_name(first, index, 0, path);
             }
             push_name(others, index - count, 1, path)
@@ -146,6 +165,10 @@ pub fn push_name(
                 return push_name(first, index, field, path);
             }
             push_name(later, index - count, field.saturating_add(1), path)
+        }
+        Schema::Field(name, part) => {
+            push_label(path, name.as_slice())?;
+            push_name(part, index, 0, path)
         }
     }
 }

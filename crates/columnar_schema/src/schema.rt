@@ -54,6 +54,17 @@ pub enum Leaf {
     Text(Bounds),
 }
 
+/// How JSON writes the fields of a type.
+#[derive(Clone, Copy, PartialEq, Drop)]
+pub enum Brackets {
+    /// As an array.
+    Square,
+    /// As an object.
+    Curly,
+    /// As the one field itself.
+    Bare,
+}
+
 /// A column type.
 #[derive(Drop)]
 pub enum Schema {
@@ -66,10 +77,12 @@ pub enum Schema {
     /// Lists of rows, with bounds of this kind.
     Lists(Bounds, Box<Schema>),
     /// Rows of one field.
-    Solo(Box<Schema>),
+    Solo(Brackets, Box<Schema>),
     /// Rows of several fields: the first, and the others as `Beside`.
-    Tuple(Box<Schema>, Box<Schema>),
+    Tuple(Brackets, Box<Schema>, Box<Schema>),
     /// The fields of a tuple from the second on: one, and those after it. The tuple's own test compares their numbers
     /// of rows.
     Beside(Box<Schema>, Box<Schema>),
+    /// A field with this name.
+    Field(Vec<u8>, Box<Schema>),
 }

@@ -1,15 +1,16 @@
 //! Parser for the text of a type, such as `(u64, String, Option<u32>)`.
-ghost use Rattle.std.specs.Prelude.{◌≡◌, ◌≢◌, ◌≤◌, ◌+◌, ◌-◌, ◌∷◌, ◌++◌, List, ℕ, length, take, drop, codes, nat_eq, IfOk, IfErr, IfSome, IfNone, true, false};
-ghost use Rattle.std.specs.Char.{is_ascii_alphanumeric};
+ghost use Rattle.std.specs.Prelude.{◌≡◌, ◌≢◌, ◌≤◌, ◌+◌, ◌-◌, ◌∷◌, ◌++◌, Bool, List, ℕ, length, take, drop, codes, nat_eq, IfOk, IfErr, IfSome, IfNone, true, false};
+ghost use Rattle.std.specs.List.{list_all};
 ghost use Rattle.columnar_schema.specs.declared.text.Head.{Head};
-ghost use Rattle.columnar_schema.specs.Names.{GoesOn, Names, Reads, head_name, inside, is_blank, leaf_name, unspaced, with_comma};
+ghost use Rattle.columnar_schema.specs.Names.{GoesOn, Names, Reads, a_field, a_type, all_fields, head_name, inside, is_blank, is_name, is_word_byte, last_comma, leaf_name, other_types, struct_body, unspaced, with_comma};
+ghost use Rattle.columnar_schema.specs.Gathered.{IsGathered};
 ghost use Rattle.columnar_schema.specs.Reading.{NamesNone, NestsWithin, Passes, ReadsFields, ReadsNamed, ReadsPart, ReadsParts, ReadsSolo, ReadsTexts, ReadsTuple, ReadsType, ReadsUnit, other_leaves, signed_leaves, unsigned_leaves, word_length};
 ghost use Rattle.columnar_schema.specs.declared.schema.Bounds.{Bounds};
 ghost use Rattle.columnar_schema.specs.declared.schema.Leaf.TheVariants.{Text};
 ghost use Rattle.columnar_schema.specs.declared.schema.Schema.{Schema};
 ghost use Rattle.columnar_schema.specs.declared.text.Mistake.TheVariants.{Memory};
 
-use crate::schema::{Bounds, Leaf, Schema};
+use crate::schema::{Bounds, Brackets, Leaf, Schema};
 use std::alloc::Global;
 
 /// The maximum nesting depth of types in a text.
@@ -18,13 +19,13 @@ pub const DEPTH: usize = 64;
 /// Why a text is not a type.
 #[derive(Clone, Copy, PartialEq, Drop)]
 pub enum Mistake {
-    /// There is no type name at this position.
+    /// There is no name of a type, or of a struct or a field, at this position.
     Name,
     /// This byte is expected at this position.
     Wanted(u8),
     /// The text continues after the type.
     Longer,
-    /// A tuple has more than ten fields.
+    /// A tuple has more than ten fields, or a struct more than a hundred.
     Wide,
     /// Types are nested too deeply.
     Deep,
@@ -95,20 +96,21 @@ fn stands_at(text: &[u8], at: usize, wanted: u8) -> bool
 }
 
 fn is_of_name(byte: u8) -> bool
-    ensures value { result ≡ is_ascii_alphanumeric byte }
+    ensures value { result ≡ is_word_byte byte }
     ensures shows { result ≡ true → is_blank byte ≡ false }
 {
-    byte.is_ascii_alphanumeric() && !blank(byte)
+    (byte.is_ascii_alphanumeric() || byte == b'_') && !blank(byte)
 }
 
 // Returns the end of the word that starts at the position.
-#[tactic(auto, using(crate::specs::NameLaws::word_more, crate::specs::ReadingLaws::word_goes_on, crate::specs::ReadingLaws::word_ends, crate::specs::ReadingLaws::word_ends_last))]
+#[tactic(auto, using(crate::specs::NameLaws::word_more, crate::specs::NameLaws::word_grows, crate::specs::ReadingLaws::word_goes_on, crate::specs::ReadingLaws::word_ends, crate::specs::ReadingLaws::word_ends_last))]
 fn word_end(text: &[u8], at: usize) -> usize
     requires { at ≤ length text.now }
     ensures from { at ≤ result }
     ensures within { result ≤ length text.now }
     ensures ends { result ≡ at + word_length (drop at text.now) }
     ensures stands { unspaced (drop at text.now) ≡ take (result - at) (drop at text.now) ++ unspaced (drop result text.now) }
+    ensures word { list_all is_word_byte (take (result - at) (drop at text.now)) ≡ true }
 {
     for i in at..text.len() {
         if !is_of_name(text[i]) {
@@ -116,6 +118,40 @@ fn word_end(text: &[u8], at: usize) -> usize
         }
     }
     text.len()
+}
+
+// Returns where the name begins that follows the blanks, and where it ends.
+#[tactic(auto, using(crate::specs::NameLaws::name_scanned))]
+fn name_at(text: &[u8], at: usize) -> Result<(usize, usize), Refused>
+    requires { at ≤ length text.now }
+    ensures ordered { IfOk result (λ p. p.0 ≤ p.1) }
+    ensures within { IfOk result (λ p. p.1 ≤ length text.now) }
+    ensures name { IfOk result (λ p. is_name (take (p.1 - p.0) (drop p.0 text.now)) ≡ true) }
+    ensures stands { IfOk result (λ p. unspaced (drop at text.now) ≡ take (p.1 - p.0) (drop p.0 text.now) ++ unspaced (drop p.1 text.now)) }
+{
+    let start = after_blanks(text, at);
+    let end = word_end(text, start);
+    if start == end || text[start].is_ascii_digit() {
+        Err(Refused {
+            at: start,
+            mistake: Mistake::Name,
+        })
+    } else {
+        Ok((start, end))
+    }
+}
+
+// Returns the position after the last field of a struct: after `}`, before which a comma may stand.
+fn after_fields(text: &[u8], at: usize) -> Result<usize, Refused>
+    requires { at ≤ length text.now }
+    ensures within { IfOk result (λ n. n ≤ length text.now) }
+    ensures stands { IfOk result (λ n. (c : Bool) × (unspaced (drop at text.now) ≡ last_comma c ++ (125 ∷ unspaced (drop n text.now)))) }
+{
+    if stands_at(text, at, b',') {
+        after(text, after(text, at, b',')?, b'}')
+    } else {
+        after(text, at, b'}')
+    }
 }
 
 // Returns the unsigned number type with this name.
@@ -246,7 +282,7 @@ fn text_bounds(word: &[u8]) -> Option<Bounds>
 #[tactic(auto, using(crate::specs::NameLaws::texts_go_on))]
 fn texts_at(text: &[u8], at: usize) -> Result<(Schema, usize), Refused>
     requires { at ≤ length text.now }
-    ensures names { IfOk result (λ p. (lists : Bounds) → GoesOn lists false (codes "Strings") text.now at p.0 p.1) }
+    ensures names { IfOk result (λ p. (lists : Bounds) → GoesOn lists a_type (codes "Strings") text.now at p.0 p.1) }
     ensures whole { ReadsTexts text.now (drop at text.now) result }
 {
     let next = after(text, at, b'<')?;
@@ -262,6 +298,16 @@ fn texts_at(text: &[u8], at: usize) -> Result<(Schema, usize), Refused>
     Ok((Schema::Simple(Leaf::Text(bounds)), next))
 }
 
+// Returns the refusal of an allocation.
+fn unallocated() -> Refused
+    ensures { result.mistake ≡ Memory }
+{
+    Refused {
+        at: 0,
+        mistake: Mistake::Memory,
+    }
+}
+
 // Moves a part of a type into a box.
 fn boxed(alloc: Global, part: Schema) -> Result<Box<Schema>, Refused>
     ensures ok { IfOk result (λ b. b.value ≡ part) }
@@ -269,10 +315,7 @@ fn boxed(alloc: Global, part: Schema) -> Result<Box<Schema>, Refused>
 {
     match Box::new(alloc, part) {
         Ok(part) => Ok(part),
-        Err(_) => Err(Refused {
-            at: 0,
-            mistake: Mistake::Memory,
-        }),
+        Err(_) => Err(unallocated()),
     }
 }
 
@@ -280,7 +323,7 @@ fn boxed(alloc: Global, part: Schema) -> Result<Box<Schema>, Refused>
 #[tactic(auto, using(crate::specs::NameLaws::boxed_named, crate::specs::NameLaws::optional_named, crate::specs::NameLaws::listed_named, crate::specs::NameLaws::numbered_named))]
 fn wrap(alloc: Global, head: Head, lists: Bounds, part: Schema) -> Result<Schema, Refused>
     ensures err { IfErr result (λ e. e.mistake ≡ Memory) }
-    ensures ok { IfOk result (λ s. (t : List ℕ) → Names lists false t part → Names lists false (inside (head_name head) t) s) }
+    ensures ok { IfOk result (λ s. (t : List ℕ) → Names lists a_type t part → Names lists a_type (inside (head_name head) t) s) }
 {
     match head {
         Head::Boxed => Ok(part),
@@ -294,7 +337,7 @@ fn wrap(alloc: Global, head: Head, lists: Bounds, part: Schema) -> Result<Schema
 #[tactic(auto, using(crate::specs::NameLaws::fallible_named))]
 fn fallible(alloc: Global, values: Schema, errors: Schema) -> Result<Schema, Refused>
     ensures err { IfErr result (λ e. e.mistake ≡ Memory) }
-    ensures ok { IfOk result (λ s. (lists : Bounds) (t u : List ℕ) → Names lists false t values → Names lists false u errors → Names lists false (inside (codes "Result") (with_comma t u)) s) }
+    ensures ok { IfOk result (λ s. (lists : Bounds) (t u : List ℕ) → Names lists a_type t values → Names lists a_type u errors → Names lists a_type (inside (codes "Result") (with_comma t u)) s) }
 {
     let values = boxed(alloc, values)?;
     let errors = boxed(alloc, errors)?;
@@ -305,31 +348,66 @@ fn fallible(alloc: Global, values: Schema, errors: Schema) -> Result<Schema, Ref
 #[tactic(auto, using(crate::specs::NameLaws::solo_named))]
 fn solo(alloc: Global, field: Schema) -> Result<Schema, Refused>
     ensures err { IfErr result (λ e. e.mistake ≡ Memory) }
-    ensures ok { IfOk result (λ s. (lists : Bounds) (t : List ℕ) → Names lists false t field → Names lists false (codes "(" ++ (t ++ codes ",)")) s) }
+    ensures ok { IfOk result (λ s. (lists : Bounds) (t : List ℕ) → Names lists a_type t field → Names lists a_type (codes "(" ++ (t ++ codes ",)")) s) }
 {
-    Ok(Schema::Solo(boxed(alloc, field)?))
+    Ok(Schema::Solo(Brackets::Square, boxed(alloc, field)?))
 }
 
 // Returns the tuple of these fields.
 #[tactic(auto, using(crate::specs::NameLaws::tuple_named))]
 fn tuple(alloc: Global, first: Schema, others: Schema) -> Result<Schema, Refused>
     ensures err { IfErr result (λ e. e.mistake ≡ Memory) }
-    ensures ok { IfOk result (λ s. (lists : Bounds) (t u : List ℕ) → Names lists false t first → Names lists true u others → Names lists false (codes "(" ++ (with_comma t u ++ codes ")")) s) }
+    ensures ok { IfOk result (λ s. (lists : Bounds) (t u : List ℕ) → Names lists a_type t first → Names lists other_types u others → Names lists a_type (codes "(" ++ (with_comma t u ++ codes ")")) s) }
 {
     let first = boxed(alloc, first)?;
     let others = boxed(alloc, others)?;
-    Ok(Schema::Tuple(first, others))
+    Ok(Schema::Tuple(Brackets::Square, first, others))
 }
 
 // Returns the fields of a tuple: one, and those after it.
 #[tactic(auto, using(crate::specs::NameLaws::beside_named))]
 fn beside(alloc: Global, field: Schema, later: Schema) -> Result<Schema, Refused>
     ensures err { IfErr result (λ e. e.mistake ≡ Memory) }
-    ensures ok { IfOk result (λ s. (lists : Bounds) (t u : List ℕ) → Names lists false t field → Names lists true u later → Names lists true (with_comma t u) s) }
+    ensures ok { IfOk result (λ s. (lists : Bounds) (t u : List ℕ) → Names lists a_type t field → Names lists other_types u later → Names lists other_types (with_comma t u) s) }
 {
     let field = boxed(alloc, field)?;
     let later = boxed(alloc, later)?;
     Ok(Schema::Beside(field, later))
+}
+
+// Returns the field with this name.
+#[tactic(auto, using(crate::specs::NameLaws::labelled_named))]
+fn labelled(alloc: Global, name: &[u8], field: Schema) -> Result<Schema, Refused>
+    ensures err { IfErr result (λ e. e.mistake ≡ Memory) }
+    ensures ok { IfOk result (λ s. (lists : Bounds) (t : List ℕ) → is_name name.now ≡ true → Names lists a_type t field → Names lists a_field (name.now ++ (codes ":" ++ t)) s) }
+{
+    let Ok(name) = Vec::from_slice(alloc, name) else {
+        return Err(unallocated());
+    };
+    Ok(Schema::Field(name, boxed(alloc, field)?))
+}
+
+// Returns the fields of a struct: one, and those after it.
+#[tactic(auto, using(crate::specs::NameLaws::fields_named))]
+fn beside_named(alloc: Global, field: Schema, later: Schema) -> Result<Schema, Refused>
+    ensures err { IfErr result (λ e. e.mistake ≡ Memory) }
+    ensures ok { IfOk result (λ s. (lists : Bounds) (t u : List ℕ) → Names lists a_field t field → Names lists all_fields u later → Names lists all_fields (with_comma t u) s) }
+{
+    let field = boxed(alloc, field)?;
+    let later = boxed(alloc, later)?;
+    Ok(Schema::Beside(field, later))
+}
+
+// Returns the type with these fields.
+#[tactic(auto, using(crate::specs::NameLaws::gathered_one, crate::specs::NameLaws::gathered_several))]
+fn gathered(alloc: Global, all: Schema, one: Brackets, several: Brackets) -> Result<Schema, Refused>
+    ensures err { IfErr result (λ e. e.mistake ≡ Memory) }
+    ensures ok { IfOk result (λ s. IsGathered one several all s) }
+{
+    match all {
+        Schema::Beside(first, others) => Ok(Schema::Tuple(several, first, others)),
+        only => Ok(Schema::Solo(one, boxed(alloc, only)?)),
+    }
 }
 
 // Parses the rest of a type of one part, whose name ends at the position; returns it with the position after it.
@@ -343,7 +421,7 @@ fn one_part(
     depth: usize,
 ) -> Result<(Schema, usize), Refused>
     requires { at ≤ length text.now }
-    ensures names { IfOk result (λ p. GoesOn lists false (head_name head) text.now at p.0 p.1) }
+    ensures names { IfOk result (λ p. GoesOn lists a_type (head_name head) text.now at p.0 p.1) }
     ensures whole { ReadsPart lists depth text.now (drop at text.now) result }
 {
     let next = after(text, at, b'<')?;
@@ -364,7 +442,7 @@ fn two_parts(
     depth: usize,
 ) -> Result<(Schema, usize), Refused>
     requires { at ≤ length text.now }
-    ensures names { IfOk result (λ p. GoesOn lists false (codes "Result") text.now at p.0 p.1) }
+    ensures names { IfOk result (λ p. GoesOn lists a_type (codes "Result") text.now at p.0 p.1) }
     ensures whole { ReadsParts lists depth text.now (drop at text.now) result }
 {
     let next = after(text, at, b'<')?;
@@ -388,8 +466,8 @@ fn fields_at(
     most: usize,
 ) -> Result<(Schema, usize), Refused>
     requires within { at ≤ length text.now }
-    requires most { most ≤ 9 }
-    ensures names { IfOk result (λ p. Reads lists true text.now at p.0 p.1) }
+    requires most { most ≤ 100 }
+    ensures names { IfOk result (λ p. Reads lists other_types text.now at p.0 p.1) }
     ensures whole { ReadsFields lists depth most text.now (drop at text.now) result }
 {
     if most == 0 {
@@ -419,7 +497,7 @@ fn tuple_at(
     depth: usize,
 ) -> Result<(Schema, usize), Refused>
     requires { at ≤ length text.now }
-    ensures names { IfOk result (λ p. GoesOn lists false (codes "(") text.now at p.0 p.1) }
+    ensures names { IfOk result (λ p. GoesOn lists a_type (codes "(") text.now at p.0 p.1) }
     ensures unit { ReadsUnit text.now (drop at text.now) result }
     ensures solo { ReadsSolo lists depth text.now (drop at text.now) result }
     ensures whole { ReadsTuple lists depth text.now (drop at text.now) result }
@@ -441,6 +519,139 @@ fn tuple_at(
     Ok((schema, next))
 }
 
+// Parses a field with its name; returns it with the position after it.
+#[cycle(types)]
+#[tactic(auto, using(crate::specs::NameLaws::field_read))]
+fn field_at(
+    alloc: Global,
+    text: &[u8],
+    at: usize,
+    lists: Bounds,
+    depth: usize,
+) -> Result<(Schema, usize), Refused>
+    requires { at ≤ length text.now }
+    ensures { IfOk result (λ p. Reads lists a_field text.now at p.0 p.1) }
+{
+    let (start, end) = name_at(text, at)?;
+    let next = after(text, end, b':')?;
+    let (part, next) = type_at(alloc, text, next, lists, depth)?;
+    let schema = labelled(alloc, &text[start..end], part)?;
+    Ok((schema, next))
+}
+
+// Parses fields with their names, at most `most`; returns them with the position after them, before a last comma.
+#[cycle(types)]
+#[tactic(auto, using(crate::specs::NameLaws::last_field_reads, crate::specs::NameLaws::more_fields_read))]
+fn named_fields_at(
+    alloc: Global,
+    text: &[u8],
+    at: usize,
+    lists: Bounds,
+    depth: usize,
+    most: usize,
+) -> Result<(Schema, usize), Refused>
+    requires within { at ≤ length text.now }
+    requires most { most ≤ 100 }
+    ensures { IfOk result (λ p. Reads lists all_fields text.now at p.0 p.1) }
+{
+    if most == 0 {
+        return Err(Refused {
+            at,
+            mistake: Mistake::Wide,
+        });
+    }
+    let (field, next) = field_at(alloc, text, at, lists, depth)?;
+    if !stands_at(text, next, b',') {
+        return Ok((field, next));
+    }
+    let more = after(text, next, b',')?;
+    if stands_at(text, more, b'}') {
+        return Ok((field, next));
+    }
+    let (later, next) = named_fields_at(alloc, text, more, lists, depth, most - 1)?;
+    let schema = beside_named(alloc, field, later)?;
+    Ok((schema, next))
+}
+
+// Parses the fields of a struct after its `{`; returns it with the position after it.
+#[cycle(types)]
+fn object_at(
+    alloc: Global,
+    text: &[u8],
+    at: usize,
+    lists: Bounds,
+    depth: usize,
+) -> Result<(Schema, usize), Refused>
+    requires { at ≤ length text.now }
+    ensures { IfOk result (λ p. GoesOn lists struct_body (codes "{") text.now at p.0 p.1) }
+{
+    let (all, next) = named_fields_at(alloc, text, at, lists, depth, 100)?;
+    let next = after_fields(text, next)?;
+    let schema = gathered(alloc, all, Brackets::Curly, Brackets::Curly)?;
+    Ok((schema, next))
+}
+
+// Parses the fields of a struct without names after its `(`; returns it with the position after it.
+#[cycle(types)]
+fn places_at(
+    alloc: Global,
+    text: &[u8],
+    at: usize,
+    lists: Bounds,
+    depth: usize,
+) -> Result<(Schema, usize), Refused>
+    requires { at ≤ length text.now }
+    ensures { IfOk result (λ p. GoesOn lists struct_body (codes "(") text.now at p.0 p.1) }
+{
+    let (all, next) = fields_at(alloc, text, at, lists, depth, 10)?;
+    let next = after(text, next, b')')?;
+    let next = after(text, next, b';')?;
+    let schema = gathered(alloc, all, Brackets::Bare, Brackets::Square)?;
+    Ok((schema, next))
+}
+
+// Parses what follows the name of a struct; returns its type with the position after it.
+#[cycle(types)]
+#[tactic(auto, using(crate::specs::NameLaws::begun_read, crate::specs::NameLaws::nothing_read))]
+fn body_at(
+    alloc: Global,
+    text: &[u8],
+    at: usize,
+    lists: Bounds,
+    depth: usize,
+) -> Result<(Schema, usize), Refused>
+    requires { at ≤ length text.now }
+    ensures { IfOk result (λ p. Reads lists struct_body text.now at p.0 p.1) }
+{
+    if stands_at(text, at, b'{') {
+        let next = after(text, at, b'{')?;
+        return object_at(alloc, text, next, lists, depth);
+    }
+    if stands_at(text, at, b'(') {
+        let next = after(text, at, b'(')?;
+        return places_at(alloc, text, next, lists, depth);
+    }
+    let next = after(text, at, b';')?;
+    Ok((Schema::Simple(Leaf::Unit), next))
+}
+
+// Parses the rest of a struct after `struct`; returns its type with the position after it.
+#[cycle(types)]
+#[tactic(auto, using(crate::specs::NameLaws::struct_goes_on))]
+fn struct_at(
+    alloc: Global,
+    text: &[u8],
+    at: usize,
+    lists: Bounds,
+    depth: usize,
+) -> Result<(Schema, usize), Refused>
+    requires { at ≤ length text.now }
+    ensures { IfOk result (λ p. GoesOn lists a_type (codes "struct") text.now at p.0 p.1) }
+{
+    let (_start, end) = name_at(text, at)?;
+    body_at(alloc, text, end, lists, depth)
+}
+
 // Parses the rest of the type with this name, which ends at the position; returns it with the position after it.
 #[cycle(types)]
 #[tactic(auto, using(crate::specs::NameLaws::leaf_goes_on))]
@@ -453,7 +664,7 @@ fn named(
     depth: usize,
 ) -> Result<(Schema, usize), Refused>
     requires { at ≤ length text.now }
-    ensures names { IfOk result (λ p. GoesOn lists false word.now text.now at p.0 p.1) }
+    ensures names { IfOk result (λ p. GoesOn lists a_type word.now text.now at p.0 p.1) }
     ensures whole { ReadsNamed lists depth text.now word.now (drop at text.now) result }
 {
     if let Some(leaf) = leaf_of(word) {
@@ -467,6 +678,9 @@ fn named(
     }
     if word == b"Strings".as_slice() {
         return texts_at(text, at);
+    }
+    if word == b"struct".as_slice() {
+        return struct_at(alloc, text, at, lists, depth);
     }
     Err(Refused {
         at: at.saturating_sub(word.len()),
@@ -484,7 +698,7 @@ fn type_at(
     depth: usize,
 ) -> Result<(Schema, usize), Refused>
     requires { at ≤ length text.now }
-    ensures names { IfOk result (λ p. Reads lists false text.now at p.0 p.1) }
+    ensures names { IfOk result (λ p. Reads lists a_type text.now at p.0 p.1) }
     ensures whole { ReadsType lists depth text.now (drop at text.now) result }
 {
     let at = after_blanks(text, at);
@@ -508,8 +722,8 @@ fn type_at(
 /// # Errors
 /// The first mistake and its position.
 pub fn parse(alloc: Global, text: &[u8], lists: Bounds) -> Result<Schema, Refused>
-    ensures names { IfOk result (λ s. Names lists false (unspaced text.now) s) }
-    ensures whole { (s : Schema) (n : Names lists false text.now s) → NestsWithin 64 n → IfErr result (λ e. e.mistake ≡ Memory) }
+    ensures names { IfOk result (λ s. Names lists a_type (unspaced text.now) s) }
+    ensures whole { (s : Schema) (n : Names lists a_type text.now s) → NestsWithin 64 n → IfErr result (λ e. e.mistake ≡ Memory) }
 {
     let (schema, next) = type_at(alloc, text, 0, lists, DEPTH)?;
     let next = after_blanks(text, next);

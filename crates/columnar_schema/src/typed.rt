@@ -1,9 +1,9 @@
 //! Column types that a store can have: those with at most 2^60 slices.
-ghost use Rattle.std.specs.Prelude.{◌≡◌, ◌+◌, ◌^◌, ◌<◌, ◌≤◌, ◌↔◌, length, false, IsOk, IfErr, IfSome, IfNone, IfOk};
+ghost use Rattle.std.specs.Prelude.{◌≡◌, ◌+◌, ◌^◌, ◌<◌, ◌≤◌, ◌↔◌, length, IsOk, IfErr, IfSome, IfNone, IfOk};
 ghost use Rattle.columnar_core.specs.Frame.{framed_slices};
 ghost use Rattle.columnar_bytes.specs.Accepted.{Accepts, IsFirstFault};
 ghost use Rattle.columnar_schema.specs.Formats.{format_of};
-ghost use Rattle.columnar_schema.specs.Names.{Names, unspaced};
+ghost use Rattle.columnar_schema.specs.Names.{Names, a_type, unspaced};
 ghost use Rattle.columnar_schema.specs.Reading.{NestsWithin};
 ghost use Rattle.columnar_schema.specs.declared.schema.Schema.{Schema};
 ghost use Rattle.columnar_schema.specs.declared.text.Mistake.TheVariants.{Memory};
@@ -34,9 +34,10 @@ fn left_of(schema: &Schema, limit: usize) -> Option<usize>
         Schema::Lists(bounds, values) => {
             left_of(values, limit.checked_sub(bounds_slices(*bounds))?)
         }
-        Schema::Solo(field) => left_of(field, limit),
-        Schema::Tuple(first, others) => left_of(others, left_of(first, limit)?),
+        Schema::Solo(_, field) => left_of(field, limit),
+        Schema::Tuple(_, first, others) => left_of(others, left_of(first, limit)?),
         Schema::Beside(field, later) => left_of(later, left_of(field, limit)?),
+        Schema::Field(_, part) => left_of(part, limit),
     }
 }
 
@@ -65,15 +66,16 @@ impl Type {
     }
 
     /// Parses a type. `lists` chooses the bounds of `Vec<T>`. Every text without blanks that names a type is read, if
-    /// its types nest at most 64 deep and its tuples have at most ten fields.
+    /// its types nest at most 64 deep, its tuples have at most ten fields, and it has no struct. A struct has the
+    /// columns of the tuple of its fields.
     ///
     /// # Errors
     /// The first mistake and its position. A type of more than 2^60 slices is `Deep`, at the end of the text; its text
     /// has more than 2^58 bytes.
     #[tactic(auto, using(crate::specs::SliceLaws::text_longer))]
     pub fn parse(alloc: Global, text: &[u8], lists: Bounds) -> Result<Type, Refused>
-        ensures names { IfOk result (λ t. Names lists false (unspaced text.now) t.schema) }
-        ensures whole { (s : Schema) (n : Names lists false text.now s) → NestsWithin 64 n → length text.now ≤ 2 ^ 58 → IfErr result (λ e. e.mistake ≡ Memory) }
+        ensures names { IfOk result (λ t. Names lists a_type (unspaced text.now) t.schema) }
+        ensures whole { (s : Schema) (n : Names lists a_type text.now s) → NestsWithin 64 n → length text.now ≤ 2 ^ 58 → IfErr result (λ e. e.mistake ≡ Memory) }
     {
         match Type::new(parse(alloc, text, lists)?) {
             Ok(it) => Ok(it),

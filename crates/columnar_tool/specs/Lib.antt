@@ -1,2 +1,14 @@
+pub mod Flags
 pub mod Lines
 pub mod LineLaws
+pub mod SliceLaws
+pub mod Slices
+pub mod Spans
+pub mod StoreLaws
+pub mod Stores
+pub mod TableLaws
+pub mod Tables
+pub mod Told
+pub mod UseLaws
+pub mod Uses
+pub mod Verdicts

@@ -1,69 +1,91 @@
-//! Rows of a file as lines of JSON.
-ghost use Rattle.std.specs.Prelude.{◌≡◌, ◌++◌, IfErr, OnOk};
+//! Rows of a store as lines of JSON.
+ghost use Rattle.std.specs.Prelude.{◌≡◌, ◌≤◌, length, slice_range, IfErr, OnOk};
 ghost use Rattle.std.specs.Io.KnownBytes.{Appends};
 ghost use Rattle.columnar_bytes.specs.Accepted.{Accepts};
 ghost use Rattle.columnar_schema.specs.Formats.{format_of};
 ghost use Rattle.columnar_json.specs.Json.{row_at};
+ghost use Rattle.columnar_json.specs.Pieces.{Appended};
 ghost use Rattle.columnar_json.specs.Refusals.{all_rows};
-ghost use Rattle.columnar_tool.specs.Lines.{HasNoLine, Stops, StopsAtRow, line_of, lines_of, rows_in};
+ghost use Rattle.columnar_tool.specs.Lines.{HasNoLine, Prints, Stops, StopsAtRow, StopsBetween, line_of, lines_of, rows_in};
+ghost use Rattle.columnar_tool.specs.Spans.{IsWithin, chosen};
 
-use crate::file::{Failure, file_bytes};
+use crate::range::Span;
+use crate::told::{Failure, put};
 use columnar_core::fault::StoreFault;
+use columnar_core::writer::WriteBytes;
 use columnar_json::rows::Rows;
 use columnar_json::unwritten::Unwritten;
 use columnar_schema::typed::Type;
 use std::alloc::Global;
-use std::io::Write;
-use std::rt::Files;
 
-/// Why not all rows of a file were printed.
+/// Why not all rows were printed.
 #[derive(Clone, Copy, PartialEq, Drop)]
 pub enum Stop {
     /// The program failed.
     Failed(Failure),
-    /// The file breaks this rule. No row was printed.
+    /// The store breaks this rule. No row was printed.
     Refused(StoreFault),
-    /// The row with this index has no text. All rows before it were printed.
+    /// The range is not within this number of rows. No row was printed.
+    Beyond(usize),
+    /// The row with this index has no text. The rows of the range before it were printed.
     Row(usize, Unwritten),
 }
 
-/// Prints each row of a file as a line of JSON.
+/// Prints each row of the range as a line of JSON.
 ///
 /// # Errors
-/// The first rule that the file breaks, the first row without a text, or a failure.
-pub fn cat_file<R: Files + AllocGlobal, O: Write>(
-    rt: &R,
+/// The first rule that the bytes break; the number of rows if the range is not within them; the first row of the range
+/// without a text; or a failure.
+pub fn cat_bytes<O: WriteBytes>(
     alloc: Global,
     kind: &Type,
-    path: &str,
+    span: Span,
+    bytes: &[u8],
     out: &mut O,
-) -> Result<(), Stop> {
-    match file_bytes(rt, path) {
-        Ok(bytes) => cat_bytes(alloc, kind, bytes.as_slice(), out),
-        Err(failure) => Err(Stop::Failed(failure)),
-    }
-}
-
-// Does the same with the bytes of the file: prints all rows if and only if the bytes are accepted and each row has a text,
-// unless memory or the output fails.
-fn cat_bytes<O: Write>(alloc: Global, kind: &Type, bytes: &[u8], out: &mut O) -> Result<(), Stop>
+) -> Result<(), Stop>
     ensures accepted { OnOk result (Accepts (format_of kind.now.schema) bytes.now) }
-    ensures printed { OnOk result (Appends (O.contents out.old) (O.contents out.new) (lines_of kind.now.schema (rows_in kind.now.schema bytes.now))) }
-    ensures stopped { IfErr result (Stops kind.now.schema bytes.now (O.contents out.old) (O.contents out.new)) }
+    ensures within { OnOk result (IsWithin span (length (rows_in kind.now.schema bytes.now))) }
+    ensures printed { OnOk result (Prints (O.contents out.old) (O.contents out.new) (lines_of kind.now.schema (chosen span (rows_in kind.now.schema bytes.now)))) }
+    ensures stopped { IfErr result (Stops kind.now.schema span bytes.now (O.contents out.old) (O.contents out.new)) }
 {
     match Rows::open(kind, bytes) {
-        Ok(rows) => print_rows(alloc, &rows, out),
+        Ok(rows) => print_span(alloc, &rows, span, out),
         Err(fault) => Err(Stop::Refused(fault)),
     }
 }
 
-// Prints the rows of an accepted store.
-fn print_rows<O: Write>(alloc: Global, rows: &Rows<'_>, out: &mut O) -> Result<(), Stop>
-    ensures printed { OnOk result (Appends (O.contents out.old) (O.contents out.new) (lines_of rows.now.schema.now (all_rows rows.now))) }
-    ensures stopped { IfErr result (StopsAtRow rows.now.schema.now (all_rows rows.now) (O.contents out.old) (O.contents out.new)) }
+// Prints the rows of the range of an accepted store.
+fn print_span<O: WriteBytes>(
+    alloc: Global,
+    rows: &Rows<'_>,
+    span: Span,
+    out: &mut O,
+) -> Result<(), Stop>
+    ensures within { OnOk result (IsWithin span (length (all_rows rows.now))) }
+    ensures printed { OnOk result (Prints (O.contents out.old) (O.contents out.new) (lines_of rows.now.schema.now (chosen span (all_rows rows.now)))) }
+    ensures stopped { IfErr result (StopsAtRow rows.now.schema.now span (all_rows rows.now) (O.contents out.old) (O.contents out.new)) }
+{
+    match span.end(rows.len()) {
+        Some(to) => print_rows(alloc, rows, span.from, to, out),
+        None => Err(Stop::Beyond(rows.len())),
+    }
+}
+
+// Prints the rows from one up to another.
+fn print_rows<O: WriteBytes>(
+    alloc: Global,
+    rows: &Rows<'_>,
+    from: usize,
+    to: usize,
+    out: &mut O,
+) -> Result<(), Stop>
+    requires ordered { from ≤ to }
+    requires within { to ≤ length (all_rows rows.now) }
+    ensures printed { OnOk result (Prints (O.contents out.old) (O.contents out.new) (lines_of rows.now.schema.now (slice_range (all_rows rows.now) from to))) }
+    ensures stopped { IfErr result (StopsBetween rows.now.schema.now (all_rows rows.now) from to (O.contents out.old) (O.contents out.new)) }
 {
     let mut line = Vec::new(alloc);
-    for index in 0..rows.len() {
+    for index in from..to {
         line.clear();
         push_line(rows, index, &mut line)?;
         print(out, line.as_slice())?;
@@ -73,7 +95,7 @@ fn print_rows<O: Write>(alloc: Global, rows: &Rows<'_>, out: &mut O) -> Result<(
 
 // Appends row `index` as a line.
 fn push_line(rows: &Rows<'_>, index: usize, line: &mut Vec<u8>) -> Result<(), Stop>
-    ensures ok { OnOk result (line.new.items ≡ line.old.items ++ line_of rows.now.schema.now (row_at (all_rows rows.now) index)) }
+    ensures ok { OnOk result (Appended line.old.items line.new.items (line_of rows.now.schema.now (row_at (all_rows rows.now) index))) }
     ensures stopped { IfErr result (HasNoLine rows.now.schema.now (all_rows rows.now) index) }
 {
     match rows.write_row(index, line) {
@@ -88,12 +110,12 @@ fn push_line(rows: &Rows<'_>, index: usize, line: &mut Vec<u8>) -> Result<(), St
 }
 
 // Writes all bytes.
-fn print<O: Write>(out: &mut O, bytes: &[u8]) -> Result<(), Stop>
+fn print<O: WriteBytes>(out: &mut O, bytes: &[u8]) -> Result<(), Stop>
     ensures printed { OnOk result (Appends (O.contents out.old) (O.contents out.new) bytes.now) }
     ensures failed { IfErr result (λ e. e ≡ Stop.Failed Failure.Output) }
 {
-    match out.write_all(bytes) {
+    match put(out, bytes) {
         Ok(()) => Ok(()),
-        Err(_) => Err(Stop::Failed(Failure::Output)),
+        Err(failure) => Err(Stop::Failed(failure)),
     }
 }

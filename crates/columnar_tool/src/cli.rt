@@ -1,14 +1,25 @@
 //! The command line of the program.
-use crate::cat::{Stop, cat_file};
-use crate::file::{Failure, Wanted, slice_name, tell_fault, test_file};
+ghost use Rattle.std.specs.Prelude.{◌≡◌, ◌≢◌, ◌⊎◌, ◌≤◌, false, IfOk, IfErr};
+ghost use Rattle.std.specs.Io.KnownBytes.{Keeps};
+ghost use Rattle.columnar_schema.specs.Names.{Names, a_type, unspaced};
+ghost use Rattle.columnar_tool.specs.Uses.{Ends, IsNoType, Lists, ShowsFile, use_of, use_of_three, use_of_two, use_of_word};
+
+use crate::cat::{Stop, cat_bytes};
+use crate::file::{Wanted, fault_line, file_bytes, test_bytes};
+use crate::flags::{Flags, NONE, flags_of};
+use crate::help::{HELP, USAGE, VERSION};
+use crate::range::{ALL, Span, span_of};
+use crate::slices::print_slices;
+use crate::stores::{cat_stores, test_stores};
+use crate::table::show_table;
+use crate::told::{Failure, no_memory, no_output, print, say};
+use columnar_core::writer::WriteBytes;
 use columnar_schema::schema::Bounds;
 use columnar_schema::text::{Mistake, Refused};
 use columnar_schema::typed::Type;
 use std::alloc::Global;
 use std::io::{BufWriter, Write};
 use std::rt::Files;
-
-const USAGE: &str = "usage: columnar_tool check|rows|cat [--rust] TYPE FILE..";
 
 // What to do with the files.
 #[derive(Clone, Copy, PartialEq, Drop)]
@@ -19,64 +30,161 @@ enum Task {
     Cat,
 }
 
-/// Tests each file as a store of the type, and writes a line for each, or prints its rows as lines of JSON. With
-/// `--rust` the ends of the lists of `Vec<T>` are numbers, as in the Rust crate; otherwise they are in unary.
-///
-/// Returns the exit status: 0 if all files are accepted, and their rows printed; 1 if a file is not accepted or cannot
-/// be read, if a row has no text, or if memory or the output fails; 2 if the arguments are invalid or the text is not a
-/// type.
+/// Does what the arguments ask for: the page `HELP` says what that is. Returns the exit status: 0 if all went well; 1 if
+/// a file is not accepted or cannot be read, if a row has no text, or if memory or the output fails; 2 if the arguments
+/// are no use of the program or the text is no type.
 pub fn run_words<R: Files + AllocGlobal, O: Write, E: Write>(
     rt: &R,
     alloc: Global,
     words: &[String],
     out: &mut O,
     err: &mut E,
-) -> u8 {
+) -> u8
+    ensures { Ends (use_of words.now) result (O.contents out.old) (O.contents out.new) }
+{
     match words {
-        [verb, flag, kind, files @ ..] if flag.as_str() == "--rust" => test_as(
-            rt,
-            alloc,
-            verb.as_str(),
-            (kind.as_str(), Bounds::Words),
-            files,
-            out,
-            err,
-        ),
-        [verb, kind, files @ ..] => test_as(
-            rt,
-            alloc,
-            verb.as_str(),
-            (kind.as_str(), Bounds::Unaries),
-            files,
-            out,
-            err,
-        ),
+        [] => say(err, HELP.trim_end(), 2),
+        [word] => one_word(word, out, err),
+        [verb, word] => two_words(rt, alloc, verb, word, &words[1..], out, err),
+        [verb, flag, word] => three_words(rt, alloc, verb, flag, word, &words[1..], out, err),
+        [verb, rest @ ..] => read_files(rt, alloc, verb.as_str(), rest, out, err),
+    }
+}
+
+// Does what a single word asks for.
+fn one_word<O: WriteBytes, E: Write>(word: &String, out: &mut O, err: &mut E) -> u8
+    ensures { Ends (use_of_word word.now) result (O.contents out.old) (O.contents out.new) }
+{
+    match word.as_str() {
+        "--help" => print(out, HELP, err),
+        "--version" => print(out, VERSION, err),
         _ => say(err, USAGE, 2),
     }
 }
 
-// Tests the files with the type in this text and these bounds.
-fn test_as<R: Files + AllocGlobal, O: Write, E: Write>(
+// Does what two words ask for, the second a type or a file. `rest` are the words after the first.
+fn two_words<R: Files + AllocGlobal, O: Write, E: Write>(
+    rt: &R,
+    alloc: Global,
+    verb: &String,
+    word: &String,
+    rest: &[String],
+    out: &mut O,
+    err: &mut E,
+) -> u8
+    ensures { Ends (use_of_two verb.now word.now) result (O.contents out.old) (O.contents out.new) }
+{
+    match verb.as_str() {
+        "slices" => list_slices(alloc, word.as_str(), Bounds::Unaries, out, err),
+        "table" => show_file(rt, alloc, word.as_str(), out, err),
+        other => read_files(rt, alloc, other, rest, out, err),
+    }
+}
+
+// Does what three words ask for. `rest` are the words after the first.
+fn three_words<R: Files + AllocGlobal, O: Write, E: Write>(
+    rt: &R,
+    alloc: Global,
+    verb: &String,
+    flag: &String,
+    word: &String,
+    rest: &[String],
+    out: &mut O,
+    err: &mut E,
+) -> u8
+    ensures { Ends (use_of_three verb.now flag.now word.now) result (O.contents out.old) (O.contents out.new) }
+{
+    if verb.as_str() == "slices" && flag.as_str() == "--rust" {
+        list_slices(alloc, word.as_str(), Bounds::Words, out, err)
+    } else {
+        read_files(rt, alloc, verb.as_str(), rest, out, err)
+    }
+}
+
+// Prints the slices of the type in this text.
+fn list_slices<O: WriteBytes, E: Write>(
+    alloc: Global,
+    text: &str,
+    lists: Bounds,
+    out: &mut O,
+    err: &mut E,
+) -> u8
+    ensures { Lists lists text.now result (O.contents out.old) (O.contents out.new) }
+{
+    match type_of(alloc, text, lists, err) {
+        Ok(kind) => print_slices(alloc, &kind, out, err),
+        Err(status) => status,
+    }
+}
+
+// Reads a type; if the text is none, writes why, and returns the status.
+fn type_of<E: Write>(alloc: Global, text: &str, lists: Bounds, err: &mut E) -> Result<Type, u8>
+    ensures names { IfOk result (λ t. Names lists a_type (unspaced text.now) t.schema) }
+    ensures refused { IfErr result (IsNoType lists text.now) }
+{
+    match Type::parse(alloc, text.as_bytes(), lists) {
+        Ok(kind) => Ok(kind),
+        Err(refused) => Err(no_type(err, &refused)),
+    }
+}
+
+// Shows the table of a file.
+fn show_file<R: Files + AllocGlobal, O: WriteBytes, E: Write>(
+    rt: &R,
+    alloc: Global,
+    path: &str,
+    out: &mut O,
+    err: &mut E,
+) -> u8
+    ensures { ShowsFile result (O.contents out.old) (O.contents out.new) }
+{
+    match file_bytes(rt, path) {
+        Ok(bytes) => show_table(alloc, bytes.as_slice(), out, err),
+        Err(Failure::Memory) => no_memory(err),
+        Err(_) => cannot_read(path, err),
+    }
+}
+
+// Writes that a file cannot be read, and returns the status 1.
+fn cannot_read<E: Write>(path: &str, err: &mut E) -> u8
+    ensures { result ≡ 1 }
+{
+    let _written = writeln!(err, "{path}: cannot read");
+    1
+}
+
+// Does a task with the files that the words after the task name.
+fn read_files<R: Files + AllocGlobal, O: Write, E: Write>(
     rt: &R,
     alloc: Global,
     verb: &str,
-    kind: (&str, Bounds),
-    files: &[String],
+    words: &[String],
     out: &mut O,
     err: &mut E,
-) -> u8 {
+) -> u8
+    ensures { result ≡ 2 → Keeps (O.contents out.old) (O.contents out.new) }
+{
     let Some(task) = task_of(verb) else {
         return say(err, USAGE, 2);
     };
-    if files.is_empty() {
-        return say(err, USAGE, 2);
-    }
-    match Type::parse(alloc, kind.0.as_bytes(), kind.1) {
-        Ok(it) => match task {
-            Task::Test(wanted) => test_files(rt, alloc, &it, wanted, files, out, err),
-            Task::Cat => cat_files(rt, alloc, &it, files, out, err),
-        },
-        Err(refused) => no_type(err, &refused),
+    let (flags, rest) = flags_of(words, NONE);
+    match rest {
+        [kind, files @ ..] if !files.is_empty() => {
+            let (span, paths) = span_and_files(task, files);
+            if flags.stores && span != ALL {
+                return say(err, USAGE, 2);
+            }
+            match type_of(alloc, kind.as_str(), flags.lists, err) {
+                Ok(it) => match task {
+                    Task::Test(wanted) => {
+                        test_files(rt, alloc, &it, wanted, flags.stores, paths, out, err)
+                    }
+                    Task::Cat => cat_files(rt, alloc, &it, flags, span, paths, out, err),
+                },
+                Err(status) => status,
+            }
+        }
+        _ => say(err, USAGE, 2),
     }
 }
 
@@ -89,15 +197,15 @@ fn task_of(verb: &str) -> Option<Task> {
     }
 }
 
-/// Writes that an allocation failed, and returns the status 1.
-pub fn no_memory<E: Write>(err: &mut E) -> u8 {
-    say(err, "failed: no memory", 1)
-}
-
-// Writes to standard error and returns the status; a write error does not change it.
-fn say<E: Write>(err: &mut E, text: &str, status: u8) -> u8 {
-    let _written = writeln!(err, "{text}");
-    status
+// Returns the range of rows after a single file, and the files.
+fn span_and_files(task: Task, files: &[String]) -> (Span, &[String]) {
+    match files {
+        [_, range] if task == Task::Cat => match span_of(range.as_str()) {
+            Some(span) => (span, &files[..1]),
+            None => (ALL, files),
+        },
+        _ => (ALL, files),
+    }
 }
 
 // Tests the files in order. It reports a file that cannot be read, and continues with the others.
@@ -106,19 +214,19 @@ fn test_files<R: Files + AllocGlobal, O: Write, E: Write>(
     alloc: Global,
     kind: &Type,
     wanted: Wanted,
+    stores: bool,
     paths: &[String],
     out: &mut O,
     err: &mut E,
-) -> u8 {
+) -> u8
+    ensures { result ≤ 1 }
+{
     let mut status = 0;
     for path in paths {
-        match test_file(rt, alloc, kind, wanted, path.as_str(), out) {
+        match test_file(rt, alloc, kind, wanted, stores, path.as_str(), out) {
             Ok(true) => {}
             Ok(false) => status = 1,
-            Err(Failure::Input) => {
-                let _written = writeln!(err, "{path}: cannot read");
-                status = 1;
-            }
+            Err(Failure::Input) => status = cannot_read(path.as_str(), err),
             Err(Failure::Memory) => return no_memory(err),
             Err(Failure::Output) => return no_output(err),
         }
@@ -126,24 +234,54 @@ fn test_files<R: Files + AllocGlobal, O: Write, E: Write>(
     status
 }
 
+// Tests a file, or each of the stores in it. Returns whether all are accepted.
+fn test_file<R: Files + AllocGlobal, O: WriteBytes>(
+    rt: &R,
+    alloc: Global,
+    kind: &Type,
+    wanted: Wanted,
+    stores: bool,
+    path: &str,
+    out: &mut O,
+) -> Result<bool, Failure> {
+    let bytes = file_bytes(rt, path)?;
+    if stores {
+        test_stores(alloc, kind, wanted, path, bytes.as_slice(), out)
+    } else {
+        test_bytes(alloc, kind, wanted, path, bytes.as_slice(), out)
+    }
+}
+
 // Prints the rows of the files in order, up to the first failure.
 fn cat_files<R: Files + AllocGlobal, O: Write, E: Write>(
     rt: &R,
     alloc: Global,
     kind: &Type,
+    flags: Flags,
+    span: Span,
     paths: &[String],
     out: &mut O,
     err: &mut E,
-) -> u8 {
+) -> u8
+    ensures { result ≤ 1 }
+{
     let Ok(mut lines) = BufWriter::new(alloc, out) else {
         return no_memory(err);
     };
     for path in paths {
-        if let Err(stop) = cat_file(rt, alloc, kind, path.as_str(), &mut lines) {
+        if let Err((store, stop)) = cat_file(
+            rt,
+            alloc,
+            kind,
+            flags,
+            span,
+            path.as_str(),
+            &mut lines,
+        ) {
             if stop == Stop::Failed(Failure::Output) || lines.flush().is_err() {
                 return unprinted(lines, err);
             }
-            return tell_stop(alloc, kind, path.as_str(), stop, err);
+            return tell_stop(alloc, kind, path.as_str(), store, stop, err);
         }
     }
     match lines.flush() {
@@ -152,50 +290,101 @@ fn cat_files<R: Files + AllocGlobal, O: Write, E: Write>(
     }
 }
 
-// Writes why printing stopped, and returns the status 1.
-fn tell_stop<E: Write>(alloc: Global, kind: &Type, path: &str, stop: Stop, err: &mut E) -> u8 {
-    match stop {
-        Stop::Failed(Failure::Memory) => no_memory(err),
-        Stop::Failed(Failure::Output) => no_output(err),
-        Stop::Failed(Failure::Input) => {
-            let _written = writeln!(err, "{path}: cannot read");
-            1
+// Prints the rows of a file. Returns why it stopped, and at which of the stores in the file.
+fn cat_file<R: Files + AllocGlobal, O: WriteBytes>(
+    rt: &R,
+    alloc: Global,
+    kind: &Type,
+    flags: Flags,
+    span: Span,
+    path: &str,
+    out: &mut O,
+) -> Result<(), (Option<usize>, Stop)> {
+    let bytes = match file_bytes(rt, path) {
+        Ok(bytes) => bytes,
+        Err(failure) => return Err((None, Stop::Failed(failure))),
+    };
+    if flags.stores {
+        match cat_stores(alloc, kind, bytes.as_slice(), out) {
+            Ok(()) => Ok(()),
+            Err((number, stop)) => Err((Some(number), stop)),
         }
-        Stop::Refused(fault) => match slice_name(alloc, kind, fault.slice()) {
-            Ok(name) => {
-                let _written = tell_fault(err, path, &fault, name.as_str());
-                1
-            }
-            Err(_) => no_memory(err),
-        },
-        Stop::Row(index, why) => {
-            let _written = writeln!(err, "{path}: row {index}: {why}");
-            1
+    } else {
+        match cat_bytes(alloc, kind, span, bytes.as_slice(), out) {
+            Ok(()) => Ok(()),
+            Err(stop) => Err((None, stop)),
         }
     }
 }
 
+// Writes why printing stopped, and returns the status 1.
+fn tell_stop<E: Write>(
+    alloc: Global,
+    kind: &Type,
+    path: &str,
+    store: Option<usize>,
+    stop: Stop,
+    err: &mut E,
+) -> u8
+    ensures { result ≡ 1 }
+{
+    let label = match store {
+        Some(number) => format!(in alloc; "{path}, store {number}"),
+        None => String::from_str(alloc, path),
+    };
+    match label {
+        Ok(label) => tell_stop_at(alloc, kind, label.as_str(), stop, err),
+        Err(_) => no_memory(err),
+    }
+}
+
+// Does the same for a store with this label.
+fn tell_stop_at<E: Write>(alloc: Global, kind: &Type, label: &str, stop: Stop, err: &mut E) -> u8
+    ensures { result ≡ 1 }
+{
+    let _written = match stop {
+        Stop::Failed(Failure::Memory) => return no_memory(err),
+        Stop::Failed(Failure::Output) => return no_output(err),
+        Stop::Failed(Failure::Input) => return cannot_read(label, err),
+        Stop::Refused(fault) => match fault_line(alloc, kind, label, &fault) {
+            Ok(line) => write!(err, "{line}"),
+            Err(_) => return no_memory(err),
+        },
+        Stop::Beyond(count) => writeln!(err, "{label}: the range is not within {count} rows"),
+        Stop::Row(index, why) => writeln!(err, "{label}: row {index}: {why}"),
+    };
+    1
+}
+
 // Leaves the lines that are not written yet, and writes that the output failed.
-fn unprinted<W: Write + Drop, E: Write>(lines: BufWriter<W>, err: &mut E) -> u8 {
+fn unprinted<W: Write + Drop, E: Write>(lines: BufWriter<W>, err: &mut E) -> u8
+    ensures { result ≡ 1 }
+{
     let (_out, _unwritten) = lines.into_parts();
     no_output(err)
 }
 
-// Writes that the output failed, and returns the status 1.
-fn no_output<E: Write>(err: &mut E) -> u8 {
-    say(err, "failed: cannot write", 1)
+// Writes why the text is not a type, and returns the status: 1 if an allocation failed, 2 otherwise.
+fn no_type<E: Write>(err: &mut E, refused: &Refused) -> u8
+    ensures { (result ≡ 1) ⊎ ((result ≡ 2) × (refused.now.mistake ≢ Mistake.Memory)) }
+{
+    match refused.mistake {
+        Mistake::Memory => no_memory(err),
+        mistake => {
+            tell_mistake(err, refused.at, mistake);
+            2
+        }
+    }
 }
 
-// Writes why the text is not a type, and returns the status: 1 if an allocation failed, 2 otherwise.
-fn no_type<E: Write>(err: &mut E, refused: &Refused) -> u8 {
-    let at = refused.at;
-    let _written = match refused.mistake {
-        Mistake::Memory => return no_memory(err),
+// Writes what is wrong with the text of a type, and where.
+fn tell_mistake<E: Write>(err: &mut E, at: usize, mistake: Mistake) {
+    let _written = match mistake {
+        Mistake::Memory => writeln!(err, "failed: no memory"),
         Mistake::Name => writeln!(err, "not a type: expected a type at {at}"),
         Mistake::Wanted(byte) => writeln!(err, "not a type: expected `{}` at {at}", byte as char),
         Mistake::Longer => writeln!(err, "not a type: unexpected text at {at}"),
         Mistake::Wide => writeln!(err, "not a type: more than ten fields at {at}"),
         Mistake::Deep => writeln!(err, "not a type: nested too deep at {at}"),
     };
-    2
 }

@@ -1,13 +1,16 @@
-//! Tests of a file as a store of a type.
-ghost use Rattle.std.specs.Prelude.{◌↔◌, IfOk, IsTrue};
-ghost use Rattle.columnar_bytes.specs.Accepted.{Accepts};
-ghost use Rattle.columnar_schema.specs.Formats.{format_of};
+//! Tests of bytes as a store of a type.
+ghost use Rattle.std.specs.Prelude.{ℕ, List, ◌≡◌, IfOk, string_bytes};
+ghost use Rattle.std.specs.Io.KnownBytes.{Appends};
+ghost use Rattle.columnar_tool.specs.Verdicts.{IsFaultLine, IsVerdict, accepted_text, fault_text};
 
+use crate::slices::push_name;
+use crate::told::{Failure, put};
 use columnar_core::fault::StoreFault;
+use columnar_core::writer::WriteBytes;
 use columnar_schema::typed::Type;
-use std::alloc::Global;
+use std::alloc::{AllocError, Global};
 use std::fs;
-use std::io::{self, ErrorKind, Write};
+use std::io::ErrorKind;
 use std::rt::Files;
 
 /// What to report about an accepted store.
@@ -19,55 +22,6 @@ pub enum Wanted {
     Rows,
 }
 
-/// Why a file was not tested, or the result not reported.
-#[derive(Clone, Copy, PartialEq, Drop)]
-pub enum Failure {
-    /// An allocation failed.
-    Memory,
-    /// The file could not be read.
-    Input,
-    /// The output could not be written.
-    Output,
-}
-
-/// Writes a line that says whether the file is accepted: with its number of rows if `wanted` says so, or with the first
-/// broken rule. Returns whether it is accepted.
-pub fn test_file<R: Files + AllocGlobal, O: Write>(
-    rt: &R,
-    alloc: Global,
-    kind: &Type,
-    wanted: Wanted,
-    path: &str,
-    out: &mut O,
-) -> Result<bool, Failure> {
-    let bytes = file_bytes(rt, path)?;
-    test_bytes(alloc, kind, wanted, path, bytes.as_slice(), out)
-}
-
-// Does the same with the bytes of the file: returns true if and only if they frame a well-formed column of the type.
-fn test_bytes<O: Write>(
-    alloc: Global,
-    kind: &Type,
-    wanted: Wanted,
-    path: &str,
-    bytes: &[u8],
-    out: &mut O,
-) -> Result<bool, Failure>
-    ensures { IfOk result (λ accepted. IsTrue accepted ↔ Accepts (format_of kind.now.schema) bytes.now) }
-{
-    match kind.count_rows(bytes) {
-        Ok(rows) => {
-            tell_rows(out, path, wanted, rows)?;
-            Ok(true)
-        }
-        Err(fault) => {
-            let name = slice_name(alloc, kind, fault.slice())?;
-            tell_fault(out, path, &fault, name.as_str())?;
-            Ok(false)
-        }
-    }
-}
-
 /// Reads all bytes of a file.
 pub fn file_bytes<R: Files + AllocGlobal>(rt: &R, path: &str) -> Result<Vec<u8>, Failure> {
     match fs::read(rt, path) {
@@ -77,49 +31,96 @@ pub fn file_bytes<R: Files + AllocGlobal>(rt: &R, path: &str) -> Result<Vec<u8>,
     }
 }
 
-/// Returns the fields that lead to a slice.
-pub fn slice_name(alloc: Global, kind: &Type, slice: usize) -> Result<String, Failure> {
-    let mut name = String::new(alloc);
-    match kind.push_slice_name(slice, &mut name) {
-        Ok(()) => Ok(name),
-        Err(_) => Err(Failure::Memory),
-    }
-}
-
-fn tell_rows<O: Write>(
-    out: &mut O,
-    path: &str,
+/// Prints a line that says whether the bytes frame a well-formed column of the type: with its number of rows if `wanted`
+/// says so, or with the first broken rule. Returns whether they do. `label` names the bytes.
+pub fn test_bytes<O: WriteBytes>(
+    alloc: Global,
+    kind: &Type,
     wanted: Wanted,
-    rows: usize,
-) -> Result<(), Failure> {
-    match wanted {
-        Wanted::Verdict => written(writeln!(out, "{path}: accepted")),
-        Wanted::Rows => written(writeln!(out, "{path}: {rows} rows")),
-    }
-}
-
-/// Writes the first rule that a file breaks.
-pub fn tell_fault<O: Write>(
+    label: &str,
+    bytes: &[u8],
     out: &mut O,
-    path: &str,
-    fault: &StoreFault,
-    name: &str,
-) -> Result<(), Failure> {
-    let number = fault.number();
-    let slice = fault.slice();
-    if name.is_empty() {
-        written(writeln!(out, "{path}: rule {number} in slice {slice}: {fault}"))
-    } else {
-        written(writeln!(
-            out,
-            "{path}: rule {number} in slice {slice}, {name}: {fault}"
-        ))
+) -> Result<bool, Failure>
+    ensures { IfOk result (λ accepted. (line : List ℕ) × (IsVerdict kind.now.schema wanted label.now bytes.now accepted line × Appends (O.contents out.old) (O.contents out.new) line)) }
+{
+    let (line, accepted) = verdict(alloc, kind, wanted, label, bytes)?;
+    put(out, line.as_bytes())?;
+    Ok(accepted)
+}
+
+// Returns the line, and whether the bytes are accepted.
+fn verdict(
+    alloc: Global,
+    kind: &Type,
+    wanted: Wanted,
+    label: &str,
+    bytes: &[u8],
+) -> Result<(String, bool), Failure>
+    ensures { IfOk result (λ r. IsVerdict kind.now.schema wanted label.now bytes.now r.1 (string_bytes r.0)) }
+{
+    match kind.count_rows(bytes) {
+        Ok(rows) => {
+            let line = accepted_line(alloc, wanted, label, rows)?;
+            Ok((line, true))
+        }
+        Err(fault) => {
+            let line = fault_line(alloc, kind, label, &fault)?;
+            Ok((line, false))
+        }
     }
 }
 
-fn written(done: io::Result<()>) -> Result<(), Failure> {
-    match done {
-        Ok(()) => Ok(()),
-        Err(_) => Err(Failure::Output),
+// Returns the line of a store that is accepted.
+fn accepted_line(
+    alloc: Global,
+    wanted: Wanted,
+    label: &str,
+    rows: usize,
+) -> Result<String, AllocError>
+    ensures { IfOk result (λ line. string_bytes line ≡ accepted_text wanted label.now rows) }
+{
+    match wanted {
+        Wanted::Verdict => format!(in alloc; "{label}: accepted\n"),
+        Wanted::Rows => format!(in alloc; "{label}: {rows} rows\n"),
     }
+}
+
+/// Returns a line with the first rule that a store breaks, and its slice.
+pub fn fault_line(
+    alloc: Global,
+    kind: &Type,
+    label: &str,
+    fault: &StoreFault,
+) -> Result<String, AllocError>
+    ensures { IfOk result (λ line. IsFaultLine label.now fault.now (string_bytes line)) }
+{
+    let mut name = String::new(alloc);
+    kind.push_slice_name(fault.slice(), &mut name)?;
+    let why = format!(in alloc; "{fault}")?;
+    let line = rule_line(
+        alloc,
+        label,
+        fault.number(),
+        fault.slice(),
+        name.as_str(),
+        why.as_str(),
+    )?;
+    Ok(line)
+}
+
+// Returns the line of a broken rule.
+fn rule_line(
+    alloc: Global,
+    label: &str,
+    number: u8,
+    slice: usize,
+    name: &str,
+    why: &str,
+) -> Result<String, AllocError>
+    ensures { IfOk result (λ line. string_bytes line ≡ fault_text label.now number slice name.now why.now) }
+{
+    let mut line = format!(in alloc; "{label}: rule {number} in slice {slice}")?;
+    push_name(&mut line, name)?;
+    writeln!(line, ": {why}")?;
+    Ok(line)
 }

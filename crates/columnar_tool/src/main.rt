@@ -1,10 +1,17 @@
-//! Tests stores of columns against a type that is given as text, and prints their rows:
-//! `columnar_tool check|rows|cat [--rust] TYPE FILE..`.
+//! Tests stores of columns against a type that is given as text, and prints their rows: `columnar_tool --help`.
 #![tactic(auto)]
 
 mod cat;
 mod cli;
 mod file;
+mod flags;
+mod help;
+mod lines;
+mod range;
+mod slices;
+mod stores;
+mod table;
+mod told;
 
 use std::env;
 use std::process::ExitCode;
@@ -15,11 +22,11 @@ fn main(rt: HostRuntime) -> ExitCode {
     let mut err = rt.stderr();
     let mut words = Vec::new(alloc);
     let Ok(args) = env::args(&rt) else {
-        return ExitCode::from(cli::no_memory(&mut err));
+        return ExitCode::from(told::no_memory(&mut err));
     };
     for word in args.skip(1) {
         if words.push(word).is_err() {
-            return ExitCode::from(cli::no_memory(&mut err));
+            return ExitCode::from(told::no_memory(&mut err));
         }
     }
     ExitCode::from(cli::run_words(&rt, alloc, words.as_slice(), &mut out, &mut err))

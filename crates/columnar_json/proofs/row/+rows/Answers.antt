@@ -1,20 +1,29 @@
 use Rattle.std.proofs.Common.{[], ◌-◌, arith}
-use Rattle.std.specs.Prelude.{Err, codes}
+use Rattle.std.specs.Prelude.{Err, Ok, codes}
 use Rattle.columnar_core.specs.Store.{slices_in}
 use Rattle.columnar_schema.specs.CountLaws.{first_counted, others_counted, field_counted, later_counted}
 use Rattle.columnar_schema.specs.TypeLaws.{first_fit, others_fit, field_fit, later_fit}
 use Rattle.columnar_json.specs.ItemLaws.{item_failed, more_items}
 use Rattle.columnar_json.specs.Json.{flaws_of, json_of}
-use Rattle.columnar_json.specs.PartLaws.{bit_in, somes_fit, some_in, some_row, none_row, some_falls, some_counted, mark_in, values_fit, errors_fit, ok_in, err_in, ok_row, err_row, zeros_before, ones_before, ok_falls, err_falls, ok_counted, err_counted, bound_in, items_fit, items_in, items_row, items_fall, items_counted, only_row, fields_in, fields_row, fields_fall, later_in, later_row, later_falls}
-use Rattle.columnar_json.specs.RowTextLaws.{some_wrote, none_wrote, ok_wrote, err_wrote, list_wrote, solo_wrote, tuple_wrote, beside_wrote}
+use Rattle.columnar_json.specs.Pieces.{plain}
+use Rattle.columnar_json.specs.PartLaws.{bit_in, somes_fit, some_in, some_row, none_row, some_falls, some_counted, mark_in, values_fit, errors_fit, ok_in, err_in, ok_row, err_row, zeros_before, ones_before, ok_falls, err_falls, ok_counted, err_counted, bound_in, items_fit, items_in, items_row, items_fall, items_counted, only_row, fields_in, fields_row, fields_fall, later_in, later_row, later_falls, part_row}
+use Rattle.columnar_json.specs.RowTextLaws.{some_wrote, none_wrote, ok_wrote, err_wrote, list_wrote, solo_wrote, tuple_wrote, beside_wrote, field_wrote}
 use Rattle.columnar_json.specs.Stored.{items_flaws, items_json, stored_row, stored_rows}
-use Rattle.columnar_json.specs.WrittenLaws.{between_failed, between_wrote, passed}
+use Rattle.columnar_json.specs.WrittenLaws.{between_failed, between_wrote, row_goes_on, row_passed, wrote_plain}
 use Rattle.columnar_json.proofs.row.+rows.Goals as goal
+
+pub write_between-returns : goal.write_between-returns
+write_between-returns t c = between_wrote c.args.out.now.items c.push_bytes.new.out.items c.write_row.new.out.items c.push_bytes-2.new.out.items c.args.before.now _ c.args.after.now _ c.push_bytes-2.result c.in_ok-push_bytes.ensures c.in_ok-write_row.ensures c.push_bytes-2.ensures
+
+pub write_fields-returns : goal.write_fields-returns
+write_fields-returns t c =
+    let later = rw c.slice_count_of.ensures at c.write_row-2.ensures in
+    row_goes_on c.args.out.now.items c.write_row.new.out.items c.write_row-2.new.out.items _ _ _ _ c.write_row-2.result c.in_ok-write_row.ensures (row_goes_on c.write_row.new.out.items c.push_bytes.new.out.items c.write_row-2.new.out.items (plain (codes ",")) _ [] _ c.write_row-2.result (wrote_plain c.write_row.new.out.items c.push_bytes.new.out.items (codes ",") [] (Ok tt) c.in_ok-push_bytes.ensures) later)
 
 pub write_items-returns-in_err-write_between : goal.write_items-returns-in_err-write_between
 write_items-returns-in_err-write_between t c =
     let rs = stored_rows c.args.schema.now (slices_in c.args.store.now) c.args.offset in
-    passed c.args.out.now.items c.write_between.new.out.items (items_json c.args.schema.now rs c.args.lower (c.args.upper - c.args.lower)) (items_flaws c.args.schema.now rs c.args.lower (c.args.upper - c.args.lower)) c.in_err-write_between.field-0.0 c.from_residual.result c.from_residual.ensures.1
+    row_passed c.args.out.now.items c.write_between.new.out.items (items_json c.args.schema.now rs c.args.lower (c.args.upper - c.args.lower)) (items_flaws c.args.schema.now rs c.args.lower (c.args.upper - c.args.lower)) c.in_err-write_between.field-0.0 c.from_residual.result c.from_residual.ensures.1
     (item_failed c.args.schema.now rs c.args.lower c.args.upper c.loop-i.i c.args.out.now.items c.loop-i.out.items c.write_between.new.out.items c.in_err-write_between.field-0.0 (omega (arith, c.loop-i.auto.i)) c.loop-i-test.true (omega (arith, c.loop-i-test.true, c.requires.in_range)) c.loop-i.invariant c.in_err-write_between.ensures)
 
 pub write_items-loop-i-preserved : goal.write_items-loop-i-preserved
@@ -102,7 +111,7 @@ write_row-write_items-requires t c =
 pub write_row-returns-in_err-write_items-in-Lists : goal.write_row-returns-in_err-write_items-in-Lists
 write_row-returns-in_err-write_items-in-Lists t c =
     let row = stored_row c.args.schema.now (slices_in c.args.store.now) c.args.offset c.args.index in
-    passed c.args.out.now.items c.write_items.new.out.items (json_of c.args.schema.now row) (flaws_of c.args.schema.now row) c.in_err-write_items-in-Lists.field-0.0 c.from_residual-in_err-write_items-in-Lists.result c.from_residual-in_err-write_items-in-Lists.ensures.1
+    row_passed c.args.out.now.items c.write_items.new.out.items (json_of c.args.schema.now row) (flaws_of c.args.schema.now row) c.in_err-write_items-in-Lists.field-0.0 c.from_residual-in_err-write_items-in-Lists.result c.from_residual-in_err-write_items-in-Lists.ensures.1
     (list_wrote c.args.schema.now row _ c.args.out.now.items c.write_items.new.out.items (Err c.in_err-write_items-in-Lists.field-0.0) c.in-Lists.is (items_row c.args.schema.now c.args.offset (slices_in c.args.store.now) c.args.index c.range_at-lower.result.0 c.range_at-lower.result.1 c.in-Lists.is c.range_at-lower.ensures.lower c.range_at-lower.ensures.upper)
     (between_failed c.args.out.now.items c.push_bytes-in-Lists.new.out.items c.write_items.new.out.items (codes "[") [] (codes "]") _ c.in_err-write_items-in-Lists.field-0.0 c.in_ok-push_bytes-in-Lists.ensures (rw (c.deref-in-Lists.ensures, c.bounds_slices.ensures) at c.in_err-write_items-in-Lists.ensures)))
 
@@ -112,7 +121,7 @@ write_row-returns-in_ok-write_items-in-Lists t c =
     (between_wrote c.args.out.now.items c.push_bytes-in-Lists.new.out.items c.write_items.new.out.items c.push_bytes-in-Lists-2.new.out.items (codes "[") _ (codes "]") _ c.push_bytes-in-Lists-2.result c.in_ok-push_bytes-in-Lists.ensures (rw (c.deref-in-Lists.ensures, c.bounds_slices.ensures) at c.in_ok-write_items-in-Lists.ensures) c.push_bytes-in-Lists-2.ensures)
 
 pub write_row-returns-in-Solo : goal.write_row-returns-in-Solo
-write_row-returns-in-Solo t c = solo_wrote c.args.schema.now _ _ c.args.out.now.items c.write_between-in-Solo.new.out.items c.write_between-in-Solo.result c.in-Solo.is (only_row c.args.schema.now c.args.offset (slices_in c.args.store.now) c.args.index c.in-Solo.is c.requires.in_range) (rw c.deref-in-Solo.ensures at c.write_between-in-Solo.ensures)
+write_row-returns-in-Solo t c = solo_wrote c.args.schema.now _ _ c.args.out.now.items c.write_between-in-Solo.new.out.items c.write_between-in-Solo.result c.in-Solo.is (only_row c.args.schema.now c.args.offset (slices_in c.args.store.now) c.args.index c.in-Solo.is c.requires.in_range) (rw (c.deref-in-Solo.ensures, c.before_fields.ensures, c.after_fields.ensures) at c.write_between-in-Solo.ensures)
 
 pub write_row-write_fields-requires : goal.write_row-write_fields-requires
 write_row-write_fields-requires t c =
@@ -139,14 +148,14 @@ write_row-write_fields-requires t c =
 pub write_row-returns-in_err-write_fields-in-Tuple : goal.write_row-returns-in_err-write_fields-in-Tuple
 write_row-returns-in_err-write_fields-in-Tuple t c =
     let row = stored_row c.args.schema.now (slices_in c.args.store.now) c.args.offset c.args.index in
-    passed c.args.out.now.items c.write_fields.new.out.items (json_of c.args.schema.now row) (flaws_of c.args.schema.now row) c.in_err-write_fields-in-Tuple.field-0.0 c.from_residual-in_err-write_fields-in-Tuple.result c.from_residual-in_err-write_fields-in-Tuple.ensures.1
+    row_passed c.args.out.now.items c.write_fields.new.out.items (json_of c.args.schema.now row) (flaws_of c.args.schema.now row) c.in_err-write_fields-in-Tuple.field-0.0 c.from_residual-in_err-write_fields-in-Tuple.result c.from_residual-in_err-write_fields-in-Tuple.ensures.1
     (tuple_wrote c.args.schema.now row _ _ c.args.out.now.items c.write_fields.new.out.items (Err c.in_err-write_fields-in-Tuple.field-0.0) c.in-Tuple.is (fields_row c.args.schema.now c.args.offset (slices_in c.args.store.now) c.args.index c.in-Tuple.is c.requires.in_range)
-    (between_failed c.args.out.now.items c.push_bytes-in-Tuple.new.out.items c.write_fields.new.out.items (codes "[") [] (codes "]") _ c.in_err-write_fields-in-Tuple.field-0.0 c.in_ok-push_bytes-in-Tuple.ensures (rw (c.deref-in-Tuple.ensures, c.deref-in-Tuple-2.ensures) at c.in_err-write_fields-in-Tuple.ensures)))
+    (between_failed c.args.out.now.items c.push_bytes-in-Tuple.new.out.items c.write_fields.new.out.items _ [] [] _ c.in_err-write_fields-in-Tuple.field-0.0 (rw c.before_fields-in-Tuple.ensures at c.in_ok-push_bytes-in-Tuple.ensures) (rw (c.deref-in-Tuple.ensures, c.deref-in-Tuple-2.ensures) at c.in_err-write_fields-in-Tuple.ensures)))
 
 pub write_row-returns-in_ok-write_fields-in-Tuple : goal.write_row-returns-in_ok-write_fields-in-Tuple
 write_row-returns-in_ok-write_fields-in-Tuple t c =
     tuple_wrote c.args.schema.now _ _ _ c.args.out.now.items c.push_bytes-in-Tuple-2.new.out.items c.push_bytes-in-Tuple-2.result c.in-Tuple.is (fields_row c.args.schema.now c.args.offset (slices_in c.args.store.now) c.args.index c.in-Tuple.is c.requires.in_range)
-    (between_wrote c.args.out.now.items c.push_bytes-in-Tuple.new.out.items c.write_fields.new.out.items c.push_bytes-in-Tuple-2.new.out.items (codes "[") _ (codes "]") _ c.push_bytes-in-Tuple-2.result c.in_ok-push_bytes-in-Tuple.ensures (rw (c.deref-in-Tuple.ensures, c.deref-in-Tuple-2.ensures) at c.in_ok-write_fields-in-Tuple.ensures) c.push_bytes-in-Tuple-2.ensures)
+    (between_wrote c.args.out.now.items c.push_bytes-in-Tuple.new.out.items c.write_fields.new.out.items c.push_bytes-in-Tuple-2.new.out.items _ _ _ _ c.push_bytes-in-Tuple-2.result (rw c.before_fields-in-Tuple.ensures at c.in_ok-push_bytes-in-Tuple.ensures) (rw (c.deref-in-Tuple.ensures, c.deref-in-Tuple-2.ensures) at c.in_ok-write_fields-in-Tuple.ensures) (rw c.after_fields-in-Tuple.ensures at c.push_bytes-in-Tuple-2.ensures))
 
 pub write_row-write_fields-requires-in-Beside : goal.write_row-write_fields-requires-in-Beside
 write_row-write_fields-requires-in-Beside t c =
@@ -172,3 +181,6 @@ write_row-write_fields-requires-in-Beside t c =
 
 pub write_row-returns-in-Beside : goal.write_row-returns-in-Beside
 write_row-returns-in-Beside t c = beside_wrote c.args.schema.now _ _ _ c.args.out.now.items c.write_fields-in-Beside.new.out.items c.write_fields-in-Beside.result c.in-Beside.is (later_row c.args.schema.now c.args.offset (slices_in c.args.store.now) c.args.index c.in-Beside.is c.requires.in_range) (rw (c.deref-in-Beside.ensures, c.deref-in-Beside-2.ensures) at c.write_fields-in-Beside.ensures)
+
+pub write_row-returns-in_ok-push_quoted-in-Field : goal.write_row-returns-in_ok-push_quoted-in-Field
+write_row-returns-in_ok-push_quoted-in-Field t c = field_wrote c.args.schema.now (stored_row c.args.schema.now (slices_in c.args.store.now) c.args.offset c.args.index) _ c.args.out.now.items c.push_quoted.new.out.items c.write_between-in-Field.new.out.items c.write_between-in-Field.result c.in-Field.is (part_row c.args.schema.now c.args.offset (slices_in c.args.store.now) c.args.index c.in-Field.is) (rw c.as_slice.ensures.value at c.in_ok-push_quoted-in-Field.ensures) (rw c.deref-in-Field.ensures at c.write_between-in-Field.ensures)

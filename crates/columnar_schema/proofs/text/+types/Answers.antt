@@ -1,7 +1,8 @@
 use Rattle.std.specs.Prelude.{codes, nat_eq}
 use Rattle.std.proofs.lemmas.Bool.{eqb-true}
 use Rattle.std.proofs.Common.{rules, ◌≡◌, ◌≢◌, ◌++◌, ◌∷◌, ◌∙◌, true, false, ap, sym, refl, arith, drop, suc, ◌-◌, ◌≤◌}
-use Rattle.columnar_schema.specs.ParsingLaws.{begins, no, opens, word_at, begun, fields_end, fields_go, first_field, leaf_done, none_left, nests_some, not_closed, part_done, parts_done, shape_of, some_fields, texts_done, tuple_read}
+use Rattle.columnar_schema.specs.NameLaws.{object_goes_on, object_named, places_go_on, places_named}
+use Rattle.columnar_schema.specs.ParsingLaws.{begins, no, opens, word_at, begun, fields_end, fields_go, first_field, leaf_done, none_left, nests_some, not_closed, part_done, parts_done, rest_begins, shape_of, some_fields, texts_done, tuple_read}
 use Rattle.columnar_schema.proofs.text.+types.Goals as goal
 
 pub fields_at-returns-then-most-eq0-clause-whole : goal.fields_at-returns-then-most-eq0-clause-whole
@@ -61,28 +62,28 @@ named-returns-clause-whole i c t rest s n w f o most d h a =
 pub tuple_at-returns-in_err-next-clause-solo : goal.tuple_at-returns-in_err-next-clause-solo
 tuple_at-returns-in_err-next-clause-solo i c t rest s n e h =
     let stands : c.stands_at.result ≡ true = c.if-stands_at.true in
-    let closed = not_closed n c.args.text.now _ c.args.at c.stands_at.result c.stands_at.ensures e in
+    let closed = not_closed (begins n) c.args.text.now _ c.args.at c.stands_at.result c.stands_at.ensures e in
     let no : ⊥ = cc in
     absurd no
 
 pub tuple_at-returns-in_err-next-clause-whole : goal.tuple_at-returns-in_err-next-clause-whole
 tuple_at-returns-in_err-next-clause-whole i c t u rest s r n m e h k f =
     let stands : c.stands_at.result ≡ true = c.if-stands_at.true in
-    let closed = not_closed n c.args.text.now _ c.args.at c.stands_at.result c.stands_at.ensures e in
+    let closed = not_closed (begins n) c.args.text.now _ c.args.at c.stands_at.result c.stands_at.ensures e in
     let no : ⊥ = cc in
     absurd no
 
 pub tuple_at-returns-then-stands_at-clause-solo : goal.tuple_at-returns-then-stands_at-clause-solo
 tuple_at-returns-then-stands_at-clause-solo i c t rest s n e h =
     let stands : c.stands_at.result ≡ true = c.if-stands_at.true in
-    let closed = not_closed n c.args.text.now _ c.args.at c.stands_at.result c.stands_at.ensures e in
+    let closed = not_closed (begins n) c.args.text.now _ c.args.at c.stands_at.result c.stands_at.ensures e in
     let no : ⊥ = cc in
     absurd no
 
 pub tuple_at-returns-then-stands_at-clause-whole : goal.tuple_at-returns-then-stands_at-clause-whole
 tuple_at-returns-then-stands_at-clause-whole i c t u rest s r n m e h k f =
     let stands : c.stands_at.result ≡ true = c.if-stands_at.true in
-    let closed = not_closed n c.args.text.now _ c.args.at c.stands_at.result c.stands_at.ensures e in
+    let closed = not_closed (begins n) c.args.text.now _ c.args.at c.stands_at.result c.stands_at.ensures e in
     let no : ⊥ = cc in
     absurd no
 
@@ -139,7 +140,7 @@ pub tuple_at-returns-in_err-next-3-clause-whole : goal.tuple_at-returns-in_err-n
 tuple_at-returns-in_err-next-3-clause-whole i c t u rest s r n m e h k f =
     let stands : c.stands_at-2.result ≡ true = c.if-stands_at-2.true in
     let field = c.in_ok-first.ensures.whole t _ s n e h refl in
-    let closed = not_closed m c.args.text.now _ c.in_ok-next-2.next c.stands_at-2.result c.stands_at-2.ensures (c.in_ok-next-2.ensures.passes _ field) in
+    let closed = not_closed (rest_begins m) c.args.text.now _ c.in_ok-next-2.next c.stands_at-2.result c.stands_at-2.ensures (c.in_ok-next-2.ensures.passes _ field) in
     let no : ⊥ = cc in
     absurd no
 
@@ -147,7 +148,7 @@ pub tuple_at-returns-then-stands_at-2-clause-whole : goal.tuple_at-returns-then-
 tuple_at-returns-then-stands_at-2-clause-whole i c t u rest s r n m e h k f =
     let stands : c.stands_at-2.result ≡ true = c.if-stands_at-2.true in
     let field = c.in_ok-first.ensures.whole t _ s n e h refl in
-    let closed = not_closed m c.args.text.now _ c.in_ok-next-2.next c.stands_at-2.result c.stands_at-2.ensures (c.in_ok-next-2.ensures.passes _ field) in
+    let closed = not_closed (rest_begins m) c.args.text.now _ c.in_ok-next-2.next c.stands_at-2.result c.stands_at-2.ensures (c.in_ok-next-2.ensures.passes _ field) in
     let no : ⊥ = cc in
     absurd no
 
@@ -210,3 +211,15 @@ type_at-returns-clause-whole i c t rest s n e h a =
     let first = begun b c.args.text.now rest c.after_blanks-at.result there in
     let word = word_at c.args.text.now c.after_blanks-at.result c.word_end-end.result (t ++ rest) there c.word_end-end.ensures.ends in
     c.named.ensures.whole t rest s n word.0 word.1 (λ x q. no (sym c.if-stands_at.false ∙ c.stands_at.ensures 40 _ (there ∙ ap (λ z. z ++ rest) q) refl)) c.args.depth refl h a
+
+pub named-returns-then-eq-3-clause-whole : goal.named-returns-then-eq-3-clause-whole
+named-returns-then-eq-3-clause-whole i c t rest s n w f o most d h a =
+    let results : c.args.word.now ≢ codes "Result" = search rules in
+    let strings : c.args.word.now ≢ codes "Strings" = search rules in
+    absurd (none_left (shape_of n most c.args.depth rest d h a o) c.args.word.now w c.in_default.ensures.none c.in_default-head_of.ensures.none results strings)
+
+pub object_at-returns : goal.object_at-returns
+object_at-returns i c = object_goes_on c.args.lists c.args.text.now c.args.at c.in_ok-all.next c.in_ok-next.next c.in_ok-all.all c.in_ok-schema.schema c.in_ok-next.ensures.stands.0 c.in_ok-all.ensures c.in_ok-next.ensures.stands.1 c.in_ok-next.ensures.within (object_named c.in_ok-all.all c.in_ok-schema.schema c.in_ok-next.ensures.stands.0 c.in_ok-schema.ensures.ok)
+
+pub places_at-returns : goal.places_at-returns
+places_at-returns i c = places_go_on c.args.lists c.args.text.now c.args.at c.in_ok-all.next c.in_ok-next.next c.in_ok-next-2.next c.in_ok-all.all c.in_ok-schema.schema c.in_ok-all.ensures.names c.in_ok-next.ensures.stands c.in_ok-next-2.ensures.stands c.in_ok-next-2.ensures.within (places_named c.in_ok-all.all c.in_ok-schema.schema c.in_ok-schema.ensures.ok)

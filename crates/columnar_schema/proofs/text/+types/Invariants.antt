@@ -2,19 +2,37 @@ use Rattle.std.proofs.Common.{◌+◌, ◌*◌}
 use Rattle.columnar_schema.proofs.text.+types.Given as goal
 
 abbrev pub decreases-one_part : goal.decreases-one_part
-decreases-one_part l = 100 * l.depth + 60
+decreases-one_part l = 1000 * l.depth + 600
 
 abbrev pub decreases-two_parts : goal.decreases-two_parts
-decreases-two_parts l = 100 * l.depth + 60
+decreases-two_parts l = 1000 * l.depth + 600
 
 abbrev pub decreases-fields_at : goal.decreases-fields_at
-decreases-fields_at l = 100 * l.depth + (l.most + 1)
+decreases-fields_at l = 1000 * l.depth + (l.most + 1)
 
 abbrev pub decreases-tuple_at : goal.decreases-tuple_at
-decreases-tuple_at l = 100 * l.depth + 60
+decreases-tuple_at l = 1000 * l.depth + 600
+
+abbrev pub decreases-field_at : goal.decreases-field_at
+decreases-field_at l = 1000 * l.depth + 1
+
+abbrev pub decreases-named_fields_at : goal.decreases-named_fields_at
+decreases-named_fields_at l = 1000 * l.depth + (l.most + 2)
+
+abbrev pub decreases-object_at : goal.decreases-object_at
+decreases-object_at l = 1000 * l.depth + 600
+
+abbrev pub decreases-places_at : goal.decreases-places_at
+decreases-places_at l = 1000 * l.depth + 600
+
+abbrev pub decreases-body_at : goal.decreases-body_at
+decreases-body_at l = 1000 * l.depth + 650
+
+abbrev pub decreases-struct_at : goal.decreases-struct_at
+decreases-struct_at l = 1000 * l.depth + 660
 
 abbrev pub decreases-named : goal.decreases-named
-decreases-named l = 100 * l.depth + 70
+decreases-named l = 1000 * l.depth + 700
 
 abbrev pub decreases-type_at : goal.decreases-type_at
-decreases-type_at l = 100 * l.depth
+decreases-type_at l = 1000 * l.depth

@@ -1,0 +1,9 @@
+use Rattle.std.proofs.Common.{length}
+use Rattle.columnar_tool.specs.StoreLaws.{Testing}
+use Rattle.columnar_tool.proofs.stores.test_stores.Given as goal
+
+abbrev pub invariant-loop-rest : goal.invariant-loop-rest
+invariant-loop-rest g l = Testing l.kind.schema l.bytes l.rest l.number l.accepted
+
+abbrev pub decreases-loop-rest : goal.decreases-loop-rest
+decreases-loop-rest g l = length l.rest

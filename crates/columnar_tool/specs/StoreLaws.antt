@@ -2,6 +2,7 @@
 use Rattle.std.proofs.Common.{◌≡◌, ℕ, ◌+◌, ◌-◌, ◌<◌, ◌≤◌, Bool, true, false, List, [], ◌∷◌, ◌++◌, length, take, drop, refl, sym, ◌∙◌, ap, arith, append_assoc, append-nil, length-append}
 use Rattle.std.specs.Prelude.{Option, All, IsTrue, ◌↔◌, ◌&&◌, ◌==◌}
 use Rattle.std.proofs.lemmas.Bool.{eqb-true}
+use Rattle.std.specs.Io.KnownBytes.{Appends}
 use Rattle.std.specs.List.{flat_map}
 use Rattle.std.proofs.lemmas.List.{take_at, drop_at}
 use Rattle.std.proofs.lemmas.List.Elements.{All-cons, All-head, All-push, All-tail}
@@ -10,6 +11,7 @@ use Rattle.columnar_base.specs.Row.{Row}
 use Rattle.columnar_bytes.specs.Accepted.{Accepts}
 use Rattle.columnar_bytes.specs.StreamFaults.{IsFlaw}
 use Rattle.columnar_bytes.specs.Streams.{rest_in, stores_in}
+use Rattle.columnar_core.specs.SentLaws.{appends_both, appends_none}
 use Rattle.columnar_core.specs.declared.fault.StoreFault.{StoreFault}
 use Rattle.columnar_json.specs.ItemLaws.{flat_more}
 use Rattle.columnar_json.specs.Pieces.{Piece}
@@ -18,8 +20,8 @@ use Rattle.columnar_schema.specs.Formats.{format_of}
 use Rattle.columnar_tool.specs.Lines.{Prints, Stops, lines_of, rows_in}
 use Rattle.columnar_tool.specs.LineLaws.{prints_both, prints_none}
 use Rattle.columnar_tool.specs.Spans.{chosen}
-use Rattle.columnar_tool.specs.Stores.{AreAccepted, StopsAtStore, store_lines}
-use Rattle.columnar_tool.specs.Verdicts.{IsVerdict}
+use Rattle.columnar_tool.specs.Stores.{AreAccepted, IsReport, Reports, StopsAtStore, ended, label_of, store_lines, tested, torn}
+use Rattle.columnar_tool.specs.Verdicts.{IsFaultLine, IsVerdict}
 use Rattle.columnar_tool.specs.declared.cat.Stop.{Stop}
 use Rattle.columnar_tool.specs.declared.cat.Stop.TheVariants.{Refused}
 use Rattle.columnar_tool.specs.declared.file.Wanted.{Wanted}
@@ -166,3 +168,46 @@ testing_all s bytes rest n ok t h =
 -- a list that is empty has no items
 pub is_none : (rest : List ℕ) (empty : Bool) → empty ≡ (length rest == 0) → empty ≡ true → length rest ≡ 0
 is_none rest empty e h = eqb-true (length rest) 0 (sym e ∙ h)
+
+-- A line was printed for each of the first n stores; the later ones begin at `rest`.
+pub record Told (s : Schema) (wanted : Wanted) (path bytes rest : List ℕ) (n : ℕ) (ok : Bool) (old new : Option (List ℕ)) : Type 0 where
+  pub text : List ℕ
+  pub printed : Appends old new text
+  pub goes_on : (later : Bool) (more : List ℕ) → Reports s wanted path n (stores_in rest) (rest_in rest) later more → Reports s wanted path 0 (stores_in bytes) (rest_in bytes) (ok && later) (text ++ more)
+
+pub told_none : (s : Schema) (wanted : Wanted) (path bytes : List ℕ) (old : Option (List ℕ)) → Told s wanted path bytes bytes 0 true old old
+told_none s wanted path bytes old = record { text = []; printed = appends_none old; goes_on = λ later more r. r }
+
+and_all : (a b c : Bool) → (a && b) && c ≡ a && (b && c)
+and_all true b c = refl
+and_all false b c = refl
+
+and_true : (a : Bool) → a && true ≡ a
+and_true true = refl
+and_true false = refl
+
+and_false : (a : Bool) → a && false ≡ false
+and_false true = refl
+and_false false = refl
+
+pub told_more : (s : Schema) (wanted : Wanted) (path bytes rest store after label line : List ℕ) (n : ℕ) (ok one : Bool) (old mid new : Option (List ℕ)) → Told s wanted path bytes rest n ok old mid → stores_in rest ≡ store ∷ stores_in after → rest_in rest ≡ rest_in after → label ≡ label_of path n → IsVerdict s wanted label store one line → Appends mid new line → Told s wanted path bytes after (n + 1) (ok && one) old new
+told_more s wanted path bytes rest store after label line n ok one old mid new t e r l v p = record {
+  text = t.text ++ line;
+  printed = appends_both old mid new t.text line t.printed p;
+  goes_on =
+      λ later more q.
+        let k : Reports s wanted path n (store ∷ stores_in after) (rest_in after) (one && later) (line ++ more) = tested line more one later (rw l at v) q in
+        rw (and_all ok one later, append_assoc t.text line more) (t.goes_on (one && later) (line ++ more) (rw (e, r) k));
+}
+
+pub told_all : (s : Schema) (wanted : Wanted) (path bytes rest : List ℕ) (n : ℕ) (ok : Bool) (old new : Option (List ℕ)) → Told s wanted path bytes rest n ok old new → length rest ≡ 0 → IsReport s wanted path bytes ok old new
+told_all s wanted path bytes rest n ok old new t h =
+    let e = empty_list rest h in
+    let k : Reports s wanted path n (stores_in rest) (rest_in rest) true [] = rw (ap stores_in e, ap rest_in e) ended in
+    (t.text, (rw (and_true ok, append-nil t.text) at (t.goes_on true [] k), t.printed))
+
+-- the bytes after the first n stores are no store
+pub told_torn : (s : Schema) (wanted : Wanted) (path bytes rest label line : List ℕ) (n : ℕ) (ok : Bool) (fault : StoreFault) (old mid new : Option (List ℕ)) → Told s wanted path bytes rest n ok old mid → stores_in rest ≡ [] → rest_in rest ≡ rest → IsFlaw rest (length rest) fault → label ≡ label_of path n → IsFaultLine label fault line → Appends mid new line → IsReport s wanted path bytes false old new
+told_torn s wanted path bytes rest label line n ok fault old mid new t e r f l w p =
+    let k : Reports s wanted path n (stores_in rest) (rest_in rest) false line = rw (e, r) (torn fault f (rw l at w)) in
+    (t.text ++ line, (rw (and_false ok) at (t.goes_on false line k), appends_both old mid new t.text line t.printed p))

@@ -1,6 +1,6 @@
 -- The table of a store.
 use Rattle.std.specs.Prelude.{ℕ, zero, suc, Bool, true, List, [], ◌∷◌, ◌++◌, ◌≡◌, ◌⊎◌, ◌-◌, ◌==◌, ◌&&◌, length, slice_range, Option, codes, decimal, replicate, if◌then◌else◌}
-use Rattle.std.specs.Io.KnownBytes.{Appends, Keeps}
+use Rattle.std.specs.Io.KnownBytes.{Keeps}
 use Rattle.columnar_bytes.specs.StructureFaults.{IsFirstBroken}
 use Rattle.columnar_core.specs.Bytes.{rounded}
 use Rattle.columnar_core.specs.Faults.{fault_number, fault_slice}
@@ -61,8 +61,8 @@ rows_text bytes (suc i) = rows_text bytes i ++ row_of bytes i
 abbrev pub table_text : List ℕ → List ℕ
 table_text bytes = head_text (length bytes) (slice_count bytes) ++ (rows_text bytes (slice_count bytes) ++ tail_text (length bytes - start_of bytes (slice_count bytes)))
 
--- The table of a store was printed, or the program failed; of other bytes, the first rule of the structure that they
--- break, or memory failed and nothing was printed.
+-- The table of a store was printed, or the program failed after a beginning of it; of other bytes, the first rule of the
+-- structure that they break, or memory failed and nothing was printed.
 pub record ShowsTable (bytes : List ℕ) (status : ℕ) (before after : Option (List ℕ)) : Type 0 where
-  pub shown : IsStore bytes → ((status ≡ 0) × Appends before after (table_text bytes)) ⊎ (status ≡ 1)
+  pub shown : IsStore bytes → Prints (table_text bytes) 0 status before after
   pub refused : ¬ IsStore bytes → (status ≡ 1) × (((fault : StoreFault) × ((line : List ℕ) × (IsFirstBroken bytes (slice_count bytes) fault × (IsRefusal fault line × Prints line 1 status before after)))) ⊎ Keeps before after)

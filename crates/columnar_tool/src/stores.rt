@@ -1,11 +1,11 @@
 //! Files that hold stores one after another.
-ghost use Rattle.std.specs.Prelude.{◌≡◌, ◌∷◌, [], ◌<◌, ◌↔◌, ◌&&◌, length, IfOk, IfErr, OnOk, IsTrue};
+ghost use Rattle.std.specs.Prelude.{◌≡◌, ◌∷◌, [], ◌<◌, ◌↔◌, ◌&&◌, length, IfOk, IfErr, OnOk, IsTrue, string_bytes};
 ghost use Rattle.std.specs.List.{flat_map};
 ghost use Rattle.columnar_bytes.specs.StreamFaults.{IsFlaw};
 ghost use Rattle.columnar_bytes.specs.Streams.{rest_in, stores_in};
 ghost use Rattle.columnar_schema.specs.Formats.{format_of};
 ghost use Rattle.columnar_tool.specs.Lines.{Prints};
-ghost use Rattle.columnar_tool.specs.Stores.{AreAccepted, StopsAtStore, store_lines};
+ghost use Rattle.columnar_tool.specs.Stores.{AreAccepted, IsReport, StopsAtStore, label_of, store_lines};
 
 use crate::cat::{Stop, cat_bytes};
 use crate::file::{Wanted, fault_line, test_bytes};
@@ -15,7 +15,7 @@ use columnar_bytes::indexed::split_store;
 use columnar_core::fault::StoreFault;
 use columnar_core::writer::WriteBytes;
 use columnar_schema::typed::Type;
-use std::alloc::Global;
+use std::alloc::{AllocError, Global};
 
 // Returns the first store, and the bytes after it.
 fn next_store(bytes: &[u8]) -> Result<(&[u8], &[u8]), StoreFault>
@@ -71,6 +71,13 @@ fn both(one: bool, other: bool) -> bool
     one && other
 }
 
+// Returns what names a store of a file.
+fn label_of(alloc: Global, path: &str, number: usize) -> Result<String, AllocError>
+    ensures { IfOk result (λ label. string_bytes label ≡ label_of path.now number) }
+{
+    format!(in alloc; "{path}, store {number}")
+}
+
 /// Prints a line for each of consecutive stores that says whether it is accepted, as `test_bytes` does; the label has the
 /// number of the store. Returns whether all are. Bytes after the last whole store are one that is not accepted.
 pub fn test_stores<O: WriteBytes>(
@@ -81,13 +88,14 @@ pub fn test_stores<O: WriteBytes>(
     bytes: &[u8],
     out: &mut O,
 ) -> Result<bool, Failure>
-    ensures { IfOk result (λ accepted. IsTrue accepted ↔ AreAccepted (format_of kind.now.schema) bytes.now) }
+    ensures exact { IfOk result (λ accepted. IsTrue accepted ↔ AreAccepted (format_of kind.now.schema) bytes.now) }
+    ensures told { IfOk result (λ accepted. IsReport kind.now.schema wanted path.now bytes.now accepted (O.contents out.old) (O.contents out.new)) }
 {
     let mut accepted = true;
     let mut rest = bytes;
     let mut number = 0usize;
     while !rest.is_empty() {
-        let label = format!(in alloc; "{path}, store {number}")?;
+        let label = label_of(alloc, path, number)?;
         match next_store(rest) {
             Ok((store, after)) => {
                 let one = test_bytes(alloc, kind, wanted, label.as_str(), store, out)?;

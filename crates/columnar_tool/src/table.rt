@@ -1,10 +1,11 @@
 //! The table of a store of any type.
-ghost use Rattle.std.specs.Prelude.{◌≡◌, ◌-◌, ◌<◌, ◌≤◌, ◌↔◌, length, slice_range, IsOk, IfOk, IfErr, OnOk, string_bytes};
+ghost use Rattle.std.specs.Prelude.{◌≡◌, ◌-◌, ◌<◌, ◌≤◌, ◌↔◌, length, slice_range, IsOk, IfOk, IfErr, OnOk, OnErr, string_bytes};
 ghost use Rattle.std.specs.Io.KnownBytes.{Appends};
 ghost use Rattle.columnar_bytes.specs.StructureFaults.{IsFirstBroken};
 ghost use Rattle.columnar_core.specs.Bytes.{rounded};
 ghost use Rattle.columnar_core.specs.Frame.{IsStore, end_of, slice_count, start_of};
 ghost use Rattle.columnar_tool.specs.Tables.{IsRefusal, ShowsTable, rows_text, table_text};
+ghost use Rattle.columnar_tool.specs.Told.{Began};
 
 use crate::lines::{head, push_row, refused, tail};
 use crate::told::{Failure, no_memory, no_output, print_with, put};
@@ -72,6 +73,7 @@ fn framed(bytes: &[u8]) -> Result<usize, StoreFault>
 }
 
 // Prints the table.
+#[tactic(auto, using(crate::specs::TableLaws::began_none))]
 fn print_table<O: WriteBytes>(
     alloc: Global,
     bytes: &[u8],
@@ -80,7 +82,8 @@ fn print_table<O: WriteBytes>(
 ) -> Result<(), Failure>
     requires store { IsStore bytes.now }
     requires count { slice_count bytes.now ≡ count }
-    ensures { OnOk result (Appends (O.contents out.old) (O.contents out.new) (table_text bytes.now)) }
+    ensures printed { OnOk result (Appends (O.contents out.old) (O.contents out.new) (table_text bytes.now)) }
+    ensures begun { OnErr result (Began (O.contents out.old) (O.contents out.new) (table_text bytes.now)) }
 {
     let first = head(alloc, bytes.len(), count)?;
     let last = tail(alloc, rest_of(bytes, count))?;
@@ -131,7 +134,8 @@ fn print_rows<O: WriteBytes>(
 ) -> Result<(), Failure>
     requires store { IsStore bytes.now }
     requires count { slice_count bytes.now ≡ count }
-    ensures { OnOk result (Appends (O.contents out.old) (O.contents out.new) (rows_text bytes.now count)) }
+    ensures printed { OnOk result (Appends (O.contents out.old) (O.contents out.new) (rows_text bytes.now count)) }
+    ensures begun { OnErr result (Began (O.contents out.old) (O.contents out.new) (rows_text bytes.now count)) }
 {
     for i in 0..count {
         let (begin, end) = slice_at(bytes, i);

@@ -22,6 +22,7 @@ usage: .ci/edits.py [--all | --tenth N] [--sources] [--jobs N] [CRATE ..]
                                       commit's hash chooses the tenth. Writes records only with --record
 """
 import argparse
+import contextlib
 import functools
 import os
 import shutil
@@ -33,7 +34,7 @@ import time
 sys.path.insert(0, os.path.join(os.path.dirname(os.path.abspath(__file__)), "gate"))
 
 import record
-from lanes import Lanes, Log, Times, has_room
+from lanes import Lanes, Log, Times, Turns, has_room
 from prover import Crate
 from repository import ROOT, below, crates
 from tries import Choice, Tries, say
@@ -173,8 +174,11 @@ def main():
     signal.signal(signal.SIGTERM, lambda *_: sys.exit(1))
     run = Run(asked())
     if run.log:
-        # (rt ci has priority: the edits use what it leaves idle)
+        # (rt ci has priority: the edits use what it leaves idle, and end first where memory is short)
         os.sched_setscheduler(0, os.SCHED_IDLE, os.sched_param(0))
+        with contextlib.suppress(OSError), open("/proc/self/oom_score_adj", "w", encoding="utf-8") as it:
+            it.write("500")
+        Crate.wait = Turns(lambda: run.log.has_ended).wait
     run.say_choice()
     run.try_all()
     return run.end()

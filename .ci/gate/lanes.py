@@ -42,6 +42,21 @@ def has_room():
     return int(sizes["MemAvailable:"]) > 8 << 20
 
 
+class Turns:
+    """Lets the checks of edits begin one after the other while rt ci runs, and only where they leave it memory."""
+
+    def __init__(self, has_ended):
+        self.has_ended, self.turn = has_ended, threading.Lock()
+
+    def wait(self):
+        with self.turn:
+            while not has_room() and not self.has_ended():
+                time.sleep(5)
+            if not self.has_ended():
+                # (by then the check has taken most of its memory)
+                time.sleep(20)
+
+
 class Times:
     """When each task ran, in seconds after the start; for the checks of rt ci, as seen from the processes."""
 

@@ -3,6 +3,7 @@ import contextlib
 import os
 import re
 import shutil
+import signal
 import subprocess
 import tempfile
 
@@ -21,9 +22,9 @@ def guard():
 
 class Crate:
     """A crate, the folders of the libraries below it (None: read as sources), the folder that keeps what its checks proved, and
-    the number of jobs of a check."""
+    the number of jobs of a check. `wait` returns when the next check may begin."""
 
-    guard = None
+    guard, wait = None, staticmethod(lambda: None)
 
     def __init__(self, name, libraries, kept, jobs):
         self.name, self.libraries, self.kept, self.jobs = name, libraries, kept, jobs
@@ -69,7 +70,15 @@ class Crate:
     def check(self, texts, edits=(), keeps=False, by_contract=False):
         """Runs the prover on a copy of the crate with these texts instead of its own, for the functions of these edits or for all;
         `by_contract` assumes the contracts of all others. Reuses what earlier checks proved. A check that keeps must run alone.
-        Returns the status and the output."""
+        Returns the status and the output. A check that is killed, most likely for memory, is run again, at most twice."""
+        for _ in range(3):
+            Crate.wait()
+            status, said = self.once(texts, edits, keeps, by_contract)
+            if status != -signal.SIGKILL:
+                break
+        return status, said
+
+    def once(self, texts, edits, keeps, by_contract):
         words = self.words()
         words += [word for edit in edits for word in ("--only", f"{self.name}::{edit.of}")]
         words += ["--allow-holes"] if by_contract else []

@@ -1,11 +1,13 @@
 //! The code for an enum.
+mod pushes;
+mod views;
+
 use crate::attributes::derived;
 use crate::cases::Case;
 use crate::generics::Generics;
 use crate::item::{Description, Value, Variant};
 use crate::lines::{Header, Lines, WIDTH, each, in_angles, joined, keep};
-use crate::names::{add_names, method_name};
-use crate::views::{View, Views};
+use crate::names::add_names;
 use std::alloc::{AllocError, Global};
 
 /// The code for an enum, and the names in it.
@@ -86,6 +88,20 @@ fn columns_of(alloc: Global, cases: &[Case]) -> Result<Vec<String>, AllocError> 
     Ok(columns)
 }
 
+// Returns the column of a variant, and the columns of those after it.
+fn both_columns(
+    alloc: Global,
+    column: &str,
+    after: Option<String>,
+) -> Result<Vec<String>, AllocError> {
+    let mut columns = Vec::new(alloc);
+    keep(&mut columns, String::from_str(alloc, column)?)?;
+    if let Some(others) = after {
+        keep(&mut columns, others)?;
+    }
+    Ok(columns)
+}
+
 impl<'x> EnumPage<'x> {
     /// Makes a page without code for an enum with these variants. `prefix` begins the names of aliases. Clauses name the
     /// items of the enum's file under the path `place`.
@@ -126,20 +142,29 @@ impl<'x> EnumPage<'x> {
     /// Returns the whole code.
     pub fn printed(self) -> Result<String, AllocError> {
         let mut page = self;
-        page.add_head()?;
-        page.add_nest()?;
-        page.add_row()?;
-        page.add_items()?;
-        page.add_made_rows()?;
-        page.add_pushed_values()?;
-        page.add_pushed_rows()?;
-        page.add_names()?;
-        page.add_owned()?;
-        page.add_values_of_rows()?;
-        page.add_places()?;
-        page.add_views()?;
+        page.add_types()?;
+        page.add_pushes()?;
+        page.add_values()?;
         let EnumPage { lines, .. } = page;
         Ok(lines.into_text())
+    }
+
+    // Adds the types, and their meanings.
+    fn add_types(&mut self) -> Result<(), AllocError> {
+        self.add_head()?;
+        self.add_nest()?;
+        self.add_row()?;
+        self.add_items()?;
+        self.add_made_rows()
+    }
+
+    // Adds the impls that make values from rows, and the views.
+    fn add_values(&mut self) -> Result<(), AllocError> {
+        self.add_names()?;
+        self.add_owned()?;
+        self.add_values_of_rows()?;
+        self.add_places()?;
+        self.add_views()
     }
 
     // Adds the column, and the columns of its parts.
@@ -160,33 +185,42 @@ impl<'x> EnumPage<'x> {
 
     // Adds the columns from each variant on, the last first, and the column of the variants.
     fn add_columns(&mut self) -> Result<(), AllocError> {
-        let (alloc, generics) = (self.alloc, self.generics);
-        let prefix = self.prefix.as_str();
         let mut after: Option<String> = None;
-        let mut used = Vec::new(alloc);
-        for case in self.cases.iter().rev() {
-            let name = case.name.as_str();
-            let mut columns = Vec::new(alloc);
-            keep(&mut columns, String::from_str(alloc, case.column.as_str())?)?;
-            keep(&mut used, String::from_str(alloc, case.column.as_str())?)?;
-            if let Some(others) = after {
-                keep(&mut columns, others)?;
-            }
-            let params = generics.of_alias(alloc, &[], used.as_slice())?;
-            let before = format!(in alloc; "type {prefix}ColumnsFrom{name}{params} = ")?;
-            self.lines
-                .add_tuple("", before.as_str(), columns.as_slice(), ";")?;
-            self.lines.add("")?;
-            let args = generics.to_alias(alloc, &[], used.as_slice())?;
-            after = Some(format!(in alloc; "{prefix}ColumnsFrom{name}{args}")?);
+        let mut used = Vec::new(self.alloc);
+        for number in (0..self.cases.len()).rev() {
+            after = self.add_columns_from(number, &mut used, after)?;
         }
-        let params = generics.of_alias(alloc, &[], used.as_slice())?;
+        let params = self.generics.of_alias(self.alloc, &[], used.as_slice())?;
         match after {
-            Some(name) => self.lines.put(format!(in alloc;
-                "type {prefix}Parts{params} = Variants<{name}>;\n"
+            Some(name) => self.lines.put(format!(in self.alloc;
+                "type {}Parts{params} = Variants<{name}>;\n",
+                self.prefix
             )),
             None => Ok(()),
         }
+    }
+
+    // Adds the columns of a variant and of those after it, and returns their name. `used` are the columns so far.
+    fn add_columns_from(
+        &mut self,
+        number: usize,
+        used: &mut Vec<String>,
+        after: Option<String>,
+    ) -> Result<Option<String>, AllocError> {
+        let Some(case) = self.cases.get(number) else {
+            return Ok(after);
+        };
+        let name = case.name.as_str();
+        let columns = both_columns(self.alloc, case.column.as_str(), after)?;
+        keep(used, String::from_str(self.alloc, case.column.as_str())?)?;
+        let params = self.generics.of_alias(self.alloc, &[], used.as_slice())?;
+        let before = format!(in self.alloc; "type {}ColumnsFrom{name}{params} = ", self.prefix)?;
+        self.lines
+            .add_tuple("", before.as_str(), columns.as_slice(), ";")?;
+        self.lines.add("")?;
+        let args = self.generics.to_alias(self.alloc, &[], used.as_slice())?;
+        let made = format!(in self.alloc; "{}ColumnsFrom{name}{args}", self.prefix)?;
+        Ok(Some(made))
     }
 
     // Adds a type alias for the tuple of fields of each variant with several fields.
@@ -356,162 +390,32 @@ pub enum {} {{",
             self.row, self.rows
         ))?;
         let count = self.cases.len();
-        for (i, case) in self.cases.iter().enumerate() {
-            let made = case.of(self.alloc, self.row_name.as_str(), "a")?;
-            let letter = if case.has_value() { "a" } else { "()" };
-            if i.saturating_add(1) == count {
-                self.lines.put(format!(in self.alloc;
-                    "        let Last({letter}) = row;
-        {made}"
-                ))?;
-                continue;
-            }
-            let pattern = format!(in self.alloc; "Nth::This({letter})")?;
-            let value = format!(in self.alloc; "return {made}")?;
-            self.lines.add("        let row = match row {")?;
-            self.lines
-                .add_path_arm("            ", pattern.as_str(), value.as_str())?;
-            self.lines
-                .add("            Nth::Next(row) => row,\n        };")?;
+        for number in 0..count {
+            self.add_made_row(number, number.saturating_add(1) == count)?;
         }
         self.lines.add("    }\n}\n")
     }
 
-    // Adds the type of a lent value, if a variant has a value.
-    fn add_lent_type(&mut self) -> Result<(), AllocError> {
-        let mut lent = Vec::new(self.alloc);
-        for case in &self.cases {
-            if case.has_value() {
-                keep(&mut lent, String::from_str(self.alloc, case.lent.as_str())?)?;
-            }
-        }
-        if lent.is_empty() {
+    // Adds the lines that make the row of a variant, or go on to the next one.
+    fn add_made_row(&mut self, number: usize, is_last: bool) -> Result<(), AllocError> {
+        let Some(case) = self.cases.get(number) else {
             return Ok(());
-        }
-        self.add_kinds("// What they are made of, lent", "LentOf", "&'x ")?;
-        self.lines.add("// A value, lent")?;
-        let before = format!(in self.alloc; "type {}Lent<'x> = {}<", self.prefix, self.row_name)?;
-        self.lines
-            .add_list("", before.as_str(), lent.as_slice(), ">;", WIDTH)?;
-        self.lines.add("")
-    }
-
-    // Adds the impl that pushes a value of a generic enum, by the references to its fields.
-    fn add_pushed_refs(&mut self) -> Result<(), AllocError> {
-        self.add_kinds("// What they are made of, lent", "LentOf", "&'x ")?;
-        let alloc = self.alloc;
-        let mut items = Vec::new(alloc);
-        for case in &self.cases {
-            keep(&mut items, case.refs(alloc)?)?;
-        }
-        let lifetime = &[String::from_str(alloc, "'x")?];
-        let params = self.generics.of_alias(alloc, lifetime, items.as_slice())?;
-        let elided = &[String::from_str(alloc, "'_")?];
-        let args = self.generics.to_alias(alloc, elided, items.as_slice())?;
-        self.lines.add("// A value as the row that is pushed")?;
-        let before = format!(in alloc; "type {}LentRows{params} = ", self.prefix)?;
-        let last = match items.pop() {
-            Some(last) => format!(in alloc; "Last<{last}>")?,
-            None => return Ok(()),
         };
+        let made = case.of(self.alloc, self.row_name.as_str(), "a")?;
+        let letter = if case.has_value() { "a" } else { "()" };
+        if is_last {
+            return self.lines.put(format!(in self.alloc;
+                "        let Last({letter}) = row;
+        {made}"
+            ));
+        }
+        let pattern = format!(in self.alloc; "Nth::This({letter})")?;
+        let value = format!(in self.alloc; "return {made}")?;
+        self.lines.add("        let row = match row {")?;
         self.lines
-            .add_nest(before.as_str(), items.as_slice(), last.as_str())?;
-        self.lines.add("")?;
-        let bounds = self.generics.pushes(alloc)?;
-        self.lines.add_impl(
-            &Header {
-                params: self.generics.declared(alloc, "")?.as_slice(),
-                trait_name: "PushParts",
-                of: &[
-                    String::from_str(alloc, self.parts.as_str())?,
-                    String::from_str(alloc, self.own.as_str())?,
-                ],
-                own: self.own.as_str(),
-                after: "",
-            },
-            bounds.as_slice(),
-        )?;
-        self.lines.put(format!(in alloc;
-            "    fn push_parts(&self, parts: &mut {}) -> Result<(), GrowError> {{
-        match self {{",
-            self.parts
-        ))?;
-        let push = format!(in alloc; "push_into_variants::<{}LentRows{args}, _>", self.prefix)?;
-        let count = self.cases.len();
-        for (number, case) in self.cases.iter().enumerate() {
-            let is_last = number.saturating_add(1) == count;
-            let own = self.name.as_str();
-            case.add_push_of_refs(alloc, &mut self.lines, own, number, is_last, push.as_str())?;
-        }
-        self.lines.add("        }\n    }\n}\n")
-    }
-
-    // Adds the impls that push a value, as the row of its lent fields.
-    fn add_pushed_values(&mut self) -> Result<(), AllocError> {
-        if !self.generics.is_none() {
-            return self.add_pushed_refs();
-        }
-        self.add_lent_type()?;
-        let own = self.own.as_str();
-        let row_name = self.row_name.as_str();
-        let has_value = self.cases.iter().any(|case| case.has_value());
-        let lent = format!(in self.alloc; "{}Lent<'x>", self.prefix)?;
-        let lent = if has_value { lent.as_str() } else { row_name };
-        let parts = self.parts.as_str();
-        self.lines.put(format!(in self.alloc;
-            "impl<'x> LendRow<'x> for {own} {{
-    type Lent = {lent};
-
-    fn lend_row(&'x self) -> Self::Lent {{
-        match self {{"
-        ))?;
-        for case in &self.cases {
-            case.add_lent(self.alloc, &mut self.lines, own, row_name)?;
-        }
-        self.lines.put(format!(in self.alloc;
-            "        }}
-    }}
-}}
-
-impl PushParts<{parts}, {own}> for {own} {{
-    fn push_parts(&self, parts: &mut {parts}) -> Result<(), GrowError> {{
-        self.push_lent::<{parts}, {own}>(parts)
-    }}
-}}
-"
-        ))
-    }
-
-    // Adds the impl that pushes rows.
-    fn add_pushed_rows(&mut self) -> Result<(), AllocError> {
-        let mut params = self.all_params("", ": Copy + Item")?;
-        let columns = self.generics.fresh(self.alloc, "P")?;
-        let pushes = format!(in self.alloc; "{columns}: Push<{}>", self.rows)?;
-        keep(&mut params, pushes)?;
-        self.lines.add_impl(
-            &Header {
-                params: params.as_slice(),
-                trait_name: "PushParts",
-                of: &[
-                    String::from_str(self.alloc, columns.as_str())?,
-                    String::from_str(self.alloc, self.own.as_str())?,
-                ],
-                own: self.row.as_str(),
-                after: "",
-            },
-            self.generics.bounds.as_slice(),
-        )?;
-        self.lines.put(format!(in self.alloc;
-            "    fn push_parts(&self, parts: &mut {columns}) -> Result<(), GrowError> {{
-        match *self {{"
-        ))?;
-        let row_name = self.row_name.as_str();
-        let count = self.cases.len();
-        for (number, case) in self.cases.iter().enumerate() {
-            let is_last = number.saturating_add(1) == count;
-            case.add_push(self.alloc, &mut self.lines, row_name, number, is_last)?;
-        }
-        self.lines.add("        }\n    }\n}\n")
+            .add_path_arm("            ", pattern.as_str(), value.as_str())?;
+        self.lines
+            .add("            Nth::Next(row) => row,\n        };")
     }
 
     // Returns the names of the variants.
@@ -647,97 +551,5 @@ impl PushParts<{parts}, {own}> for {own} {{
             case.add_value_made(self.alloc, &mut self.lines, own, row_name, is_generic)?;
         }
         self.lines.add("        }\n    }\n}")
-    }
-
-    // Adds the places of the variants, and the columns of their values in a view.
-    fn add_places(&mut self) -> Result<(), AllocError> {
-        let params = self.view_params()?;
-        self.lines.add("\n// The places of the variants")?;
-        let prefix = self.prefix.as_str();
-        let mut before: Option<&str> = None;
-        for case in &self.cases {
-            let name = case.name.as_str();
-            let place = match before {
-                None => String::from_str(self.alloc, "Zero")?,
-                Some(before) => format!(in self.alloc; "Next<{prefix}At{before}>")?,
-            };
-            let alias = format!(in self.alloc; "type {prefix}At{name} =")?;
-            let place = format!(in self.alloc; "columnar::sums::variants::{place};\n")?;
-            self.lines.add_alias(alias.as_str(), place.as_str())?;
-            before = Some(name);
-        }
-        let list = joined(self.alloc, params.as_slice(), ", ")?;
-        let before = format!(in self.alloc; "type {prefix}ViewsOfValues<{list}> = ")?;
-        self.lines.add("// A view: that of the values of each variant, and those of the variants")?;
-        self.lines.add_pairs(before.as_str(), params.as_slice())?;
-        self.lines.add("")?;
-        let before = format!(in self.alloc; "type {prefix}ViewOfAll<'x, {list}> = Variants<")?;
-        let parts = [
-            format!(in self.alloc; "{prefix}ViewsOfValues<{list}>")?,
-            String::from_str(self.alloc, "&'x [u8]")?,
-            String::from_str(self.alloc, "columnar::common::View<'x, u64>")?,
-        ];
-        self.lines
-            .add_list("", before.as_str(), parts.as_slice(), ">;", WIDTH)
-    }
-
-    // Returns a type parameter for each variant.
-    fn view_params(&self) -> Result<Vec<String>, AllocError> {
-        let taken = self.names()?;
-        self.generics
-            .letters(self.alloc, self.cases.len(), taken.as_slice())
-    }
-
-    // Returns the parts of a view: the values of each variant.
-    fn views(&self) -> Result<Vec<View>, AllocError> {
-        let mut views = Vec::new(self.alloc);
-        for (i, case) in self.cases.iter().enumerate() {
-            let name = case.name.as_str();
-            let view = View {
-                method: method_name(self.alloc, name)?,
-                told: format!(in self.alloc; "the values of `{name}`")?,
-                rows: format!(in self.alloc; "of_case {i}")?,
-                value: format!(in self.alloc;
-                    "values_at::<{}At{name}, _, _, _>(self.parts)",
-                    self.prefix
-                )?,
-            };
-            match views.push(view) {
-                Ok(()) => {}
-                Err(error) => return Err(AllocError::from(error)),
-            }
-        }
-        Ok(views)
-    }
-
-    // Adds the trait that names the values of the variants of a view.
-    fn add_views(&mut self) -> Result<(), AllocError> {
-        let parts = self.views()?;
-        let params = self.view_params()?;
-        let name = self.name.as_str();
-        let told = format!(in self.alloc;
-            "The values of each variant of `{name}` in a view, by name."
-        )?;
-        let list = joined(self.alloc, params.as_slice(), ", ")?;
-        let of = format!(in self.alloc;
-            "OwnRows<{}ViewOfAll<'x, {list}>, {}>",
-            self.prefix, self.own
-        )?;
-        let mut others = Vec::new(self.alloc);
-        keep(&mut others, String::from_str(self.alloc, "'x")?)?;
-        for param in self.generics.declared(self.alloc, "")? {
-            keep(&mut others, param)?;
-        }
-        let views = Views {
-            own: name,
-            told: told.as_str(),
-            imports: "Rattle.columnar.specs.Variants.{of_case}",
-            params: params.as_slice(),
-            others: others.as_slice(),
-            bounds: self.generics.bounds.as_slice(),
-            of: of.as_str(),
-            parts: parts.as_slice(),
-        };
-        views.add(self.alloc, &mut self.lines)
     }
 }

@@ -34,66 +34,19 @@ pub fn add_names(
     lines.add("            _ => \"\",\n        }\n    }\n}\n")
 }
 
+// The names that the language reserves.
+const RESERVED: [&str; 55] = [
+    "abstract", "as", "async", "await", "become", "box", "break", "const", "continue", "crate",
+    "deriving", "do", "dyn", "else", "ensures", "enum", "extern", "false", "final", "fn", "for",
+    "gen", "ghost", "if", "impl", "in", "let", "loop", "macro", "match", "mod", "move", "mut",
+    "override", "priv", "pub", "ref", "requires", "return", "self", "static", "struct", "super",
+    "trait", "true", "try", "type", "typeof", "unsafe", "unsized", "use", "virtual", "where",
+    "while", "yield",
+];
+
 // Returns whether the language reserves a name.
 fn is_reserved(name: &str) -> bool {
-    matches!(
-        name,
-        "abstract"
-            | "as"
-            | "async"
-            | "await"
-            | "become"
-            | "box"
-            | "break"
-            | "const"
-            | "continue"
-            | "crate"
-            | "deriving"
-            | "do"
-            | "dyn"
-            | "else"
-            | "ensures"
-            | "enum"
-            | "extern"
-            | "false"
-            | "final"
-            | "fn"
-            | "for"
-            | "gen"
-            | "ghost"
-            | "if"
-            | "impl"
-            | "in"
-            | "let"
-            | "loop"
-            | "macro"
-            | "match"
-            | "mod"
-            | "move"
-            | "mut"
-            | "override"
-            | "priv"
-            | "pub"
-            | "ref"
-            | "requires"
-            | "return"
-            | "self"
-            | "static"
-            | "struct"
-            | "super"
-            | "trait"
-            | "true"
-            | "try"
-            | "type"
-            | "typeof"
-            | "unsafe"
-            | "unsized"
-            | "use"
-            | "virtual"
-            | "where"
-            | "while"
-            | "yield"
-    )
+    RESERVED.iter().any(|word| *word == name)
 }
 
 // Returns whether a word of a name begins at character `i`: an upper-case letter after a lower-case one or a digit, or

@@ -45,6 +45,46 @@ pub struct Page<'x> {
     tuple: String,
 }
 
+// Returns how the fields of a value are written, and the fields.
+fn fields_of(value: &Value) -> (Style, &[Field]) {
+    match value {
+        Value::Nothing => (Style::Unit, &[]),
+        Value::Types(fields) => (Style::Numbered, fields.as_slice()),
+        Value::Fields(fields) => (Style::Named, fields.as_slice()),
+    }
+}
+
+fn names_of(alloc: Global, fields: &[Field]) -> Result<Vec<String>, AllocError> {
+    let mut names = Vec::new(alloc);
+    for field in fields {
+        keep(&mut names, String::from_str(alloc, field.name.as_str())?)?;
+    }
+    Ok(names)
+}
+
+fn kinds_of(alloc: Global, fields: &[Field]) -> Result<Vec<String>, AllocError> {
+    let mut kinds = Vec::new(alloc);
+    for field in fields {
+        keep(&mut kinds, String::from_str(alloc, field.kind.as_str())?)?;
+    }
+    Ok(kinds)
+}
+
+// Returns the column of the parts, of these columns if there are some.
+fn container_of(
+    alloc: Global,
+    prefix: &str,
+    generics: &Generics,
+    parts: &str,
+    columns: &[String],
+) -> Result<String, AllocError> {
+    if columns.is_empty() {
+        return format!(in alloc; "ContainerOf<{parts}>");
+    }
+    let used = generics.to_alias(alloc, &[], columns)?;
+    format!(in alloc; "{prefix}PartColumns{used}")
+}
+
 impl<'x> Page<'x> {
     /// Makes a page without code for a struct with this value. `prefix` begins the names of aliases.
     pub fn new(
@@ -55,23 +95,14 @@ impl<'x> Page<'x> {
     ) -> Result<Page<'x>, AllocError> {
         let name = description.name.as_str();
         let generics = &description.generics;
-        let mut names = Vec::new(alloc);
-        let mut kinds = Vec::new(alloc);
-        let (style, fields) = match value {
-            Value::Nothing => (Style::Unit, &[] as &[Field]),
-            Value::Types(fields) => (Style::Numbered, fields.as_slice()),
-            Value::Fields(fields) => (Style::Named, fields.as_slice()),
-        };
-        for field in fields {
-            keep(&mut names, String::from_str(alloc, field.name.as_str())?)?;
-            keep(&mut kinds, String::from_str(alloc, field.kind.as_str())?)?;
-        }
+        let (style, fields) = fields_of(value);
+        let kinds = kinds_of(alloc, fields)?;
         let params = generics.letters(alloc, fields.len(), &[])?;
         let given = in_angles(alloc, generics.names(alloc)?.as_slice())?;
         let used = generics.to_alias(alloc, &[], kinds.as_slice())?;
         let parts = format!(in alloc; "{prefix}Parts{used}")?;
         let columns = columns_of(alloc, fields)?;
-        let used = generics.to_alias(alloc, &[], columns.as_slice())?;
+        let container = container_of(alloc, prefix, generics, parts.as_str(), columns.as_slice())?;
         let angles = in_angles(alloc, params.as_slice())?;
         let tuple = in_tuple(alloc, params.as_slice())?;
         Ok(Page {
@@ -84,15 +115,11 @@ impl<'x> Page<'x> {
             row_name: format!(in alloc; "{name}Reference")?,
             row: format!(in alloc; "{name}Reference{angles}")?,
             derives: derived(alloc, description.derives.as_slice())?,
-            container: if columns.is_empty() {
-                format!(in alloc; "ContainerOf<{parts}>")?
-            } else {
-                format!(in alloc; "{prefix}PartColumns{used}")?
-            },
+            container,
             prefix: String::from_str(alloc, prefix)?,
             columns,
             parts,
-            fields: names,
+            fields: names_of(alloc, fields)?,
             kinds,
             params,
             tuple,
@@ -102,18 +129,28 @@ impl<'x> Page<'x> {
     /// Returns the whole code.
     pub fn printed(self) -> Result<String, AllocError> {
         let mut page = self;
-        page.add_head()?;
-        page.add_row()?;
-        page.add_items()?;
-        page.add_made_rows()?;
-        page.add_pushed_values()?;
-        page.add_pushed_rows()?;
-        page.add_names()?;
-        page.add_owned()?;
-        page.add_values_of_rows()?;
-        page.add_views()?;
+        page.add_rows()?;
+        page.add_values()?;
         let Page { lines, .. } = page;
         Ok(lines.into_text())
+    }
+
+    // Adds the types, and the impls that push values and rows.
+    fn add_rows(&mut self) -> Result<(), AllocError> {
+        self.add_head()?;
+        self.add_row()?;
+        self.add_items()?;
+        self.add_made_rows()?;
+        self.add_pushed_values()?;
+        self.add_pushed_rows()
+    }
+
+    // Adds the impls that make values from rows, and the views.
+    fn add_values(&mut self) -> Result<(), AllocError> {
+        self.add_names()?;
+        self.add_owned()?;
+        self.add_values_of_rows()?;
+        self.add_views()
     }
 
     // Adds the column, and the tuple of the fields.
@@ -125,6 +162,12 @@ impl<'x> Page<'x> {
         self.lines
             .put(format!(in alloc; "/// A column of values of `{name}`."))?;
         self.lines.add_container(name, params.as_str(), own)?;
+        self.add_parts()
+    }
+
+    // Adds the tuple of the fields, and that of their columns.
+    fn add_parts(&mut self) -> Result<(), AllocError> {
+        let (alloc, generics) = (self.alloc, self.generics);
         self.lines.add("// The fields, in their order")?;
         let params = generics.of_alias(alloc, &[], self.kinds.as_slice())?;
         let before = format!(in alloc; "type {}Parts{params} = ", self.prefix)?;
@@ -239,15 +282,21 @@ impl<'x> Page<'x> {
                     .add_arguments(indent, before.as_str(), values, after.as_str())
             }
             Style::Named => {
-                let mut items = Vec::new(self.alloc);
-                for (name, value) in self.fields.iter().zip(values.iter()) {
-                    keep(&mut items, format!(in self.alloc; "{name}: {value}")?)?;
-                }
+                let items = self.with_names(values)?;
                 let before = format!(in self.alloc; "{before}{name} ")?;
                 self.lines
                     .add_braces(indent, before.as_str(), items.as_slice(), after)
             }
         }
+    }
+
+    // Returns the values, each after the name of its field.
+    fn with_names(&self, values: &[String]) -> Result<Vec<String>, AllocError> {
+        let mut items = Vec::new(self.alloc);
+        for (name, value) in self.fields.iter().zip(values.iter()) {
+            keep(&mut items, format!(in self.alloc; "{name}: {value}")?)?;
+        }
+        Ok(items)
     }
 
     // Returns the parts of a tuple, by number.
@@ -391,21 +440,25 @@ impl<'x> Page<'x> {
         ))
     }
 
-    // Adds the impl that makes a value from a row.
-    fn add_values_of_rows(&mut self) -> Result<(), AllocError> {
-        let row = self.generics.fresh(self.alloc, "R")?;
-        let mut params = self.generics.declared(self.alloc, "Drop")?;
-        keep(&mut params, format!(in self.alloc; "{row}: Item")?)?;
+    // Returns the bounds of the impl that makes a value from a row.
+    fn from_bounds(&self, row: &str) -> Result<Vec<String>, AllocError> {
         let mut bounds = self.generics.where_bounds(self.alloc)?;
-        let is_generic = !self.generics.is_none();
         let parts = self.parts.as_str();
-        let own = self.own.as_str();
-        let bound = if is_generic {
-            format!(in self.alloc; "{row}: IntoValue<{parts}>")?
-        } else {
+        let bound = if self.generics.is_none() {
             format!(in self.alloc; "{parts}: FromRow<{row}>")?
+        } else {
+            format!(in self.alloc; "{row}: IntoValue<{parts}>")?
         };
         keep(&mut bounds, bound)?;
+        Ok(bounds)
+    }
+
+    // Adds the head of the impl that makes a value from a row.
+    fn add_from_row(&mut self, row: &str) -> Result<(), AllocError> {
+        let mut params = self.generics.declared(self.alloc, "Drop")?;
+        keep(&mut params, format!(in self.alloc; "{row}: Item")?)?;
+        let bounds = self.from_bounds(row)?;
+        let own = self.own.as_str();
         self.lines.add_impl(
             &Header {
                 params: params.as_slice(),
@@ -415,15 +468,14 @@ impl<'x> Page<'x> {
                 after: "",
             },
             bounds.as_slice(),
-        )?;
-        let made = if self.style == Style::Unit {
-            "_parts"
-        } else {
-            "parts"
-        };
+        )
+    }
+
+    // Adds the head of the function that makes a value from a row.
+    fn add_from_row_function(&mut self, row: &str) -> Result<(), AllocError> {
         let of = [
             String::from_str(self.alloc, "alloc: Global")?,
-            format!(in self.alloc; "row: OwnRow<{row}, {own}>")?,
+            format!(in self.alloc; "row: OwnRow<{row}, {}>", self.own)?,
         ];
         self.lines.add_list(
             "    ",
@@ -431,16 +483,34 @@ impl<'x> Page<'x> {
             of.as_slice(),
             ") -> Result<Self, OwnError> {",
             WIDTH,
-        )?;
-        if is_generic {
-            self.lines.put(format!(in self.alloc;
-                "        let {made}: {parts} = row.parts.into_value(alloc)?;"
-            ))?;
+        )
+    }
+
+    // Adds the line that makes the parts of a row values.
+    fn add_parts_made(&mut self) -> Result<(), AllocError> {
+        let made = if self.style == Style::Unit {
+            "_parts"
         } else {
+            "parts"
+        };
+        let parts = self.parts.as_str();
+        if self.generics.is_none() {
             self.lines.put(format!(in self.alloc;
                 "        let {made} = {parts}::from_row(alloc, row.parts)?;"
-            ))?;
+            ))
+        } else {
+            self.lines.put(format!(in self.alloc;
+                "        let {made}: {parts} = row.parts.into_value(alloc)?;"
+            ))
         }
+    }
+
+    // Adds the impl that makes a value from a row.
+    fn add_values_of_rows(&mut self) -> Result<(), AllocError> {
+        let row = self.generics.fresh(self.alloc, "R")?;
+        self.add_from_row(row.as_str())?;
+        self.add_from_row_function(row.as_str())?;
+        self.add_parts_made()?;
         let name = String::from_str(self.alloc, self.name.as_str())?;
         let parts = self.parts_of("parts")?;
         self.add_struct("Ok(", name.as_str(), parts.as_slice(), ")")?;

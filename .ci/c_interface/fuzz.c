@@ -81,7 +81,7 @@ static struct found structure(struct store *store, const uint8_t *bytes, uint64_
     return none;
 }
 
-/* A reader of a text that is a type without blanks but after `struct`. Each function reads one part and adds its slices; if there is a
+/* A reader of a text that is a type without blanks but after `struct` and `enum`. Each function reads one part and adds its slices; if there is a
  * store, it tests the slices and returns the number of their rows. */
 struct reading {
     const char *text;
@@ -303,6 +303,101 @@ static struct found read_struct(struct reading *reading, uint64_t *rows) {
     return goes_on(reading, "{") ? read_fields(reading, true, "}", rows) : (goes_on(reading, "("), read_fields(reading, false, ");", rows));
 }
 
+/* Options of which the first row is a value. */
+static struct found read_repeats(struct reading *reading, uint64_t *rows) {
+    uint64_t first = reading->slice;
+    struct found it = read_option(reading, false, rows);
+    return it.rule || !reading->store || *rows == 0 || bit(reading->store, first + 1, 0) ? it : at(15, first);
+}
+
+/* Values, and distances to values before them. */
+static struct found read_lookbacks(struct reading *reading, uint64_t *rows) {
+    const struct store *store = reading->store;
+    uint64_t first = reading->slice, ones = 0, values = 0, distances = 0, before = 0;
+    struct found it = read_bits(reading, rows, &ones);
+    struct found part = read_type(reading, &values);
+    if (goes_on(reading, ","))
+        pass_name(reading);
+    goes_on(reading, ">");
+    uint64_t slice = reading->slice;
+    struct found other = elements(reading, 1, &distances);
+    if (it.rule || part.rule || other.rule || !store)
+        return it.rule ? it : part.rule ? part : other;
+    if (values != ones || distances != *rows - ones)
+        return at(10, first);
+    for (uint64_t i = 0; i < *rows; i++)
+        if (bit(store, first + 1, i))
+            before++;
+        else if (store->bytes[store->begin[slice] + i - before] >= before)
+            return at(15, first);
+    return none;
+}
+
+/* A list whose type ends with its length. */
+static struct found read_array(struct reading *reading, uint64_t *rows) {
+    struct found it = read_list(reading, COLUMNAR_WORDS, false, rows);
+    goes_on(reading, ";");
+    pass_name(reading);
+    goes_on(reading, "]");
+    return it;
+}
+
+static struct found read_case(struct reading *reading, uint64_t *rows) {
+    pass_name(reading);
+    if (goes_on(reading, "{"))
+        return read_fields(reading, true, "}", rows);
+    return goes_on(reading, "(") ? read_fields(reading, false, ")", rows) : read_units(reading, rows);
+}
+
+/* The variants of rows; sets how many rows have each. */
+static struct found read_variants(struct reading *reading, uint64_t *rows, uint64_t held[256]) {
+    const struct store *store = reading->store;
+    uint64_t first = reading->slice, offsets = 0;
+    struct found it = elements(reading, 1, rows);
+    struct found part = elements(reading, 8, &offsets);
+    if (it.rule || part.rule || !store)
+        return it.rule ? it : part;
+    if (*rows == 0 && offsets == 2) {
+        uint64_t tag = of_slice(store, first + 1, 0);
+        *rows = of_slice(store, first + 1, 1);
+        if (tag < 1 || tag > 256 || *rows < 1)
+            return at(17, first);
+        held[tag - 1] = *rows;
+        return none;
+    }
+    bool right = offsets == *rows;
+    uint64_t most = 0;
+    for (uint64_t i = 0; right && i < *rows; i++) {
+        uint64_t *count = &held[store->bytes[store->begin[first] + i]];
+        right = of_slice(store, first + 1, i) == *count;
+        *count += 1;
+        most = *count > most ? *count : most;
+    }
+    return right && (*rows == 0 || most < *rows) ? none : at(17, first);
+}
+
+static struct found read_enum(struct reading *reading, uint64_t *rows) {
+    uint64_t first = reading->slice, counts[MANY], held[256] = {0}, size = 0;
+    struct found it = none;
+    pass_name(reading);
+    goes_on(reading, "{");
+    do {
+        struct found part = read_case(reading, &counts[size++]);
+        it = it.rule ? it : part;
+    } while (size < MANY && goes_on(reading, ",") && *reading->text != '}');
+    goes_on(reading, "}");
+    struct found part = read_variants(reading, rows, held);
+    if (it.rule || part.rule || !reading->store)
+        return it.rule ? it : part;
+    for (uint64_t i = size; i < 256; i++)
+        if (held[i] != 0)
+            return at(17, first);
+    for (uint64_t i = 0; i < size; i++)
+        if (held[i] != counts[i])
+            return at(10, first);
+    return none;
+}
+
 static struct found read_type(struct reading *reading, uint64_t *rows) {
     static const struct {
         const char *name;
@@ -336,6 +431,12 @@ static struct found read_type(struct reading *reading, uint64_t *rows) {
         return read_list(reading, reading->bounds, false, rows);
     if (goes_on(reading, "SmallVec<"))
         return read_list(reading, COLUMNAR_WORDS, false, rows);
+    if (goes_on(reading, "["))
+        return read_array(reading, rows);
+    if (goes_on(reading, "Repeats<"))
+        return read_repeats(reading, rows);
+    if (goes_on(reading, "Lookbacks<"))
+        return read_lookbacks(reading, rows);
     if (goes_on(reading, "Box<")) {
         struct found it = read_type(reading, rows);
         goes_on(reading, ">");
@@ -345,6 +446,8 @@ static struct found read_type(struct reading *reading, uint64_t *rows) {
         return read_fields(reading, false, ")", rows);
     if (goes_on(reading, "struct "))
         return read_struct(reading, rows);
+    if (goes_on(reading, "enum "))
+        return read_enum(reading, rows);
     fprintf(stderr, "not a type: %s\n", reading->text);
     exit(2);
 }
@@ -452,7 +555,7 @@ static void try_row(const char *type, uint32_t bounds, const uint8_t *store, siz
     else if (told == COLUMNAR_ACCEPTED)
         right &= index < rows && size > 0 && size <= capacity;
     else
-        right &= size == 0 && (told == COLUMNAR_NO_ROW ? index >= rows : told == COLUMNAR_NOT_TEXT);
+        right &= size == 0 && (told == COLUMNAR_NO_ROW ? index >= rows : told == COLUMNAR_NOT_TEXT || told == COLUMNAR_WRONG_LENGTH);
     for (uint64_t i = 0; i < 64; i++) {
         bool written = told == COLUMNAR_ACCEPTED && outs + i >= out && outs + i < out + size;
         bool last = told == COLUMNAR_ACCEPTED && outs + ROOM - 64 + i >= out && outs + ROOM - 64 + i < out + size;
@@ -488,7 +591,7 @@ static void try_store(const char *type, uint32_t bounds, const uint8_t *whole, s
 }
 
 static void try_text(const char *type, uint32_t bounds, uint8_t *texts, uint8_t *stores) {
-    static const char letters[] = "(),<> u8iBVSORTvecox12{}:;_";
+    static const char letters[] = "(),<> u8iBVSORTvecoxnm12{}:;_[]";
     uint8_t text[256];
     size_t length = strlen(type);
     memcpy(text, type, length);
@@ -509,7 +612,7 @@ static void try_text(const char *type, uint32_t bounds, uint8_t *texts, uint8_t 
     uint32_t answer = columnar_rows(placed(texts, text, length), length, bounds, placed(stores, text, 0), 0, &rows, &fault);
     /* (no bytes at all break rule 2, whatever the type) */
     bool right = answer == COLUMNAR_BROKEN    ? fault.rule == 2 && fault.slice == 0 && fault.mistake == 0
-                 : answer == COLUMNAR_NO_TYPE ? fault.place <= length && fault.mistake >= 1 && fault.mistake <= 5 && (fault.wanted != 0) == (fault.mistake == COLUMNAR_WANTED)
+                 : answer == COLUMNAR_NO_TYPE ? fault.place <= length && fault.mistake >= 1 && fault.mistake <= 7 && (fault.wanted != 0) == (fault.mistake == COLUMNAR_WANTED)
                                               : answer == COLUMNAR_NO_BOUNDS && bounds > 2 && fault.mistake == 0;
     if (!right || rows != 0)
         complain("a text", type, bounds, text, length, answer, &fault, rows);

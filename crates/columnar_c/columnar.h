@@ -34,10 +34,11 @@ enum {
     COLUMNAR_NO_BOUNDS = 4, /* `bounds` is none of the three numbers below */
     COLUMNAR_NO_ROW = 5,    /* the store has no row with this index */
     COLUMNAR_NOT_TEXT = 6,  /* a String of the row is not UTF-8 */
+    COLUMNAR_WRONG_LENGTH = 7, /* an array of the row has another length than its type */
     COLUMNAR_NO_ROOM = 8    /* the text is longer than the buffer */
 };
 
-/* How the ends of the lists of Vec<T> are stored. The ends of String and SmallVec<T> are always numbers. */
+/* How the ends of the lists of Vec<T> are stored. The ends of String, SmallVec<T> and [T; N] are always numbers. */
 enum {
     COLUMNAR_WORDS = 0,   /* as 64-bit numbers: the Rust crate columnar writes these */
     COLUMNAR_UNARIES = 1, /* in unary, as counted bits: this library writes these */
@@ -46,11 +47,14 @@ enum {
 
 /* The mistake in a text: fault.mistake. */
 enum {
-    COLUMNAR_NO_NAME = 1, /* there is no name of a type, or of a struct or a field, at the place */
+    COLUMNAR_NO_NAME = 1, /* there is no name at the place: of a type, a struct, an enum, a field or a variant */
     COLUMNAR_WANTED = 2,  /* the byte fault.wanted is expected at the place */
     COLUMNAR_LONGER = 3,  /* the type ends before the place, but the text does not */
-    COLUMNAR_WIDE = 4,    /* a tuple has more than ten fields, or a struct more than a hundred names */
-    COLUMNAR_DEEP = 5     /* more than 64 types are nested */
+    COLUMNAR_WIDE = 4,    /* a tuple or a variant has more than ten fields, a struct more than a hundred, or an enum more
+                             than 256 variants */
+    COLUMNAR_DEEP = 5,    /* more than 64 types are nested, of which an enum counts as four */
+    COLUMNAR_NO_NUMBER = 6, /* there is no number at the place, or it is too large */
+    COLUMNAR_TWICE = 7    /* the name at the place stands again among the later fields or variants */
 };
 
 /* What is wrong. A field that the result does not use is 0. */
@@ -78,8 +82,9 @@ uint32_t columnar_rows(const uint8_t *type, size_t type_length, uint32_t bounds,
  *
  * Returns COLUMNAR_ACCEPTED if and only if the text is written, to the first `written` bytes of `out`. With any other result `out`
  * stays: COLUMNAR_NO_ROOM if the text has more bytes than the buffer; COLUMNAR_NO_ROW if the store has at most `index` rows;
- * COLUMNAR_NOT_TEXT for a String in the row that is not UTF-8; the results above if there are no rows or no memory. Each call tests
- * the whole store: use columnar_tool to print all rows of a large one. */
+ * COLUMNAR_NOT_TEXT for a String in the row that is not UTF-8; COLUMNAR_WRONG_LENGTH for an array of another length than its type;
+ * the results above if there are no rows or no memory. Each call tests the whole store: use columnar_tool to print all rows of a large
+ * one. */
 uint32_t columnar_row_json(const uint8_t *type, size_t type_length, uint32_t bounds, const uint8_t *bytes, size_t length,
                            uint64_t index, uint8_t *out, size_t capacity, uint64_t *written, struct columnar_fault *fault);
 

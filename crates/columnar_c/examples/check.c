@@ -90,6 +90,9 @@ int main(int argc, char **argv) {
     case COLUMNAR_NO_ROW:
         printf("no such row\n");
         break;
+    case COLUMNAR_WRONG_LENGTH:
+        printf("an array has another length\n");
+        break;
     default:
         printf("a string has no text\n");
     }

@@ -66,7 +66,7 @@ def main(words):
     elif answer == 2:
         print(f"not a type: mistake {fault.mistake} at {fault.place}")
     else:
-        print({3: "no memory", 4: "no bounds", 5: "no such row", 6: "a string has no text"}[answer])
+        print({3: "no memory", 4: "no bounds", 5: "no such row", 6: "a string has no text", 7: "an array has another length"}[answer])
     return answer
 
 

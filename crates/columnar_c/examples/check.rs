@@ -116,6 +116,7 @@ fn main() -> ExitCode {
         3 => println!("no memory"),
         4 => println!("no bounds"),
         5 => println!("no such row"),
+        7 => println!("an array has another length"),
         _ => println!("a string has no text"),
     }
     ExitCode::from(answer as u8)

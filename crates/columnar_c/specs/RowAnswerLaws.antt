@@ -19,6 +19,7 @@ told_written bytes {s} i line old new written rule slice n t h = record {
   broken = λ e. absurd (omega (arith, e));
   no_row = λ e. absurd (omega (arith, e));
   not_text = λ e. absurd (omega (arith, e));
+  wrong_length = λ e. absurd (omega (arith, e));
   no_room = λ e. absurd (omega (arith, e));
 }
 
@@ -30,6 +31,7 @@ told_no_room bytes {s} i line old new written rule slice n t h = record {
   broken = λ e. absurd (omega (arith, e));
   no_row = λ e. absurd (omega (arith, e));
   not_text = λ e. absurd (omega (arith, e));
+  wrong_length = λ e. absurd (omega (arith, e));
   no_room = λ _. (line, (t, h));
 }
 

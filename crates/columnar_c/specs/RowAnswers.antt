@@ -10,7 +10,7 @@ use Rattle.columnar_json.specs.Pieces.{Spells}
 use Rattle.columnar_json.specs.Refusals.{IsRefusal}
 use Rattle.columnar_json.specs.Stored.{stored_rows}
 use Rattle.columnar_json.specs.declared.unwritten.Unwritten.{Unwritten}
-use Rattle.columnar_json.specs.declared.unwritten.Unwritten.TheVariants.{Memory, NoRow, NotText}
+use Rattle.columnar_json.specs.declared.unwritten.Unwritten.TheVariants.{Memory, NoRow, NotText, WrongLength}
 use Rattle.columnar_c.specs.Answers.{BreaksFirst, IsTypeOf}
 use Rattle.columnar_c.specs.declared.json.Untold.{Untold}
 use Rattle.columnar_c.specs.declared.json.Untold.TheVariants.{Broken, Row as RowUntold}
@@ -40,6 +40,7 @@ abbrev pub refusal_number : Unwritten → ℕ
 refusal_number Memory = 3
 refusal_number NoRow = 5
 refusal_number NotText = 6
+refusal_number WrongLength = 7
 
 -- The buffer begins with the text; after it, it is as before.
 pub record Holds (text old new : List ℕ) (written : ℕ) : Type 0 where
@@ -53,7 +54,8 @@ pub record LacksRoom (text old : List ℕ) (written : ℕ) : Type 0 where
   pub count : written ≡ length text
 
 -- The text names a type. What each answer says of row i of the bytes, as a column of it: 0 its text is written; 1 the bytes
--- break a rule; 5 there is no row i; 6 its first flaw is a text that is not UTF-8; 8 its text does not fit.
+-- break a rule; 5 there is no row i; 6 its first flaw is a text that is not UTF-8; 7 it is an array of a wrong
+-- length; 8 its text does not fit.
 pub record Told (bounds : ℕ) (text bytes : List ℕ) (i answer : ℕ) (old new : List ℕ) (written rule slice : ℕ) : Type 0 where
   pub schema : Schema
   pub named : IsTypeOf bounds text schema
@@ -61,4 +63,5 @@ pub record Told (bounds : ℕ) (text bytes : List ℕ) (i answer : ℕ) (old new
   pub broken : answer ≡ 1 → BreaksFirst (format_of schema) bytes rule slice
   pub no_row : answer ≡ 5 → HasNoText schema bytes i NoRow
   pub not_text : answer ≡ 6 → HasNoText schema bytes i NotText
+  pub wrong_length : answer ≡ 7 → HasNoText schema bytes i WrongLength
   pub no_room : answer ≡ 8 → (line : List ℕ) × (IsRowText schema bytes i line × LacksRoom line old written)

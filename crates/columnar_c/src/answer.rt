@@ -24,9 +24,9 @@ pub const NO_BOUNDS: u32 = 4;
 pub struct Fault {
     /// The number of the first broken rule, from 1 to 19.
     pub rule: u32,
-    /// What is wrong with the text: 1 no name of a type, or of a struct or a field, at the position, 2 another byte is
-    /// expected there, 3 the text continues after the type, 4 a tuple has more than ten fields, or a struct more than a
-    /// hundred names, 5 types are nested too deeply.
+    /// What is wrong with the text: 1 no name at the position, of a type, a struct, an enum, a field or a variant, 2
+    /// another byte is expected there, 3 the text continues after the type, 4 a tuple or a variant has more than ten
+    /// fields, a struct more than a hundred, or an enum more than 256 variants, 5 types are nested too deeply.
     pub mistake: u32,
     /// The slice that breaks the rule.
     pub slice: usize,
@@ -95,6 +95,8 @@ fn mistake_number(mistake: Mistake) -> u32 {
         Mistake::Longer => 3,
         Mistake::Wide => 4,
         Mistake::Deep => 5,
+        Mistake::Number => 6,
+        Mistake::Twice => 7,
     }
 }
 

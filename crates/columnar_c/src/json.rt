@@ -18,6 +18,8 @@ use std::alloc::Global;
 pub const NO_ROW: u32 = 5;
 /// A text in the row is not UTF-8.
 pub const NOT_TEXT: u32 = 6;
+/// An array in the row has another length than its type.
+pub const WRONG_LENGTH: u32 = 7;
 /// The text does not fit in the buffer.
 pub const NO_ROOM: u32 = 8;
 
@@ -69,6 +71,7 @@ fn unwritten_number(why: Unwritten) -> u32
         Unwritten::Memory => NO_MEMORY,
         Unwritten::NoRow => NO_ROW,
         Unwritten::NotText => NOT_TEXT,
+        Unwritten::WrongLength => WRONG_LENGTH,
     }
 }
 
@@ -76,7 +79,7 @@ fn unwritten_number(why: Unwritten) -> u32
 /// ends of the lists of `Vec<T>` are stored (`bounds_of_number`). The whole store is tested first.
 ///
 /// Returns ACCEPTED if the row is written. Otherwise `out` stays, and it returns NO_ROOM, with the length of the text
-/// in `written`; NO_ROW or NOT_TEXT; BROKEN, with the first broken rule and its slice; NO_TYPE, with the first
+/// in `written`; NO_ROW, NOT_TEXT or WRONG_LENGTH; BROKEN, with the first broken rule and its slice; NO_TYPE, with the first
 /// position of the text that cannot be parsed; NO_MEMORY if an allocation fails; or NO_BOUNDS. `written` is then 0.
 #[unsafe(no_mangle)]
 pub extern "C" fn columnar_row_json(
@@ -95,7 +98,7 @@ pub extern "C" fn columnar_row_json(
     ensures unbroken { (result ≡ 1) ⊎ (fault.new.rule ≡ 0) }
     ensures place { fault.new.place ≤ length text.now }
     ensures bounds { (result ≡ 4) ↔ (bounds_of bounds ≡ None) }
-    ensures answers { (result ≤ 6) ⊎ (result ≡ 8) }
+    ensures answers { result ≤ 8 }
 {
     *written = 0;
     *fault = no_fault();

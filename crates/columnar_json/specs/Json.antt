@@ -1,5 +1,5 @@
 -- The JSON text of a row, as the Rust crate `serde_json` writes a value of the type.
-use Rattle.std.specs.Prelude.{ℕ, Bool, true, false, List, [], ◌∷◌, ◌++◌, ◌/◌, ◌%◌, ◌==◌, map, slice_get, nat_lt, Option, Some, None, codes, decimal, if◌then◌else◌}
+use Rattle.std.specs.Prelude.{ℕ, Bool, true, false, List, [], ◌∷◌, ◌++◌, ◌/◌, ◌%◌, ◌==◌, length, map, slice_get, nat_lt, Option, Some, None, codes, decimal, if◌then◌else◌, zero, suc}
 use Rattle.std.specs.Float.{binary32, binary64}
 use Rattle.std.specs.Char.{digit_char, encode_utf8}
 use Rattle.std.specs.Fmt.{signed_decimal}
@@ -12,10 +12,10 @@ use Rattle.columnar_schema.specs.declared.schema.Brackets.{Brackets}
 use Rattle.columnar_schema.specs.declared.schema.Brackets.TheVariants.{Square, Curly, Bare}
 use Rattle.columnar_schema.specs.declared.schema.Leaf.{Leaf}
 use Rattle.columnar_schema.specs.declared.schema.Leaf.TheVariants.{F32, F64, Text}
-use Rattle.columnar_schema.specs.declared.schema.Schema.{Schema, Simple, Optional', Fallible', Lists', Solo', Tuple', Beside', Field'}
+use Rattle.columnar_schema.specs.declared.schema.Schema.{Schema, Simple, Optional', Fallible', Lists', Solo', Tuple', Beside', Field', Array', Repeated', Recalled', Sum', Named, Case'}
 use Rattle.columnar_json.specs.Pieces.{Piece, single, double, plain, float_at}
 use Rattle.columnar_json.specs.declared.unwritten.Unwritten.{Unwritten}
-use Rattle.columnar_json.specs.declared.unwritten.Unwritten.TheVariants.{NotText}
+use Rattle.columnar_json.specs.declared.unwritten.Unwritten.TheVariants.{NotText, WrongLength}
 
 -- row i, or a unit if there is none
 abbrev pub row_in : Option Row → Row
@@ -88,20 +88,39 @@ closing Bare = []
 abbrev pub with_name : List ℕ → List Piece → List Piece
 with_name name t = plain (quoted name) ++ between (codes ":") [] t
 
--- The text of a row of the type; of the fields of a tuple from the second on, without brackets. It says nothing of a row
--- with a flaw.
+-- a row that may be absent, by the text of one that is not
+abbrev pub option_json : (Row → List Piece) → Row → List Piece
+option_json f (some r) = f r
+option_json f _ = plain (codes "null")
+
+-- a value or an error, by the texts of both
+abbrev pub result_json : (Row → List Piece) → (Row → List Piece) → Row → List Piece
+result_json f g (ok r) = between (codes "{\"Ok\":") (codes "}") (f r)
+result_json f g (err r) = between (codes "{\"Err\":") (codes "}") (g r)
+result_json f g _ = []
+
+-- The text of a row of the type; of the fields of a tuple from the second on, without brackets; or, if a number is given, of
+-- a value of the variant with this number among the variants of an enum. It says nothing of a row with a flaw.
+abbrev pub json_as : Option ℕ → Schema → Row → List Piece
+json_as v (Simple l) r = leaf_json l r
+json_as v (Optional' p t) r = option_json (json_as None t) r
+json_as v (Fallible' p t q u) r = result_json (json_as None t) (json_as None u) r
+json_as v (Lists' b p t) r = bracketed (commas (map (json_as None t) (items_of r)))
+json_as v (Solo' k p t) r = between (opening k) (closing k) (json_as None t (only_of r))
+json_as v (Tuple' k p a q u) r = between (opening k) (closing k) (json_as None a (first_of r) ++ (plain (codes ",") ++ json_as None u (second_of r)))
+json_as None (Beside' p a q u) r = json_as None a (first_of r) ++ (plain (codes ",") ++ json_as None u (second_of r))
+json_as (Some zero) (Beside' p a q u) r = json_as None a r
+json_as (Some (suc v)) (Beside' p a q u) r = json_as (Some v) u r
+json_as v (Field' n p t) r = with_name n.items (json_as None t r)
+json_as v (Array' n p t) r = bracketed (commas (map (json_as None t) (items_of r)))
+json_as v (Repeated' p t) r = json_as None t r
+json_as v (Recalled' p t) r = json_as None t r
+json_as v (Sum' p t) r = json_as (Some (number_of (first_of r))) t (second_of r)
+json_as v (Named n) r = plain (quoted n.items)
+json_as v (Case' n k p t) r = between (codes "{") (codes "}") (with_name n.items (between (opening k) (closing k) (json_as None t r)))
+
 abbrev pub json_of : Schema → Row → List Piece
-json_of (Simple l) r = leaf_json l r
-json_of (Optional' p t) (some r) = json_of t r
-json_of (Optional' p t) _ = plain (codes "null")
-json_of (Fallible' p t q u) (ok r) = between (codes "{\"Ok\":") (codes "}") (json_of t r)
-json_of (Fallible' p t q u) (err r) = between (codes "{\"Err\":") (codes "}") (json_of u r)
-json_of (Fallible' p t q u) _ = []
-json_of (Lists' b p t) r = bracketed (commas (map (json_of t) (items_of r)))
-json_of (Solo' k p t) r = between (opening k) (closing k) (json_of t (only_of r))
-json_of (Tuple' k p a q u) r = between (opening k) (closing k) (json_of a (first_of r) ++ (plain (codes ",") ++ json_of u (second_of r)))
-json_of (Beside' p a q u) r = json_of a (first_of r) ++ (plain (codes ",") ++ json_of u (second_of r))
-json_of (Field' n p t) r = with_name n.items (json_of t r)
+json_of s r = json_as None s r
 
 -- a text that is not UTF-8
 abbrev pub text_flaws : List ℕ → List Unwritten
@@ -111,19 +130,40 @@ abbrev pub leaf_flaws : Leaf → Row → List Unwritten
 leaf_flaws (Text b) r = text_flaws (text_bytes r)
 leaf_flaws _ r = []
 
--- what of a row has no text, in the order of the row
+-- a list of another length than n
+abbrev pub length_flaws : ℕ → List Row → List Unwritten
+length_flaws n rs = if length rs == n then [] else (WrongLength ∷ [])
+
+abbrev pub option_flaws : (Row → List Unwritten) → Row → List Unwritten
+option_flaws f (some r) = f r
+option_flaws f _ = []
+
+abbrev pub result_flaws : (Row → List Unwritten) → (Row → List Unwritten) → Row → List Unwritten
+result_flaws f g (ok r) = f r
+result_flaws f g (err r) = g r
+result_flaws f g _ = []
+
+-- what of a row has no text, in the order of the row, as `json_as` does; of an array first its length
+abbrev pub flaws_as : Option ℕ → Schema → Row → List Unwritten
+flaws_as v (Simple l) r = leaf_flaws l r
+flaws_as v (Optional' p t) r = option_flaws (flaws_as None t) r
+flaws_as v (Fallible' p t q u) r = result_flaws (flaws_as None t) (flaws_as None u) r
+flaws_as v (Lists' b p t) r = flat_map (flaws_as None t) (items_of r)
+flaws_as v (Solo' k p t) r = flaws_as None t (only_of r)
+flaws_as v (Tuple' k p a q u) r = flaws_as None a (first_of r) ++ flaws_as None u (second_of r)
+flaws_as None (Beside' p a q u) r = flaws_as None a (first_of r) ++ flaws_as None u (second_of r)
+flaws_as (Some zero) (Beside' p a q u) r = flaws_as None a r
+flaws_as (Some (suc v)) (Beside' p a q u) r = flaws_as (Some v) u r
+flaws_as v (Field' n p t) r = flaws_as None t r
+flaws_as v (Array' n p t) r = length_flaws n (items_of r) ++ flat_map (flaws_as None t) (items_of r)
+flaws_as v (Repeated' p t) r = flaws_as None t r
+flaws_as v (Recalled' p t) r = flaws_as None t r
+flaws_as v (Sum' p t) r = flaws_as (Some (number_of (first_of r))) t (second_of r)
+flaws_as v (Named n) r = []
+flaws_as v (Case' n k p t) r = flaws_as None t r
+
 abbrev pub flaws_of : Schema → Row → List Unwritten
-flaws_of (Simple l) r = leaf_flaws l r
-flaws_of (Optional' p t) (some r) = flaws_of t r
-flaws_of (Optional' p t) _ = []
-flaws_of (Fallible' p t q u) (ok r) = flaws_of t r
-flaws_of (Fallible' p t q u) (err r) = flaws_of u r
-flaws_of (Fallible' p t q u) _ = []
-flaws_of (Lists' b p t) r = flat_map (flaws_of t) (items_of r)
-flaws_of (Solo' k p t) r = flaws_of t (only_of r)
-flaws_of (Tuple' k p a q u) r = flaws_of a (first_of r) ++ flaws_of u (second_of r)
-flaws_of (Beside' p a q u) r = flaws_of a (first_of r) ++ flaws_of u (second_of r)
-flaws_of (Field' n p t) r = flaws_of t r
+flaws_of s r = flaws_as None s r
 
 abbrev pub first_flaw : List Unwritten → Option Unwritten
 first_flaw [] = None

@@ -5,7 +5,11 @@ pub mod WrittenLaws
 pub mod TextLaws
 pub mod Stored
 pub mod PartLaws
+pub mod ArrayRowLaws
+pub mod RepeatRowLaws
+pub mod LookbackRowLaws
 pub mod ItemLaws
 pub mod RealLaws
 pub mod RowTextLaws
+pub mod CaseTextLaws
 pub mod Refusals

@@ -7,7 +7,7 @@ use Rattle.columnar_json.specs.Json.{first_flaw, flaws_of, row_at}
 use Rattle.columnar_json.specs.Stored.{stored_rows}
 use Rattle.columnar_json.specs.declared.rows.Rows.{Rows}
 use Rattle.columnar_json.specs.declared.unwritten.Unwritten.{Unwritten}
-use Rattle.columnar_json.specs.declared.unwritten.Unwritten.TheVariants.{Memory, NoRow, NotText}
+use Rattle.columnar_json.specs.declared.unwritten.Unwritten.TheVariants.{Memory, NoRow, NotText, WrongLength}
 
 -- the rows of an accepted store
 abbrev pub all_rows : Rows → List Row
@@ -18,3 +18,4 @@ abbrev pub IsRefusal : Schema → List Row → ℕ → Unwritten → Type 0
 IsRefusal s rs i Memory = Unit {0}
 IsRefusal s rs i NoRow = length rs ≤ i
 IsRefusal s rs i NotText = first_flaw (flaws_of s (row_at rs i)) ≡ Some NotText
+IsRefusal s rs i WrongLength = first_flaw (flaws_of s (row_at rs i)) ≡ Some WrongLength

@@ -3,7 +3,7 @@ use Rattle.std.specs.Prelude.{ℕ, Bool, true, false, List, [], map, take, drop,
 use Rattle.std.specs.List.{flat_map}
 use Rattle.columnar_base.specs.Row.{Row}
 use Rattle.columnar_schema.specs.declared.schema.Schema.{Schema}
-use Rattle.columnar_schema.specs.Formats.{format_of}
+use Rattle.columnar_schema.specs.Formats.{bank_of, format_of}
 use Rattle.columnar_json.specs.Json.{commas, flaws_of, json_of, row_at}
 use Rattle.columnar_json.specs.Pieces.{Piece}
 use Rattle.columnar_json.specs.declared.unwritten.Unwritten.{Unwritten}
@@ -13,6 +13,10 @@ stored_rows s ss o = (format_of s).rows ((format_of s).build (drop o ss))
 
 abbrev pub stored_row : Schema → List (List ℕ) → ℕ → ℕ → Row
 stored_row s ss o i = row_at (stored_rows s ss o) i
+
+-- the values of variant v among the variants of an enum
+abbrev pub stored_values : Schema → List (List ℕ) → ℕ → ℕ → List Row
+stored_values s ss o v = (bank_of s).table ((bank_of s).sides.build (drop o ss)) v
 
 -- the texts and the flaws of n rows from row l on
 abbrev pub items_json : Schema → List Row → ℕ → ℕ → List Piece

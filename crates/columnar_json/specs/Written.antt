@@ -3,7 +3,7 @@ use Rattle.std.specs.Prelude.{ℕ, List, [], ◌++◌, ◌≡◌, Some, Result, 
 use Rattle.columnar_json.specs.Json.{first_flaw}
 use Rattle.columnar_json.specs.Pieces.{Appended, Piece}
 use Rattle.columnar_json.specs.declared.unwritten.Unwritten.{Unwritten}
-use Rattle.columnar_json.specs.declared.unwritten.Unwritten.TheVariants.{Memory, NoRow, NotText}
+use Rattle.columnar_json.specs.declared.unwritten.Unwritten.TheVariants.{Memory, NoRow, NotText, WrongLength}
 
 -- the new text begins with the old one
 pub record Begins (old new : List ℕ) : Type 0 where
@@ -15,6 +15,7 @@ abbrev pub IsFirstFlaw : List Unwritten → Unwritten → Type 0
 IsFirstFlaw flaws Memory = Unit {0}
 IsFirstFlaw flaws NoRow = ⊥
 IsFirstFlaw flaws NotText = first_flaw flaws ≡ Some NotText
+IsFirstFlaw flaws WrongLength = first_flaw flaws ≡ Some WrongLength
 
 -- The text was appended, and has no flaw; or a part of a text, up to a flaw or to an allocation that failed.
 abbrev pub Wrote : List ℕ → List ℕ → List ℕ → List Unwritten → Result (Unit {0}) Unwritten → Type 0

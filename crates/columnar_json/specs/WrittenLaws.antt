@@ -6,7 +6,7 @@ use Rattle.columnar_json.specs.Json.{between, first_flaw}
 use Rattle.columnar_json.specs.Pieces.{Appended, Piece, Spells, bytes, double, joined, plain, single}
 use Rattle.columnar_json.specs.Written.{Begins, IsFirstFlaw, Wrote, WroteRow}
 use Rattle.columnar_json.specs.declared.unwritten.Unwritten.{Unwritten}
-use Rattle.columnar_json.specs.declared.unwritten.Unwritten.TheVariants.{Memory, NoRow, NotText}
+use Rattle.columnar_json.specs.declared.unwritten.Unwritten.TheVariants.{Memory, NoRow, NotText, WrongLength}
 
 first_more : (fs gs : List Unwritten) (e : Unwritten) → first_flaw fs ≡ Some e → first_flaw (fs ++ gs) ≡ Some e
 first_more [] gs e h = cc
@@ -16,6 +16,7 @@ pub flaw_more : (fs gs : List Unwritten) (e : Unwritten) → IsFirstFlaw fs e �
 flaw_more fs gs Memory h = tt
 flaw_more fs gs NoRow h = h
 flaw_more fs gs NotText h = first_more fs gs NotText h
+flaw_more fs gs WrongLength h = first_more fs gs WrongLength h
 
 -- the first of two texts was appended
 pub goes_on : (old mid new a b : List ℕ) (fs gs : List Unwritten) (r : Result (Unit {0}) Unwritten) → Wrote old mid a fs (Ok tt) → Wrote mid new b gs r → Wrote old new (a ++ b) (fs ++ gs) r
@@ -88,6 +89,7 @@ flawless : (flaws : List Unwritten) (e : Unwritten) → IsFirstFlaw [] e → IsF
 flawless flaws Memory h = tt
 flawless flaws NoRow h = h
 flawless flaws NotText h = absurd (cc (h))
+flawless flaws WrongLength h = absurd (cc (h))
 
 pub row_passed : (old new : List ℕ) (ps : List Piece) (flaws : List Unwritten) (e : Unwritten) (r : Result (Unit {0}) Unwritten) → IsErrAnd r (λ y. y ≡ e) → WroteRow old new ps flaws (Err e) → WroteRow old new ps flaws r
 row_passed old new ps flaws e r h w = rw (passed_on r h) w

@@ -34,7 +34,7 @@ pub(crate) type Multiples<'a> = Strides<View<'a, u64>, View<'a, u64>>;
 pub(crate) type Runs<'a> = Unaries<View<'a, u64>, View<'a, u64>, View<'a, u64>>;
 
 // Returns row `index` of accepted slices.
-fn row_in<'a, V: FromBytes<'a> + Index + Copy>(
+pub(crate) fn row_in<'a, V: FromBytes<'a> + Index + Copy>(
     store: &DecodedStore<'a>,
     offset: usize,
     index: usize,

@@ -1,18 +1,20 @@
 //! Rows as JSON texts, read from a store in place.
-ghost use Rattle.std.specs.Prelude.{◌≡◌, ◌∷◌, [], ◌+◌, ◌-◌, ◌<◌, ◌≤◌, ◌^◌, ◌++◌, length, drop, slice_get, Some, IsTrue, codes};
+ghost use Rattle.std.specs.Prelude.{◌≡◌, ◌∷◌, [], ◌+◌, ◌-◌, ◌<◌, ◌≤◌, ◌^◌, ◌++◌, length, drop, take, slice_get, Some, IsTrue, codes};
+ghost use Rattle.columnar_base.specs.Elements.{bytes_format};
 ghost use Rattle.columnar_base.specs.Format.{Fits, representable};
 ghost use Rattle.columnar_base.specs.Row.{number, truth};
 ghost use Rattle.columnar_core.specs.Bounds.{numbers};
 ghost use Rattle.columnar_core.specs.Store.{slices_in};
 ghost use Rattle.columnar_sums.specs.Counting.{ones};
+ghost use Rattle.columnar_sums.specs.Discriminants.{discriminant_format, times, variants_of};
 ghost use Rattle.columnar_sums.specs.RankColumns.{ranks_bits, ranks_format};
-ghost use Rattle.columnar_schema.specs.Formats.{bounds_format, format_of};
-ghost use Rattle.columnar_json.specs.Json.{between, closing, flaws_of, json_of, opening};
-ghost use Rattle.columnar_json.specs.Stored.{comma, items_flaws, items_json, stored_row, stored_rows};
+ghost use Rattle.columnar_schema.specs.Formats.{bank_of, bounds_format, format_of};
+ghost use Rattle.columnar_json.specs.Json.{between, closing, flaws_as, flaws_of, json_as, json_of, opening, row_at, with_name};
+ghost use Rattle.columnar_json.specs.Stored.{comma, items_flaws, items_json, stored_row, stored_rows, stored_values};
 ghost use Rattle.columnar_json.specs.Pieces.{plain};
 ghost use Rattle.columnar_json.specs.Written.{WroteRow};
 
-use crate::leaf::{Multiples, Runs, write_leaf};
+use crate::leaf::{Multiples, Runs, row_in, write_leaf};
 use crate::text::{push_bytes, push_quoted};
 use crate::unwritten::Unwritten;
 use columnar_core::bytes::FromBytes;
@@ -24,6 +26,7 @@ use columnar_lists::parts::range_of;
 use columnar_schema::bounds::bounds_slices;
 use columnar_schema::judge::slice_count_of;
 use columnar_schema::schema::{Bounds, Brackets, Schema};
+use columnar_sums::discriminant::Discriminant;
 use columnar_sums::rank_select::RankSelect;
 
 // Returns whether bit `index` is set, and the number of set bits before it.
@@ -38,6 +41,15 @@ fn bit_at(store: &DecodedStore<'_>, offset: usize, index: usize) -> (bool, usize
         store, &mut at,
     );
     (bits.get(index), bits.rank_in_turn(index))
+}
+
+// Returns row `index` of bytes, a distance.
+fn distance_at(store: &DecodedStore<'_>, offset: usize, index: usize) -> usize
+    requires fits { Fits bytes_format offset (slices_in store.now) }
+    requires in_range { index < length (bytes_format.rows (bytes_format.build (drop offset (slices_in store.now)))) }
+    ensures { slice_get (bytes_format.rows (bytes_format.build (drop offset (slices_in store.now)))) index ≡ Some (number result) }
+{
+    row_in::<View<'_, u8>>(store, offset, index) as usize
 }
 
 // Returns where list `index` begins, and where it ends.
@@ -166,6 +178,77 @@ fn write_items(
     Ok(())
 }
 
+// Returns the variant of row `index`, and the number of earlier rows that have it.
+fn variant_at(store: &DecodedStore<'_>, offset: usize, index: usize) -> (usize, usize)
+    requires fits { Fits discriminant_format offset (slices_in store.now) }
+    requires in_range { index < length (discriminant_format.rows (discriminant_format.build (drop offset (slices_in store.now)))) }
+    ensures variant { slice_get (variants_of (discriminant_format.build (drop offset (slices_in store.now)))) index ≡ Some result.0 }
+    ensures earlier { result.1 ≡ times result.0 (take index (variants_of (discriminant_format.build (drop offset (slices_in store.now))))) }
+{
+    let mut at = offset;
+    let forms = Discriminant::<&[u8], View<'_, u64>>::from_store(store, &mut at);
+    let (variant, earlier) = forms.get(index);
+    (variant as usize, earlier as usize)
+}
+
+// Appends the JSON text of value `index` of a variant.
+#[cycle(rows)]
+fn write_case(
+    cases: &Schema,
+    store: &DecodedStore<'_>,
+    offset: usize,
+    variant: usize,
+    index: usize,
+    out: &mut Vec<u8>,
+) -> Result<(), Unwritten>
+    requires counted { (format_of cases.now).count ≤ 2 ^ 60 }
+    requires fits { Fits (format_of cases.now) offset (slices_in store.now) }
+    requires known { variant < (bank_of cases.now).size }
+    requires in_range { index < length (stored_values cases.now (slices_in store.now) offset variant) }
+    ensures { WroteRow out.old.items out.new.items (json_as (Some variant) cases.now (row_at (stored_values cases.now (slices_in store.now) offset variant) index)) (flaws_as (Some variant) cases.now (row_at (stored_values cases.now (slices_in store.now) offset variant) index)) result }
+{
+    match cases {
+        Schema::Beside(case, later) => {
+            if variant == 0 {
+                write_row(case, store, offset, index, out)
+            } else {
+                let after = offset + slice_count_of(case);
+                write_case(later, store, after, variant - 1, index, out)
+            }
+        }
+        _ => write_row(cases, store, offset, index, out),
+    }
+}
+
+// Appends the name of a variant, and the JSON text of its value between brackets.
+#[cycle(rows)]
+fn write_value(
+    name: &[u8],
+    brackets: Brackets,
+    part: &Schema,
+    store: &DecodedStore<'_>,
+    offset: usize,
+    index: usize,
+    out: &mut Vec<u8>,
+) -> Result<(), Unwritten>
+    requires counted { (format_of part.now).count ≤ 2 ^ 60 }
+    requires fits { Fits (format_of part.now) offset (slices_in store.now) }
+    requires in_range { index < length (stored_rows part.now (slices_in store.now) offset) }
+    ensures { WroteRow out.old.items out.new.items (with_name name.now (between (opening brackets) (closing brackets) (json_of part.now (stored_row part.now (slices_in store.now) offset index)))) (flaws_of part.now (stored_row part.now (slices_in store.now) offset index)) result }
+{
+    push_quoted(out, name)?;
+    push_bytes(out, b":")?;
+    write_between(
+        part,
+        store,
+        offset,
+        index,
+        before_fields(brackets),
+        after_fields(brackets),
+        out,
+    )
+}
+
 /// Appends the JSON text of row `index` of a store. The row is read in place.
 ///
 /// # Requires
@@ -237,6 +320,43 @@ pub fn write_row(
         Schema::Field(name, part) => {
             push_quoted(out, name.as_slice())?;
             write_between(part, store, offset, index, b":", b"", out)
+        }
+        Schema::Array(wanted, values) => {
+            let (lower, upper) = range_at(Bounds::Words, store, offset, index);
+            if upper - lower != *wanted {
+                return Err(Unwritten::WrongLength);
+            }
+            push_bytes(out, b"[")?;
+            write_items(values, store, offset + 1, lower, upper, out)?;
+            push_bytes(out, b"]")
+        }
+        Schema::Repeated(values) => {
+            let (is_value, before) = bit_at(store, offset, index);
+            if is_value {
+                write_row(values, store, offset + 3, before, out)
+            } else {
+                write_row(values, store, offset + 3, before - 1, out)
+            }
+        }
+        Schema::Recalled(values) => {
+            let (is_new, before) = bit_at(store, offset, index);
+            if is_new {
+                write_row(values, store, offset + 3, before, out)
+            } else {
+                let after = offset + 3 + slice_count_of(values);
+                let back = distance_at(store, after, index - before);
+                write_row(values, store, offset + 3, before - 1 - back, out)
+            }
+        }
+        Schema::Sum(cases) => {
+            let (variant, at) = variant_at(store, offset + slice_count_of(cases), index);
+            write_case(cases, store, offset, variant, at, out)
+        }
+        Schema::Named(name) => push_quoted(out, name.as_slice()),
+        Schema::Case(name, brackets, part) => {
+            push_bytes(out, b"{")?;
+            write_value(name.as_slice(), *brackets, part, store, offset, index, out)?;
+            push_bytes(out, b"}")
         }
     }
 }

@@ -61,7 +61,8 @@ impl<'a> Rows<'a> {
     /// number that reads as the same float, any other float `null`. Allocates only in `out`.
     ///
     /// # Errors
-    /// `NoRow` if and only if there is no such row. `NotText` if a text of the row is not UTF-8. `Memory`. `out` stays.
+    /// `NoRow` if and only if there is no such row. `NotText` if a text of the row is not UTF-8. `WrongLength`
+    /// if an array of the row has another length than its type. `Memory`. `out` stays.
     pub fn write_row(&self, index: usize, out: &mut Vec<u8>) -> Result<(), Unwritten>
         ensures exact { OnOk result (Appended out.old.items out.new.items (json_of self.now.schema.now (row_at (all_rows self.now) index))) }
         ensures flawless { OnOk result (flaws_of self.now.schema.now (row_at (all_rows self.now) index) ≡ []) }

@@ -13,4 +13,7 @@ pub enum Unwritten {
     /// A text in the row is not UTF-8.
     #[error("a text is not UTF-8")]
     NotText,
+    /// An array in the row has another length than its type.
+    #[error("an array has another length than its type")]
+    WrongLength,
 }

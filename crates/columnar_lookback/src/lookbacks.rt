@@ -11,7 +11,7 @@ ghost use Rattle.columnar_lookback.specs.Recall.{latest, recall};
 ghost use Rattle.columnar_lookback.specs.Lookbacks.{lookbacks_code, lookbacks_format, nearest, IsPlain};
 ghost use Rattle.columnar_lookback.specs.LookbackLaws.{elements_plain};
 
-mod bytes;
+pub mod bytes;
 mod grow;
 
 use crate::same::SameAs;

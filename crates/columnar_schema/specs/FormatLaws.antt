@@ -23,11 +23,14 @@ use Rattle.columnar_sums.specs.RankLaws.{ranks_storable}
 use Rattle.columnar_sums.specs.ResultLaws.{results_storable}
 use Rattle.columnar_sums.specs.UnaryLaws.{unary_storable}
 use Rattle.columnar_lists.specs.ListLaws.{lists_storable}
+use Rattle.columnar_lookback.specs.LookbackLaws.{lookbacks_storable}
+use Rattle.columnar_lookback.specs.RepeatLaws.{repeats_storable}
 use Rattle.columnar_schema.specs.declared.schema.Bounds.{Bounds}
 use Rattle.columnar_schema.specs.declared.schema.Bounds.TheVariants.{Words, Strides, Unaries}
 use Rattle.columnar_schema.specs.declared.schema.Leaf.{Leaf}
 use Rattle.columnar_schema.specs.declared.schema.Leaf.TheVariants.{U8, U16, U32, U64, U128, Usize, I8, I16, I32, I64, I128, Isize, F32, F64, Bool, Char, Unit, Duration, Text}
-use Rattle.columnar_schema.specs.declared.schema.Schema.{Schema, Simple, Optional', Fallible', Lists', Solo', Tuple', Beside', Field'}
+use Rattle.columnar_schema.specs.declared.schema.Schema.{Schema, Simple, Optional', Fallible', Lists', Solo', Tuple', Beside', Field', Array', Repeated', Recalled', Sum', Named, Case'}
+use Rattle.columnar_schema.specs.BankLaws.{sum_storable}
 use Rattle.columnar_schema.specs.Formats.{bounds_format, larges_format, leaf_format, columns_of, format_of}
 
 pub bounds_storable : (b : Bounds) → IsStorable (bounds_format b)
@@ -65,3 +68,9 @@ storable_of (Solo' k p t) = solo_storable (format_of t) (storable_of t)
 storable_of (Tuple' k p a q r) = two_storable (tuple_two (format_of a) (columns_of r).head (columns_of r).others) (omega arith) (storable_of a) (storable_of r)
 storable_of (Beside' p a q r) = two_storable (sides_two (format_of a) (columns_of r).head (columns_of r).others) (omega arith) (storable_of a) (storable_of r)
 storable_of (Field' n p t) = storable_of t
+storable_of (Array' n p t) = lists_storable words_format (format_of t) (elements_storable 8 8 word_row_of) (storable_of t)
+storable_of (Repeated' p t) = repeats_storable (format_of t) (storable_of t)
+storable_of (Recalled' p t) = lookbacks_storable (format_of t) bytes_format (storable_of t) (elements_storable 1 1 (unsigned_row_of w8))
+storable_of (Sum' p t) = sum_storable t (storable_of t)
+storable_of (Named n) = units_storable
+storable_of (Case' n k p t) = storable_of t

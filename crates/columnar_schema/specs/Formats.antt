@@ -19,11 +19,15 @@ use Rattle.columnar_sums.specs.Options.{options_format}
 use Rattle.columnar_sums.specs.Results.{results_format}
 use Rattle.columnar_sums.specs.UnaryColumns.{unaries_format}
 use Rattle.columnar_lists.specs.Lists.{lists_format}
+use Rattle.columnar_lookback.specs.Lookbacks.{lookbacks_format}
+use Rattle.columnar_lookback.specs.Repeats.{repeats_format}
 use Rattle.columnar_schema.specs.declared.schema.Bounds.{Bounds}
 use Rattle.columnar_schema.specs.declared.schema.Bounds.TheVariants.{Words, Strides, Unaries}
 use Rattle.columnar_schema.specs.declared.schema.Leaf.{Leaf}
 use Rattle.columnar_schema.specs.declared.schema.Leaf.TheVariants.{U8, U16, U32, U64, U128, Usize, I8, I16, I32, I64, I128, Isize, F32, F64, Bool, Char, Unit, Duration, Text}
-use Rattle.columnar_schema.specs.declared.schema.Schema.{Schema, Simple, Optional', Fallible', Lists', Solo', Tuple', Beside', Field'}
+use Rattle.columnar_schema.specs.declared.schema.Schema.{Schema, Simple, Optional', Fallible', Lists', Solo', Tuple', Beside', Field', Array', Repeated', Recalled', Sum', Named, Case'}
+use Rattle.columnar_variants.specs.Variants.{Bank, variants_format}
+use Rattle.columnar_schema.specs.Banks.{bank}
 
 abbrev pub bounds_format : Bounds → Format
 bounds_format Words = words_format
@@ -76,6 +80,16 @@ columns_of (Solo' k p t) = alone (solo_format (beside (columns_of t)))
 columns_of (Tuple' k p a q r) = alone (tuple_format (beside (columns_of a)) (columns_of r).head (columns_of r).others)
 columns_of (Beside' p a q r) = record { head = beside (columns_of a); others = (columns_of r).head ∷ (columns_of r).others }
 columns_of (Field' n p t) = alone (beside (columns_of t))
+columns_of (Array' n p t) = alone (lists_format words_format (beside (columns_of t)))
+columns_of (Repeated' p t) = alone (repeats_format (beside (columns_of t)))
+columns_of (Recalled' p t) = alone (lookbacks_format (beside (columns_of t)) bytes_format)
+columns_of (Sum' p t) = alone (variants_format (bank (columns_of t).head (columns_of t).others))
+columns_of (Named n) = alone units_format
+columns_of (Case' n k p t) = alone (beside (columns_of t))
 
 abbrev pub format_of : Schema → Format
 format_of s = beside (columns_of s)
+
+-- the columns of the variants of an enum
+abbrev pub bank_of : Schema → Bank
+bank_of s = bank (columns_of s).head (columns_of s).others

@@ -1,10 +1,14 @@
+pub mod Banks
 pub mod Formats
+pub mod BankLaws
 pub mod CountLaws
 pub mod TypeLaws
 pub mod JudgeLaws
 pub mod FormatLaws
 pub mod TurnLaws
 pub mod WholeLaws
+pub mod Distinct
+pub mod DistinctLaws
 pub mod Names
 pub mod Gathered
 pub mod Reading
@@ -12,3 +16,7 @@ pub mod NameLaws
 pub mod ReadingLaws
 pub mod ParsingLaws
 pub mod SliceLaws
+pub mod ArrayLaws
+pub mod RepeatedLaws
+pub mod RecalledLaws
+pub mod CaseNameLaws

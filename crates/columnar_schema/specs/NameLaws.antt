@@ -10,11 +10,12 @@ use Rattle.columnar_schema.specs.declared.schema.Bounds.{Bounds}
 use Rattle.columnar_schema.specs.declared.schema.Bounds.TheVariants.{Words}
 use Rattle.columnar_schema.specs.declared.schema.Leaf.{Leaf}
 use Rattle.columnar_schema.specs.declared.schema.Leaf.TheVariants.{Text, Unit}
-use Rattle.columnar_schema.specs.declared.schema.Schema.{Schema, Simple, Optional', Fallible', Lists', Solo', Tuple', Beside', Field'}
+use Rattle.columnar_schema.specs.declared.schema.Schema.{Schema, Simple, Optional', Fallible', Lists', Solo', Tuple', Beside', Field', Repeated'}
 use Rattle.columnar_schema.specs.declared.schema.Brackets.{Brackets}
 use Rattle.columnar_schema.specs.declared.schema.Brackets.TheVariants.{Square, Curly, Bare}
+use Rattle.columnar_schema.specs.Distinct.{AreApart}
 use Rattle.columnar_schema.specs.Gathered.{IsGathered, is_beside, of_one, of_several}
-use Rattle.columnar_schema.specs.Names.{Names, Part, GoesOn, Reads, a_type, other_types, struct_body, a_field, all_fields, is_name, is_word_byte, last_comma, starts_name, structure, nothing, wrapped, placed, single, several, labelled, last_field, more_fields, leaf, last, boxed, optional, listed, numbered, fallible, solo, tuple, more, inside, is_blank, leaf_name, unspaced, with_comma}
+use Rattle.columnar_schema.specs.Names.{Names, Part, GoesOn, Reads, a_type, other_types, struct_body, a_field, all_fields, is_name, is_word_byte, last_comma, starts_name, structure, nothing, wrapped, placed, single, several, labelled, last_field, more_fields, leaf, last, boxed, optional, listed, numbered, fallible, solo, tuple, more, array, repeated, recalled, inside, is_blank, leaf_name, unspaced, with_comma, sum}
 
 -- a blank is skipped
 pub blank_passed : (text : List ℕ) (i b d : ℕ) → i < length text → b ≡ get_or text i d → is_blank b ≡ true → unspaced (drop i text) ≡ unspaced (drop (i + 1) text)
@@ -58,7 +59,7 @@ unit_goes_on lists text at n e h = record {
 }
 
 -- two texts, the byte between them, and the text after them
-two_stand : (t u : List ℕ) (x : ℕ) (rest a b c d : List ℕ) → a ≡ t ++ b → b ≡ x ∷ c → c ≡ u ++ d → a ≡ (t ++ (x ∷ u)) ++ d
+pub two_stand : (t u : List ℕ) (x : ℕ) (rest a b c d : List ℕ) → a ≡ t ++ b → b ≡ x ∷ c → c ≡ u ++ d → a ≡ (t ++ (x ∷ u)) ++ d
 two_stand t u x rest a b c d e f g = rw (e, f, g) (sym (append_assoc t (x ∷ u) d))
 
 -- the last field of a tuple
@@ -150,6 +151,9 @@ tuple_named a b c d e f lists t u n m = rw (e, f) (tuple n m)
 pub beside_named : (a b c d : Schema) {p q : _} → b ≡ a → d ≡ c → (lists : Bounds) (t u : List ℕ) → Names lists a_type t a → Names lists other_types u c → Names lists other_types (with_comma t u) (Beside' p b q d)
 beside_named a b c d e f lists t u n m = rw (e, f) (more n m)
 
+pub repeated_named : (lists : Bounds) (a b : Schema) {p : _} → b ≡ a → (t : List ℕ) → Names lists a_type t a → Names lists a_type (inside (codes "Repeats") t) (Repeated' p b)
+repeated_named lists a b e t n = rw e (repeated n)
+
 pub boxed_named : (lists : Bounds) (a : Schema) (t : List ℕ) → Names lists a_type t a → Names lists a_type (inside (codes "Box") t) a
 boxed_named lists a t n = boxed n
 
@@ -203,16 +207,16 @@ last_field_reads lists text at s n r = record {
   within = r.within;
 }
 
-pub more_fields_read : (lists : Bounds) (text : List ℕ) (at n m k : ℕ) (a b s : Schema) → Reads lists a_field text at a n → unspaced (drop n text) ≡ 44 ∷ unspaced (drop m text) → Reads lists all_fields text m b k → ((l : Bounds) (t u : List ℕ) → Names l a_field t a → Names l all_fields u b → Names l all_fields (with_comma t u) s) → Reads lists all_fields text at s k
-more_fields_read lists text at n m k a b s p e q f = record {
+pub more_fields_read : (lists : Bounds) (text : List ℕ) (at n m k : ℕ) (a b s : Schema) → Reads lists a_field text at a n → unspaced (drop n text) ≡ 44 ∷ unspaced (drop m text) → Reads lists all_fields text m b k → AreApart a b → ((l : Bounds) (t u : List ℕ) → Names l a_field t a → Names l all_fields u b → AreApart a b → Names l all_fields (with_comma t u) s) → Reads lists all_fields text at s k
+more_fields_read lists text at n m k a b s p e q d f = record {
   words = with_comma p.words q.words;
-  names = f lists p.words q.words p.names q.names;
+  names = f lists p.words q.words p.names q.names d;
   stands = two_stand p.words q.words 44 [] (unspaced (drop at text)) (unspaced (drop n text)) (unspaced (drop m text)) (unspaced (drop k text)) p.stands e q.stands;
   within = q.within;
 }
 
-pub fields_named : (a b c d : Schema) {p q : _} → b ≡ a → d ≡ c → (lists : Bounds) (t u : List ℕ) → Names lists a_field t a → Names lists all_fields u c → Names lists all_fields (with_comma t u) (Beside' p b q d)
-fields_named a b c d e f lists t u n m = rw (e, f) (more_fields n m)
+pub fields_named : (a b c d : Schema) {p q : _} → b ≡ a → d ≡ c → (lists : Bounds) (t u : List ℕ) → Names lists a_field t a → Names lists all_fields u c → AreApart a c → Names lists all_fields (with_comma t u) (Beside' p b q d)
+fields_named a b c d e f lists t u n m g = rw (e, f) (more_fields n m g)
 
 -- the fields of a struct after its `{`
 pub object_goes_on : (lists : Bounds) (text : List ℕ) (at n m : ℕ) (a s : Schema) (c : Bool) → Reads lists all_fields text at a n → unspaced (drop n text) ≡ last_comma c ++ (125 ∷ unspaced (drop m text)) → m ≤ length text → ((l : Bounds) (t : List ℕ) → Names l all_fields t a → Names l struct_body (codes "{" ++ (t ++ (last_comma c ++ codes "}"))) s) → GoesOn lists struct_body (codes "{") text at s m
@@ -255,9 +259,9 @@ body_no_beside nothing = refl
 body_no_beside (wrapped n) = refl
 body_no_beside (placed n m) = refl
 body_no_beside (single c n) = refl
-body_no_beside (several c n m) = refl
+body_no_beside (several c n m d) = refl
 
-no_beside : {l : Bounds} {t : List ℕ} {s : Schema} → Names l a_type t s → is_beside s ≡ false
+pub no_beside : {l : Bounds} {t : List ℕ} {s : Schema} → Names l a_type t s → is_beside s ≡ false
 no_beside (leaf l) = refl
 no_beside (boxed n) = no_beside n
 no_beside (optional n) = refl
@@ -267,8 +271,12 @@ no_beside (fallible n m) = refl
 no_beside (solo n) = refl
 no_beside (tuple n m) = refl
 no_beside (structure k h n) = body_no_beside n
+no_beside (array d w n) = refl
+no_beside (repeated n) = refl
+no_beside (recalled w l n) = refl
+no_beside (sum k c h n) = refl
 
-never : {X : Type 0} → true ≡ false → X
+pub never : {X : Type 0} → true ≡ false → X
 never e =
     let no : ⊥ = cc in
     absurd no
@@ -282,9 +290,9 @@ gathered_several k l all e = rw e of_several
 
 pub object_named : (a s : Schema) (c : Bool) → IsGathered Curly Curly a s → (l : Bounds) (t : List ℕ) → Names l all_fields t a → Names l struct_body (codes "{" ++ (t ++ (last_comma c ++ codes "}"))) s
 object_named a s c (of_one h) l t (last_field n) = single c n
-object_named a s c (of_one h) l t (more_fields n m) = never h
+object_named a s c (of_one h) l t (more_fields n m d) = never h
 object_named a s c of_several l t (last_field n) = elim n [ ]
-object_named a s c of_several l t (more_fields n m) = several c n m
+object_named a s c of_several l t (more_fields n m d) = several c n m d
 
 pub places_named : (a s : Schema) → IsGathered Bare Square a s → (l : Bounds) (t : List ℕ) → Names l other_types t a → Names l struct_body (codes "(" ++ (t ++ codes ");")) s
 places_named a s (of_one h) l t (last n) = wrapped n

@@ -3,14 +3,17 @@ use Rattle.std.specs.Prelude.{ℕ, Bool, true, false, List, [], ◌∷◌, ◌++
 use Rattle.std.specs.Global.{Global}
 use Rattle.std.specs.Char.{is_ascii_alphanumeric, is_ascii_digit}
 use Rattle.std.specs.List.{list_all}
+use Rattle.std.specs.Str.Parse.{IsNumeral, digits_value}
+use Rattle.columnar_schema.specs.declared.schema.Brackets.{Brackets}
 use Rattle.columnar_schema.specs.declared.schema.Brackets.TheVariants.{Square, Curly, Bare}
 use Rattle.columnar_schema.specs.declared.schema.Bounds.{Bounds}
 use Rattle.columnar_schema.specs.declared.schema.Bounds.TheVariants.{Words, Strides, Unaries}
 use Rattle.columnar_schema.specs.declared.schema.Leaf.{Leaf}
 use Rattle.columnar_schema.specs.declared.schema.Leaf.TheVariants.{U8, U16, U32, U64, U128, Usize, I8, I16, I32, I64, I128, Isize, F32, F64, Bool as BoolLeaf, Char, Unit, Duration, Text}
+use Rattle.columnar_schema.specs.Distinct.{AreApart}
 use Rattle.columnar_schema.specs.declared.text.Head.{Head}
-use Rattle.columnar_schema.specs.declared.text.Head.TheVariants.{Boxed, Optional, Vector, Small}
-use Rattle.columnar_schema.specs.declared.schema.Schema.{Schema, Simple, Optional', Fallible', Lists', Solo', Tuple', Beside', Field'}
+use Rattle.columnar_schema.specs.declared.text.Head.TheVariants.{Boxed, Optional, Vector, Small, Repeats}
+use Rattle.columnar_schema.specs.declared.schema.Schema.{Schema, Simple, Optional', Fallible', Lists', Solo', Tuple', Beside', Field', Array', Repeated', Recalled', Sum', Named, Case'}
 
 -- a space, a tab, or an end of a line
 abbrev pub is_blank : ℕ → Bool
@@ -29,7 +32,7 @@ abbrev pub starts_name : List ℕ → Bool
 starts_name [] = false
 starts_name (n ∷ ns) = not (is_ascii_digit n)
 
--- a name of a struct or of a field
+-- a name of a struct, an enum, a field or a variant
 abbrev pub is_name : List ℕ → Bool
 is_name ns = starts_name ns && list_all is_word_byte ns
 
@@ -70,17 +73,35 @@ abbrev pub last_comma : Bool → List ℕ
 last_comma true = codes ","
 last_comma false = []
 
+-- the digits write the number
+abbrev pub Writes : List ℕ → ℕ → Type 0
+Writes ds n = IsNumeral 10 ds × (digits_value 10 ds ≡ n)
+
+-- `[type; length]`, without a blank
+abbrev pub array_text : List ℕ → List ℕ → List ℕ
+array_text t d = codes "[" ++ (t ++ (codes ";" ++ (d ++ codes "]")))
+
+-- nothing, or a comma and a number of at most 255: how many values a column of lookbacks looks back. Its bytes are the same.
+pub data IsLimit : List ℕ → Type 0 where
+  unlimited : IsLimit []
+  limited : {n : ℕ} (d : List ℕ) → Writes d n → n ≤ 255 → IsLimit (44 ∷ d)
+
 -- What a text stands for: one type; the rest of the fields of a tuple, from the second on; what follows the name of a
--- struct; a field with its name; such fields.
+-- struct; a field with its name; such fields; a variant; variants; the value of a variant, which JSON writes between these
+-- brackets.
 pub data Part : Type 0 where
   a_type : Part
   other_types : Part
   struct_body : Part
   a_field : Part
   all_fields : Part
+  a_case : Part
+  all_cases : Part
+  case_value : Brackets → Part
 
 -- A text names a type, or a part of one. `lists` chooses the bounds of lists. A struct has the columns of the tuple of its
--- fields.
+-- fields, an enum a column for the values of each variant: that of its one field, the tuple of several, or that of `()`.
+-- The fields of a struct, of a variant, and the variants of an enum have different names.
 pub data Names (lists : Bounds) : Part → List ℕ → Schema → Type 0 where
   leaf : (l : Leaf) → Names lists a_type (leaf_name l) (Simple l)
   boxed : {t : List ℕ} {s : Schema} → Names lists a_type t s → Names lists a_type (inside (codes "Box") t) s
@@ -97,10 +118,22 @@ pub data Names (lists : Bounds) : Part → List ℕ → Schema → Type 0 where
   wrapped : {t : List ℕ} {s : Schema} {p : _} → Names lists a_type t s → Names lists struct_body (codes "(" ++ (t ++ codes ");")) (Solo' Bare p s)
   placed : {t u : List ℕ} {s r : Schema} {p q : _} → Names lists a_type t s → Names lists other_types u r → Names lists struct_body (codes "(" ++ (with_comma t u ++ codes ");")) (Tuple' Square p s q r)
   single : {t : List ℕ} {s : Schema} {p : _} (c : Bool) → Names lists a_field t s → Names lists struct_body (codes "{" ++ (t ++ (last_comma c ++ codes "}"))) (Solo' Curly p s)
-  several : {t u : List ℕ} {s r : Schema} {p q : _} (c : Bool) → Names lists a_field t s → Names lists all_fields u r → Names lists struct_body (codes "{" ++ (with_comma t u ++ (last_comma c ++ codes "}"))) (Tuple' Curly p s q r)
+  several : {t u : List ℕ} {s r : Schema} {p q : _} (c : Bool) → Names lists a_field t s → Names lists all_fields u r → AreApart s r → Names lists struct_body (codes "{" ++ (with_comma t u ++ (last_comma c ++ codes "}"))) (Tuple' Curly p s q r)
   labelled : {t : List ℕ} {s : Schema} {v : Vec ℕ Global} {p : _} → is_name v.items ≡ true → Names lists a_type t s → Names lists a_field (v.items ++ (codes ":" ++ t)) (Field' v p s)
   last_field : {t : List ℕ} {s : Schema} → Names lists a_field t s → Names lists all_fields t s
-  more_fields : {t u : List ℕ} {s r : Schema} {p q : _} → Names lists a_field t s → Names lists all_fields u r → Names lists all_fields (with_comma t u) (Beside' p s q r)
+  more_fields : {t u : List ℕ} {s r : Schema} {p q : _} → Names lists a_field t s → Names lists all_fields u r → AreApart s r → Names lists all_fields (with_comma t u) (Beside' p s q r)
+  array : {n : ℕ} {t : List ℕ} {s : Schema} {p : _} (d : List ℕ) → Writes d n → Names lists a_type t s → Names lists a_type (array_text t d) (Array' n p s)
+  repeated : {t : List ℕ} {s : Schema} {p : _} → Names lists a_type t s → Names lists a_type (inside (codes "Repeats") t) (Repeated' p s)
+  recalled : {t : List ℕ} {s : Schema} {p : _} (w : List ℕ) → IsLimit w → Names lists a_type t s → Names lists a_type (inside (codes "Lookbacks") (t ++ w)) (Recalled' p s)
+  sum : (n : List ℕ) {t : List ℕ} {s : Schema} {p : _} (c : Bool) → is_name n ≡ true → Names lists all_cases t s → Names lists a_type (codes "enum" ++ (n ++ (codes "{" ++ (t ++ (last_comma c ++ codes "}"))))) (Sum' p s)
+  last_case : {t : List ℕ} {s : Schema} → Names lists a_case t s → Names lists all_cases t s
+  more_cases : {t u : List ℕ} {s r : Schema} {p q : _} → Names lists a_case t s → Names lists all_cases u r → AreApart s r → Names lists all_cases (with_comma t u) (Beside' p s q r)
+  named : {v : Vec ℕ Global} → is_name v.items ≡ true → Names lists a_case v.items (Named v)
+  valued : {t : List ℕ} {s : Schema} {v : Vec ℕ Global} {k : Brackets} {p : _} → is_name v.items ≡ true → Names lists (case_value k) t s → Names lists a_case (v.items ++ t) (Case' v k p s)
+  one_value : {t : List ℕ} {s : Schema} → Names lists a_type t s → Names lists (case_value Bare) (codes "(" ++ (t ++ codes ")")) s
+  more_values : {t u : List ℕ} {s r : Schema} {p q : _} → Names lists a_type t s → Names lists other_types u r → Names lists (case_value Bare) (codes "(" ++ (with_comma t u ++ codes ")")) (Tuple' Square p s q r)
+  one_named : {t : List ℕ} {s : Schema} (c : Bool) → Names lists a_field t s → Names lists (case_value Curly) (codes "{" ++ (t ++ (last_comma c ++ codes "}"))) s
+  more_named : {t u : List ℕ} {s r : Schema} {p q : _} (c : Bool) → Names lists a_field t s → Names lists all_fields u r → AreApart s r → Names lists (case_value Curly) (codes "{" ++ (with_comma t u ++ (last_comma c ++ codes "}"))) (Tuple' Bare p s q r)
 
 -- From one position to the other, the text continues `begun` so that it stands for the type or the part.
 pub record GoesOn (lists : Bounds) (part : Part) (begun text : List ℕ) (from : ℕ) (s : Schema) (to : ℕ) : Type 0 where
@@ -113,9 +146,18 @@ pub record GoesOn (lists : Bounds) (part : Part) (begun text : List ℕ) (from :
 abbrev pub Reads : Bounds → Part → List ℕ → ℕ → Schema → ℕ → Type 0
 Reads lists part text from s to = GoesOn lists part [] text from s to
 
+-- The text begins with a number, and goes on as the rest.
+abbrev pub StandsNumber : List ℕ → ℕ → List ℕ → Type 0
+StandsNumber text n rest = (d : List ℕ) × (Writes d n × (unspaced text ≡ d ++ unspaced rest))
+
+-- The text begins with a limit, and goes on as the rest.
+abbrev pub StandsLimit : List ℕ → List ℕ → Type 0
+StandsLimit text rest = (w : List ℕ) × (IsLimit w × (unspaced text ≡ w ++ unspaced rest))
+
 -- the names of types of one part
 abbrev pub head_name : Head → List ℕ
 head_name Boxed = codes "Box"
 head_name Optional = codes "Option"
 head_name Vector = codes "Vec"
 head_name Small = codes "SmallVec"
+head_name Repeats = codes "Repeats"

@@ -3,15 +3,15 @@ use Rattle.std.proofs.Common.{◌≡◌, ◌≢◌, ◌⊎◌, inl, inr, ℕ, su
 use Rattle.std.specs.Prelude.{codes, nat_eq, bytes_eq}
 use Rattle.std.specs.List.{list_any}
 use Rattle.std.proofs.lemmas.List.{drop-drop}
-use Rattle.columnar_schema.specs.Names.{Names, Part, a_type, other_types, structure, leaf, last, boxed, optional, listed, numbered, fallible, solo, tuple, more, head_name, inside, is_blank, leaf_name, with_comma}
-use Rattle.columnar_schema.specs.Reading.{IsApart, NamesNone, NestsWithin, Reaches, ReadsFields, ReadsPart, ReadsParts, ReadsSolo, ReadsTexts, ReadsTuple, ReadsUnit, fields_of, other_leaves, signed_leaves, unsigned_leaves, word_in, word_length}
+use Rattle.columnar_schema.specs.Names.{Names, Part, a_type, other_types, structure, leaf, last, boxed, optional, listed, numbered, fallible, solo, tuple, more, array, repeated, recalled, IsLimit, head_name, inside, is_blank, leaf_name, with_comma, sum}
+use Rattle.columnar_schema.specs.Reading.{IsApart, NamesNone, NestsWithin, OpensNone, Reaches, ReadsFields, ReadsPart, ReadsParts, ReadsRecalled, ReadsSolo, ReadsTexts, ReadsTuple, ReadsUnit, fields_of, other_leaves, signed_leaves, unsigned_leaves, word_in, word_length}
 use Rattle.columnar_schema.specs.declared.schema.Bounds.{Bounds}
 use Rattle.columnar_schema.specs.declared.schema.Bounds.TheVariants.{Words, Strides, Unaries}
 use Rattle.columnar_schema.specs.declared.schema.Leaf.{Leaf}
 use Rattle.columnar_schema.specs.declared.schema.Leaf.TheVariants.{U8, U16, U32, U64, U128, Usize, I8, I16, I32, I64, I128, Isize, F32, F64, Bool as BoolLeaf, Char, Unit, Duration, Text}
 use Rattle.columnar_schema.specs.declared.schema.Schema.{Schema}
 use Rattle.columnar_schema.specs.declared.text.Head.{Head}
-use Rattle.columnar_schema.specs.declared.text.Head.TheVariants.{Boxed, Optional, Vector, Small}
+use Rattle.columnar_schema.specs.declared.text.Head.TheVariants.{Boxed, Optional, Vector, Small, Repeats}
 use Rattle.columnar_schema.specs.declared.text.Refused.{Refused}
 
 pub no : {X : Type 0} → false ≡ true → X
@@ -65,6 +65,10 @@ begins (fallible n m) = begins_with 82 _ refl refl
 begins (solo n) = begins_with 40 _ refl refl
 begins (tuple n m) = begins_with 40 _ refl refl
 begins (structure k h n) = begins_with 115 _ refl refl
+begins (array d w n) = begins_with 91 _ refl refl
+begins (repeated n) = begins_with 82 _ refl refl
+begins (recalled w l n) = begins_with 76 _ refl refl
+begins (sum k c h n) = begins_with 101 _ refl refl
 
 pub rest_begins : {lists : Bounds} {u : List ℕ} {r : Schema} → Names lists other_types u r → Begins u
 rest_begins (last n) = begins n
@@ -122,6 +126,10 @@ tuple_read (listed n) most rest text next r o h e unit one several = no o
 tuple_read (numbered n) most rest text next r o h e unit one several = no o
 tuple_read (fallible n m) most rest text next r o h e unit one several = no o
 tuple_read (structure v k n) most rest text next r o h e unit one several = no o
+tuple_read (array d w n) most rest text next r o h e unit one several = no o
+tuple_read (repeated n) most rest text next r o h e unit one several = no o
+tuple_read (recalled w l n) most rest text next r o h e unit one several = no o
+tuple_read (sum v c k n) most rest text next r o h e unit one several = no o
 tuple_read (solo {t} n) most rest text next r o h e unit one several = one t rest _ n (e ∙ append_assoc t (codes ",)") rest) h.1
 tuple_read (tuple {t} {u} n m) most rest text next r o h e unit one several = several t u rest _ _ n m (e ∙ two_apart t u 41 rest) h.1.1.0 h.1.1.1 h.1.0
 
@@ -180,8 +188,12 @@ nests_some (listed n) depth h = h.0
 nests_some (numbered n) depth h = h.0
 nests_some (fallible n m) depth h = h.0
 nests_some (structure v k n) depth h = absurd h
+nests_some (sum v c k n) depth h = absurd h
 nests_some (solo n) depth h = h.0
 nests_some (tuple n m) depth h = h.0
+nests_some (array d w n) depth h = h.0
+nests_some (repeated n) depth h = h.0
+nests_some (recalled w l n) depth h = h.0
 
 -- the same depth
 nests : {lists : Bounds} {part : Part} {t : List ℕ} {s : Schema} (n : Names lists part t s) {one other : ℕ} → one ≡ other → NestsWithin one n → NestsWithin other n
@@ -193,6 +205,7 @@ pub data Shape (lists : Bounds) (depth : ℕ) (rest : List ℕ) : List ℕ → L
   texts : (name : List ℕ) → (name ≡ codes "Strides") ⊎ (name ≡ codes "Unaries") → Shape lists depth rest (codes "Strings") (60 ∷ (name ++ (62 ∷ rest)))
   part : (h : Head) {t : List ℕ} {s : Schema} (n : Names lists a_type t s) → NestsWithin depth n → Shape lists depth rest (head_name h) (60 ∷ (t ++ (62 ∷ rest)))
   parts : {t u : List ℕ} {s e : Schema} (n : Names lists a_type t s) (m : Names lists a_type u e) → NestsWithin depth n → NestsWithin depth m → Shape lists depth rest (codes "Result") (60 ∷ (t ++ (44 ∷ (u ++ (62 ∷ rest)))))
+  lookbacks : {t : List ℕ} {s : Schema} (n : Names lists a_type t s) (w : List ℕ) → IsLimit w → NestsWithin depth n → Shape lists depth rest (codes "Lookbacks") (60 ∷ (t ++ (w ++ (62 ∷ rest))))
 
 leaf_shape : (lists : Bounds) (depth : ℕ) (l : Leaf) (rest : List ℕ) → IsApart rest → ((x : List ℕ) → leaf_name l ≢ 40 ∷ x) → Shape lists depth rest (word_in (leaf_name l ++ rest)) (drop (word_length (leaf_name l ++ rest)) (leaf_name l ++ rest))
 leaf_shape lists depth U8 rest a o = rw a (plain U8 (λ w h. h.0 0 U8 (omega arith)))
@@ -217,22 +230,26 @@ leaf_shape lists depth (Text Strides) rest a o = texts (codes "Strides") (inl re
 leaf_shape lists depth (Text Unaries) rest a o = texts (codes "Unaries") (inr refl)
 leaf_shape lists depth Unit rest a o = absurd (o (41 ∷ []) refl)
 
-pub shape_of : {lists : Bounds} {t : List ℕ} {s : Schema} (n : Names lists a_type t s) (most depth : ℕ) (rest : List ℕ) → most - 1 ≡ depth → NestsWithin most n → IsApart rest → ((x : List ℕ) → t ≢ 40 ∷ x) → Shape lists depth rest (word_in (t ++ rest)) (drop (word_length (t ++ rest)) (t ++ rest))
-shape_of {lists} (leaf l) most depth rest d h a o = leaf_shape lists depth l rest a o
+pub shape_of : {lists : Bounds} {t : List ℕ} {s : Schema} (n : Names lists a_type t s) (most depth : ℕ) (rest : List ℕ) → most - 1 ≡ depth → NestsWithin most n → IsApart rest → OpensNone t → Shape lists depth rest (word_in (t ++ rest)) (drop (word_length (t ++ rest)) (t ++ rest))
+shape_of {lists} (leaf l) most depth rest d h a o = leaf_shape lists depth l rest a o.0
 shape_of (boxed {t} n) most depth rest d h a o = rw (append_assoc t (62 ∷ []) rest) (part Boxed n (nests n d h.1))
 shape_of (optional {t} n) most depth rest d h a o = rw (append_assoc t (62 ∷ []) rest) (part Optional n (nests n d h.1))
 shape_of (listed {t} n) most depth rest d h a o = rw (append_assoc t (62 ∷ []) rest) (part Vector n (nests n d h.1))
 shape_of (numbered {t} n) most depth rest d h a o = rw (append_assoc t (62 ∷ []) rest) (part Small n (nests n d h.1))
 shape_of (fallible {t} {u} n m) most depth rest d h a o = rw (two_apart t u 62 rest) (parts n m (nests n d h.1.0) (nests m d h.1.1))
 shape_of (structure v k n) most depth rest d h a o = absurd h
-shape_of (solo n) most depth rest d h a o = absurd (o _ refl)
-shape_of (tuple n m) most depth rest d h a o = absurd (o _ refl)
+shape_of (sum v c k n) most depth rest d h a o = absurd h
+shape_of (solo n) most depth rest d h a o = absurd (o.0 _ refl)
+shape_of (tuple n m) most depth rest d h a o = absurd (o.0 _ refl)
+shape_of (array v w n) most depth rest d h a o = absurd (o.1 _ refl)
+shape_of (repeated {t} n) most depth rest d h a o = rw (append_assoc t (62 ∷ []) rest) (part Repeats n (nests n d h.1))
+shape_of (recalled {t} w l n) most depth rest d h a o = rw (append_assoc (t ++ w) (62 ∷ []) rest, append_assoc t w (62 ∷ rest)) (lookbacks n w l (nests n d h.1))
 
 abbrev is_leaf_word : List ℕ → Bool
 is_leaf_word w = list_any (λ l. bytes_eq w (leaf_name l)) (U8 ∷ U16 ∷ U32 ∷ U64 ∷ U128 ∷ Usize ∷ I8 ∷ I16 ∷ I32 ∷ I64 ∷ I128 ∷ Isize ∷ F32 ∷ F64 ∷ BoolLeaf ∷ Char ∷ Duration ∷ Text Words ∷ Text Strides ∷ Text Unaries ∷ Unit ∷ [])
 
 abbrev is_head_word : List ℕ → Bool
-is_head_word w = list_any (λ h. bytes_eq w (head_name h)) (Boxed ∷ Optional ∷ Vector ∷ Small ∷ [])
+is_head_word w = list_any (λ h. bytes_eq w (head_name h)) (Boxed ∷ Optional ∷ Vector ∷ Small ∷ Repeats ∷ [])
 
 leaf_word : (l : Leaf) → is_leaf_word (leaf_name l) ≡ true
 leaf_word U8 = refl
@@ -262,12 +279,14 @@ head_word Boxed = refl
 head_word Optional = refl
 head_word Vector = refl
 head_word Small = refl
+head_word Repeats = refl
 
 head_no_leaf : (h : Head) → is_leaf_word (head_name h) ≡ false
 head_no_leaf Boxed = refl
 head_no_leaf Optional = refl
 head_no_leaf Vector = refl
 head_no_leaf Small = refl
+head_no_leaf Repeats = refl
 
 -- a name of one kind is none of another
 apart_words : {X : Type 0} (f : List ℕ → Bool) (w v : List ℕ) → f w ≡ true → f v ≡ false → w ≡ v → X
@@ -278,31 +297,43 @@ leaf_done (plain k f) l e = refl
 leaf_done (texts name k) l e = apart_words is_leaf_word (leaf_name l) (codes "Strings") (leaf_word l) refl (sym e)
 leaf_done (part h n k) l e = apart_words is_leaf_word (leaf_name l) (head_name h) (leaf_word l) (head_no_leaf h) (sym e)
 leaf_done (parts n m k j) l e = apart_words is_leaf_word (leaf_name l) (codes "Result") (leaf_word l) refl (sym e)
+leaf_done (lookbacks n w k j) l e = apart_words is_leaf_word (leaf_name l) (codes "Lookbacks") (leaf_word l) refl (sym e)
 
 pub part_done : {lists : Bounds} {depth : ℕ} {rest word from : List ℕ} → Shape lists depth rest word from → (h : Head) → word ≡ head_name h → (text : List ℕ) (r : Result (Schema × ℕ) Refused) → ReadsPart lists depth text from r → Reaches r text rest
 part_done (plain k f) h e text r g = apart_words is_leaf_word (leaf_name k) (head_name h) (leaf_word k) (head_no_leaf h) e
 part_done (texts name k) h e text r g = apart_words is_head_word (head_name h) (codes "Strings") (head_word h) refl (sym e)
 part_done (part i {t} n k) h e text r g = g t _ _ n refl k
 part_done (parts n m k j) h e text r g = apart_words is_head_word (head_name h) (codes "Result") (head_word h) refl (sym e)
+part_done (lookbacks n w k j) h e text r g = apart_words is_head_word (head_name h) (codes "Lookbacks") (head_word h) refl (sym e)
 
 pub parts_done : {lists : Bounds} {depth : ℕ} {rest word from : List ℕ} → Shape lists depth rest word from → word ≡ codes "Result" → (text : List ℕ) (r : Result (Schema × ℕ) Refused) → ReadsParts lists depth text from r → Reaches r text rest
 parts_done (plain k f) e text r g = apart_words is_leaf_word (leaf_name k) (codes "Result") (leaf_word k) refl e
 parts_done (texts name k) e text r g = no (ap (λ w. bytes_eq w (codes "Result")) e)
 parts_done (part i n k) e text r g = apart_words is_head_word (head_name i) (codes "Result") (head_word i) refl e
 parts_done (parts {t} {u} n m k j) e text r g = g t u _ _ _ n m refl k j
+parts_done (lookbacks n w k j) e text r g = no (ap (λ v. bytes_eq v (codes "Result")) e)
 
 pub texts_done : {lists : Bounds} {depth : ℕ} {rest word from : List ℕ} → Shape lists depth rest word from → word ≡ codes "Strings" → (text : List ℕ) (r : Result (Schema × ℕ) Refused) → ReadsTexts text from r → Reaches r text rest
 texts_done (plain k f) e text r g = apart_words is_leaf_word (leaf_name k) (codes "Strings") (leaf_word k) refl e
 texts_done (texts name k) e text r g = g name _ k refl
 texts_done (part i n k) e text r g = apart_words is_head_word (head_name i) (codes "Strings") (head_word i) refl e
 texts_done (parts n m k j) e text r g = no (ap (λ w. bytes_eq w (codes "Strings")) e)
+texts_done (lookbacks n w k j) e text r g = no (ap (λ v. bytes_eq v (codes "Strings")) e)
 
 -- a type begins with a word that is known
-pub none_left : {lists : Bounds} {depth : ℕ} {rest word from : List ℕ} → Shape lists depth rest word from → (given : List ℕ) → given ≡ word → NamesNone given unsigned_leaves × (NamesNone given signed_leaves × NamesNone given other_leaves) → ((h : Head) → given ≢ head_name h) → given ≢ codes "Result" → given ≢ codes "Strings" → ⊥
-none_left (plain k f) given w l h p t = f given l w
-none_left (texts name k) given w l h p t = t w
-none_left (part i n k) given w l h p t = h i w
-none_left (parts n m k j) given w l h p t = p w
+pub none_left : {lists : Bounds} {depth : ℕ} {rest word from : List ℕ} → Shape lists depth rest word from → (given : List ℕ) → given ≡ word → NamesNone given unsigned_leaves × (NamesNone given signed_leaves × NamesNone given other_leaves) → ((h : Head) → given ≢ head_name h) → given ≢ codes "Result" → given ≢ codes "Strings" → given ≢ codes "Lookbacks" → ⊥
+none_left (plain k f) given w l h p t u = f given l w
+none_left (texts name k) given w l h p t u = t w
+none_left (part i n k) given w l h p t u = h i w
+none_left (parts n m k j) given w l h p t u = p w
+none_left (lookbacks n v k j) given w l h p t u = u w
+
+pub lookbacks_done : {lists : Bounds} {depth : ℕ} {rest word from : List ℕ} → Shape lists depth rest word from → word ≡ codes "Lookbacks" → (text : List ℕ) (r : Result (Schema × ℕ) Refused) → ReadsRecalled lists depth text from r → Reaches r text rest
+lookbacks_done (plain k f) e text r g = apart_words is_leaf_word (leaf_name k) (codes "Lookbacks") (leaf_word k) refl e
+lookbacks_done (texts name k) e text r g = no (ap (λ w. bytes_eq w (codes "Lookbacks")) e)
+lookbacks_done (part i n k) e text r g = apart_words is_head_word (head_name i) (codes "Lookbacks") (head_word i) refl e
+lookbacks_done (parts n m k j) e text r g = no (ap (λ w. bytes_eq w (codes "Lookbacks")) e)
+lookbacks_done (lookbacks {t} n w k j) e text r g = g t w _ _ n refl k j
 
 -- the word that begins a text, and what follows it
 pub word_at : (text : List ℕ) (m e : ℕ) (x : List ℕ) → drop m text ≡ x → e ≡ m + word_length (drop m text) → (take (e - m) (drop m text) ≡ word_in x) × (drop e text ≡ drop (word_length x) x)

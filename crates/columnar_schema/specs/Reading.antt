@@ -1,7 +1,7 @@
 -- What the parser must read, and what it returns.
-use Rattle.std.specs.Prelude.{ℕ, suc, Bool, true, false, List, [], ◌∷◌, ◌++◌, ◌≡◌, ◌≢◌, ◌⊎◌, ◌≤◌, ◌-◌, cond, take, drop, codes, Result, Ok, Err}
+use Rattle.std.specs.Prelude.{ℕ, suc, Bool, true, false, List, [], ◌∷◌, ◌++◌, ◌≡◌, ◌≢◌, ◌⊎◌, ◌<◌, ◌≤◌, ◌-◌, ◌^◌, cond, take, drop, codes, Result, Ok, Err}
 use Rattle.std.specs.List.{All}
-use Rattle.columnar_schema.specs.Names.{Names, Part, a_type, other_types, is_word_byte, leaf, last, boxed, optional, listed, numbered, fallible, solo, tuple, more, leaf_name}
+use Rattle.columnar_schema.specs.Names.{Names, Part, a_type, other_types, is_word_byte, leaf, last, boxed, optional, listed, numbered, fallible, solo, tuple, more, leaf_name, array, repeated, recalled, IsLimit, Writes}
 use Rattle.columnar_schema.specs.declared.schema.Bounds.{Bounds}
 use Rattle.columnar_schema.specs.declared.schema.Leaf.{Leaf}
 use Rattle.columnar_schema.specs.declared.schema.Leaf.TheVariants.{U8, U16, U32, U64, U128, Usize, I8, I16, I32, I64, I128, Isize, F32, F64, Bool as BoolLeaf, Char, Duration, Text}
@@ -24,7 +24,9 @@ abbrev pub fields_of : {lists : Bounds} {part : Part} {t : List ℕ} {s : Schema
 fields_of (more n m) = suc (fields_of m)
 fields_of n = 1
 
--- Types nest at most this deep, each tuple has at most ten fields, and there is no struct, whose text has blanks.
+-- Types nest at most this deep, each tuple has at most ten fields, each array at most 2^64 - 1 items, and there is no
+-- struct, whose text has blanks.
+-- Types nest at most this deep, each tuple has at most ten fields, and there is no struct or enum, whose text has blanks.
 abbrev pub NestsWithin : {lists : Bounds} {part : Part} {t : List ℕ} {s : Schema} → ℕ → Names lists part t s → Type 0
 NestsWithin depth (leaf l) = 1 ≤ depth
 NestsWithin depth (boxed n) = (1 ≤ depth) × NestsWithin (depth - 1) n
@@ -36,6 +38,9 @@ NestsWithin depth (solo n) = (1 ≤ depth) × NestsWithin (depth - 1) n
 NestsWithin depth (tuple n m) = (1 ≤ depth) × ((fields_of m ≤ 9) × (NestsWithin (depth - 1) n × NestsWithin (depth - 1) m))
 NestsWithin depth (last n) = NestsWithin depth n
 NestsWithin depth (more n m) = NestsWithin depth n × NestsWithin depth m
+NestsWithin depth (array {n} d w m) = (1 ≤ depth) × ((n < 2 ^ 64) × NestsWithin (depth - 1) m)
+NestsWithin depth (repeated n) = (1 ≤ depth) × NestsWithin (depth - 1) n
+NestsWithin depth (recalled w l n) = (1 ≤ depth) × NestsWithin (depth - 1) n
 NestsWithin depth n = ⊥
 
 -- the position was reached from which the rest of the text follows, unless there was no memory
@@ -47,6 +52,11 @@ Reaches (Err why) text rest = why.mistake ≡ Memory
 abbrev pub Passes : Result ℕ Refused → List ℕ → List ℕ → Type 0
 Passes (Ok next) text rest = drop next text ≡ rest
 Passes (Err why) text rest = ⊥
+
+-- a number was read, after which the rest of the text follows
+abbrev pub PassesNumber : Result (ℕ × ℕ) Refused → List ℕ → List ℕ → Type 0
+PassesNumber (Ok read) text rest = drop read.1 text ≡ rest
+PassesNumber (Err why) text rest = ⊥
 
 -- the word that begins a text
 abbrev pub word_in : List ℕ → List ℕ
@@ -99,6 +109,18 @@ ReadsSolo lists depth text from result = (t rest : List ℕ) (s : Schema) (n : N
 abbrev pub ReadsTuple : Bounds → ℕ → List ℕ → List ℕ → Result (Schema × ℕ) Refused → Type 0
 ReadsTuple lists depth text from result = (t u rest : List ℕ) (s r : Schema) (n : Names lists a_type t s) (m : Names lists other_types u r) → from ≡ t ++ (44 ∷ (u ++ (41 ∷ rest))) → NestsWithin depth n → NestsWithin depth m → fields_of m ≤ 9 → Reaches result text rest
 
+-- for an array, after `[`
+abbrev pub ReadsArray : Bounds → ℕ → List ℕ → List ℕ → Result (Schema × ℕ) Refused → Type 0
+ReadsArray lists depth text from result = (t d rest : List ℕ) (i : ℕ) (s : Schema) (n : Names lists a_type t s) → from ≡ t ++ (59 ∷ (d ++ (93 ∷ rest))) → Writes d i → i < 2 ^ 64 → NestsWithin depth n → Reaches result text rest
+
+-- for lookbacks, after `Lookbacks`
+abbrev pub ReadsRecalled : Bounds → ℕ → List ℕ → List ℕ → Result (Schema × ℕ) Refused → Type 0
+ReadsRecalled lists depth text from result = (t w rest : List ℕ) (s : Schema) (n : Names lists a_type t s) → from ≡ 60 ∷ (t ++ (w ++ (62 ∷ rest))) → IsLimit w → NestsWithin depth n → Reaches result text rest
+
+-- the text begins with neither `(` nor `[`
+abbrev pub OpensNone : List ℕ → Type 0
+OpensNone t = ((x : List ℕ) → t ≢ 40 ∷ x) × ((x : List ℕ) → t ≢ 91 ∷ x)
+
 -- for a type that begins with a word, after this word
 abbrev pub ReadsNamed : Bounds → ℕ → List ℕ → List ℕ → List ℕ → Result (Schema × ℕ) Refused → Type 0
-ReadsNamed lists depth text word from result = (t rest : List ℕ) (s : Schema) (n : Names lists a_type t s) → word ≡ word_in (t ++ rest) → from ≡ drop (word_length (t ++ rest)) (t ++ rest) → ((x : List ℕ) → t ≢ 40 ∷ x) → (most : ℕ) → most - 1 ≡ depth → NestsWithin most n → IsApart rest → Reaches result text rest
+ReadsNamed lists depth text word from result = (t rest : List ℕ) (s : Schema) (n : Names lists a_type t s) → word ≡ word_in (t ++ rest) → from ≡ drop (word_length (t ++ rest)) (t ++ rest) → OpensNone t → (most : ℕ) → most - 1 ≡ depth → NestsWithin most n → IsApart rest → Reaches result text rest

@@ -17,7 +17,7 @@ use Rattle.columnar_sums.specs.Results.{beside_format, results_level}
 use Rattle.columnar_sums.specs.ResultLaws.{results_two, length-results}
 use Rattle.columnar_lists.specs.Lists.{lists_rise}
 use Rattle.columnar_lists.specs.ListLaws.{lists_two, length-lists}
-use Rattle.columnar_schema.specs.declared.schema.Schema.{Schema, Simple, Optional', Fallible', Lists', Solo', Tuple', Beside', Field'}
+use Rattle.columnar_schema.specs.declared.schema.Schema.{Schema, Simple, Optional', Fallible', Lists', Solo', Tuple', Beside', Field', Array', Repeated', Recalled', Sum', Named, Case'}
 use Rattle.columnar_schema.specs.Formats.{bounds_format, columns_of, format_of}
 
 -- ---- of two parts
@@ -122,6 +122,12 @@ depth_of (Solo' k p t) = suc (depth_of t)
 depth_of (Tuple' k p a q r) = suc (depth_of a + depth_of r)
 depth_of (Beside' p a q r) = suc (depth_of a + depth_of r)
 depth_of (Field' n p t) = suc (depth_of t)
+depth_of (Array' n p t) = suc (depth_of t)
+depth_of (Repeated' p t) = suc (depth_of t)
+depth_of (Recalled' p t) = suc (depth_of t)
+depth_of (Sum' p t) = suc (depth_of t)
+depth_of (Named n) = 0
+depth_of (Case' n k p t) = suc (depth_of t)
 
 pub first_falls : (s l : Schema) {br : _} {p : _} {a : Schema} {q : _} {r : Schema} → s ≡ Tuple' br p a q r → l ≡ a → depth_of l < depth_of s
 first_falls s l {br} {p} {a} {q} {r} e k =

@@ -1,5 +1,6 @@
 //! Validation of a store against a column type that is read at run time.
 ghost use Rattle.std.specs.Prelude.{◌≡◌, ◌+◌, ◌*◌, ◌^◌, ◌≤◌, length, drop};
+ghost use Rattle.columnar_base.specs.Elements.{bytes_format};
 ghost use Rattle.columnar_base.specs.Format.{Fits, bytes_held, first, moved};
 ghost use Rattle.columnar_base.specs.Faults.{verdict};
 ghost use Rattle.columnar_base.specs.LongTuples.{are_level, tuple_format};
@@ -9,17 +10,22 @@ ghost use Rattle.columnar_sums.specs.RankColumns.{ranks_bits, ranks_format};
 ghost use Rattle.columnar_sums.specs.Options.{options_format};
 ghost use Rattle.columnar_sums.specs.Results.{results_format};
 ghost use Rattle.columnar_lists.specs.Lists.{lists_format};
+ghost use Rattle.columnar_lookback.specs.Lookbacks.{lookbacks_format};
+ghost use Rattle.columnar_lookback.specs.Repeats.{repeats_format, starts_set};
 ghost use Rattle.columnar_schema.specs.Formats.{bounds_format, columns_of, format_of};
 
 use crate::bounds::{bounds_rise, bounds_rows, bounds_slices, judge_bounds};
+use crate::cases::{Forms, close_sum};
 use crate::leaf::{judge_leaf, leaf_rows, leaf_slices};
-use crate::schema::{Bounds, Schema};
+use crate::schema::{Bounds, Leaf, Schema};
 use columnar_core::bytes::{FromBytes, Stored};
 use columnar_core::fault::StoreFault;
 use columnar_core::store::DecodedStore;
 use columnar_core::tally::Tally;
-use columnar_core::traits::Len;
+use columnar_core::traits::{Index, Len};
 use columnar_core::view::View;
+use columnar_lookback::lookbacks::Distances;
+use columnar_lookback::lookbacks::bytes::all_reach;
 use columnar_sums::rank_select::RankSelect;
 
 type Bits = RankSelect<Vec<u64>, Vec<u64>, [u64; 2]>;
@@ -28,7 +34,7 @@ type Bits = RankSelect<Vec<u64>, Vec<u64>, [u64; 2]>;
 ///
 /// # Requires
 /// The type has at most 2^60 slices.
-#[tactic(auto, using(crate::specs::CountLaws::tuple_count, crate::specs::CountLaws::beside_count, crate::specs::CountLaws::first_counted, crate::specs::CountLaws::others_counted, crate::specs::CountLaws::field_counted, crate::specs::CountLaws::later_counted))]
+#[tactic(auto, using(crate::specs::CountLaws::tuple_count, crate::specs::CountLaws::beside_count, crate::specs::CountLaws::first_counted, crate::specs::CountLaws::others_counted, crate::specs::CountLaws::field_counted, crate::specs::CountLaws::later_counted, crate::specs::BankLaws::sum_count, crate::specs::BankLaws::cases_counted))]
 pub fn slice_count_of(schema: &Schema) -> usize
     requires { (format_of schema.now).count ≤ 2 ^ 60 }
     ensures { result ≡ (format_of schema.now).count }
@@ -42,6 +48,12 @@ pub fn slice_count_of(schema: &Schema) -> usize
         Schema::Tuple(_, first, others) => slice_count_of(first) + slice_count_of(others),
         Schema::Beside(field, later) => slice_count_of(field) + slice_count_of(later),
         Schema::Field(_, part) => slice_count_of(part),
+        Schema::Array(_, values) => 1 + slice_count_of(values),
+        Schema::Repeated(values) => 3 + slice_count_of(values),
+        Schema::Recalled(values) => 4 + slice_count_of(values),
+        Schema::Sum(cases) => slice_count_of(cases) + 2,
+        Schema::Named(_) => leaf_slices(Leaf::Unit),
+        Schema::Case(_, _, part) => slice_count_of(part),
     }
 }
 
@@ -49,7 +61,7 @@ pub fn slice_count_of(schema: &Schema) -> usize
 ///
 /// # Requires
 /// The type has at most 2^60 slices, and those from `offset` on were accepted for it.
-#[tactic(auto, using(crate::specs::TypeLaws::solo_fit, crate::specs::TypeLaws::first_fit, crate::specs::TypeLaws::others_fit, crate::specs::TypeLaws::field_fit, crate::specs::TypeLaws::later_fit, crate::specs::TypeLaws::part_fit, crate::specs::CountLaws::tuple_count, crate::specs::CountLaws::beside_count, crate::specs::CountLaws::first_counted, crate::specs::CountLaws::others_counted, crate::specs::CountLaws::field_counted, crate::specs::CountLaws::later_counted))]
+#[tactic(auto, using(crate::specs::TypeLaws::solo_fit, crate::specs::TypeLaws::first_fit, crate::specs::TypeLaws::others_fit, crate::specs::TypeLaws::field_fit, crate::specs::TypeLaws::later_fit, crate::specs::TypeLaws::part_fit, crate::specs::BankLaws::cases_fit, crate::specs::BankLaws::indexes_fit, crate::specs::BankLaws::value_fit, crate::specs::CountLaws::tuple_count, crate::specs::CountLaws::beside_count, crate::specs::CountLaws::first_counted, crate::specs::CountLaws::others_counted, crate::specs::CountLaws::field_counted, crate::specs::CountLaws::later_counted, crate::specs::BankLaws::sum_count, crate::specs::BankLaws::cases_counted))]
 pub fn rows_of(schema: &Schema, store: &DecodedStore<'_>, offset: usize) -> usize
     requires counted { (format_of schema.now).count ≤ 2 ^ 60 }
     requires fits { Fits (format_of schema.now) offset (slices_in store.now) }
@@ -70,6 +82,12 @@ pub fn rows_of(schema: &Schema, store: &DecodedStore<'_>, offset: usize) -> usiz
             rows.min(rows_of(later, store, offset + slice_count_of(field)))
         }
         Schema::Field(_, part) => rows_of(part, store, offset),
+        Schema::Array(_, _) => bounds_rows(Bounds::Words, store, offset),
+        Schema::Repeated(_) => Bits::rows_in(store, offset),
+        Schema::Recalled(_) => Bits::rows_in(store, offset),
+        Schema::Sum(cases) => Forms::rows_in(store, offset + slice_count_of(cases)),
+        Schema::Named(_) => leaf_rows(Leaf::Unit, store, offset),
+        Schema::Case(_, _, part) => rows_of(part, store, offset),
     }
 }
 
@@ -107,6 +125,40 @@ fn close_options<L>(
     }
 }
 
+// Tests in slices that were accepted whether the first bit, if any, is set.
+fn starts_in(store: &DecodedStore<'_>, offset: usize) -> bool
+    requires { Fits ranks_format offset (slices_in store.now) }
+    ensures { result ≡ starts_set (ranks_bits (ranks_format.build (drop offset (slices_in store.now)))) }
+{
+    let mut at = offset;
+    let bits = RankSelect::<View<'_, u64>, View<'_, u64>, View<'_, u64>>::from_store(
+        store, &mut at,
+    );
+    bits.len() == 0 || bits.get(0)
+}
+
+// Tests for one value for each set bit, and whether the first row, if any, is a value, in slices whose parts were
+// accepted.
+fn close_repeats<L>(
+    values: &Schema,
+    store: &DecodedStore<'_>,
+    offset: usize,
+    tally: &mut Tally<L>,
+) -> Result<(), StoreFault>
+    requires counted { (format_of values.now).count ≤ 2 ^ 60 }
+    requires bits { Fits ranks_format offset (slices_in store.now) }
+    requires values { Fits (format_of values.now) (offset + 3) (slices_in store.now) }
+    ensures exact { verdict result ≡ first (moved offset ((repeats_format (format_of values.now)).broken ((repeats_format (format_of values.now)).build (drop offset (slices_in store.now))))) }
+    ensures turns { tally.new.turns ≤ tally.old.turns + 16 }
+{
+    close_options(values, store, offset, tally)?;
+    if starts_in(store, offset) {
+        Ok(())
+    } else {
+        Err(StoreFault::Lookback(offset))
+    }
+}
+
 // Tests for one value for each set bit and one error for each clear bit, in slices whose parts were accepted. The
 // errors start at slice `after`.
 fn close_results<L>(
@@ -134,6 +186,37 @@ fn close_results<L>(
         Ok(())
     } else {
         Err(StoreFault::Parts(offset))
+    }
+}
+
+// Tests for one value for each set bit and one distance for each clear bit, and whether each distance reaches a value, in
+// slices whose parts were accepted. The distances are slice `after`.
+fn close_lookbacks<L>(
+    values: &Schema,
+    store: &DecodedStore<'_>,
+    offset: usize,
+    after: usize,
+    tally: &mut Tally<L>,
+) -> Result<(), StoreFault>
+    requires counted { (format_of values.now).count ≤ 2 ^ 60 }
+    requires after { after ≡ offset + 3 + (format_of values.now).count }
+    requires bits { Fits ranks_format offset (slices_in store.now) }
+    requires values { Fits (format_of values.now) (offset + 3) (slices_in store.now) }
+    requires distances { Fits bytes_format after (slices_in store.now) }
+    ensures exact { verdict result ≡ first (moved offset ((lookbacks_format (format_of values.now) bytes_format).broken ((lookbacks_format (format_of values.now) bytes_format).build (drop offset (slices_in store.now))))) }
+    ensures turns { tally.new.turns ≤ tally.old.turns + (16 + 8 * bytes_held (ranks_format.build (drop offset (slices_in store.now)))) }
+{
+    let distances = Schema::Simple(Leaf::U8);
+    close_results(values, &distances, store, offset, after, tally)?;
+    let mut at = offset;
+    let bits = RankSelect::<View<'_, u64>, View<'_, u64>, View<'_, u64>>::from_store(
+        store, &mut at,
+    );
+    let back = Vec::<u8>::distances_in(store, after);
+    if all_reach(&bits, &back, tally) {
+        Ok(())
+    } else {
+        Err(StoreFault::Lookback(offset))
     }
 }
 
@@ -202,6 +285,7 @@ fn close_tuple(
 ///
 /// # Requires
 /// The type has at most 2^60 slices, and the store has them from `offset` on.
+#[tactic(auto, using(crate::specs::BankLaws::sum_count, crate::specs::BankLaws::cases_counted, crate::specs::BankLaws::cases_room))]
 pub fn judge_of<L>(
     schema: &Schema,
     store: &DecodedStore<'_>,
@@ -245,5 +329,29 @@ pub fn judge_of<L>(
             judge_of(later, store, offset + slice_count_of(field), tally)
         }
         Schema::Field(_, part) => judge_of(part, store, offset, tally),
+        Schema::Array(_, values) => {
+            judge_bounds(Bounds::Words, store, offset, tally)?;
+            judge_of(values, store, offset + 1, tally)?;
+            close_lists(Bounds::Words, values, store, offset, tally)
+        }
+        Schema::Repeated(values) => {
+            Bits::judge_tallied(store, offset, tally)?;
+            judge_of(values, store, offset + 3, tally)?;
+            close_repeats(values, store, offset, tally)
+        }
+        Schema::Recalled(values) => {
+            Bits::judge_tallied(store, offset, tally)?;
+            let start = offset + 3;
+            judge_of(values, store, start, tally)?;
+            let after = start + slice_count_of(values);
+            judge_leaf(Leaf::U8, store, after, tally)?;
+            close_lookbacks(values, store, offset, after, tally)
+        }
+        Schema::Sum(cases) => {
+            judge_of(cases, store, offset, tally)?;
+            close_sum(cases, store, offset, offset + slice_count_of(cases), tally)
+        }
+        Schema::Named(_) => judge_leaf(Leaf::Unit, store, offset, tally),
+        Schema::Case(_, _, part) => judge_of(part, store, offset, tally),
     }
 }

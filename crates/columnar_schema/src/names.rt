@@ -5,7 +5,7 @@ ghost use Rattle.columnar_schema.specs.Formats.{format_of};
 
 use crate::bounds::bounds_slices;
 use crate::judge::slice_count_of;
-use crate::schema::{Bounds, Leaf, Schema};
+use crate::schema::{Bounds, Brackets, Leaf, Schema};
 use columnar_strings::string::as_text;
 use std::alloc::AllocError;
 
@@ -85,6 +85,8 @@ fn has_number(schema: &Schema) -> bool {
     match schema {
         Schema::Beside(_, _) => false,
         Schema::Field(_, _) => false,
+        Schema::Named(_) => false,
+        Schema::Case(_, _, _) => false,
         _ => true,
     }
 }
@@ -104,7 +106,8 @@ fn push_number(path: &mut String, schema: &Schema, field: usize) -> Result<(), A
 ///
 /// # Requires
 /// The type has at most 2^60 slices.
-#[tactic(auto, using(crate::specs::CountLaws::tuple_count, crate::specs::CountLaws::beside_count, crate::specs::CountLaws::first_counted, crate::specs::CountLaws::others_counted, crate::specs::CountLaws::field_counted, crate::specs::CountLaws::later_counted))]
+#[tactic(auto, using(crate::specs::CountLaws::tuple_count, crate::specs::CountLaws::beside_count, crate::specs::CountLaws::first_counted, crate::specs::CountLaws::others_counted, crate::specs::CountLaws::field_counted, crate::specs::CountLaws::later_counted, crate::specs::BankLaws::sum_count, crate::specs::BankLaws::cases_counted))]
+#[cycle(names)]
 pub fn push_name(
     schema: &Schema,
     index: usize,
@@ -170,5 +173,107 @@ pub fn push_name(
             push_label(path, name.as_slice())?;
             push_name(part, index, 0, path)
         }
+        Schema::Array(_, values) => {
+            if index == 0 {
+                return push_bounds(path, Bounds::Words, 0);
+            }
+            push_field(path, "values")?;
+            push_name(values, index - 1, 0, path)
+        }
+        Schema::Repeated(values) => {
+            push_field(path, "inner")?;
+            if index < 3 {
+                push_field(path, "indexes")?;
+                return push_bits(path, index);
+            }
+            push_field(path, "somes")?;
+            push_name(values, index - 3, 0, path)
+        }
+        Schema::Recalled(values) => {
+            push_field(path, "inner")?;
+            if index < 3 {
+                push_field(path, "indexes")?;
+                return push_bits(path, index);
+            }
+            if index - 3 < slice_count_of(values) {
+                push_field(path, "oks")?;
+                return push_name(values, index - 3, 0, path);
+            }
+            push_field(path, "errs")
+        }
+        Schema::Sum(cases) => {
+            let count = slice_count_of(cases);
+            if index < count {
+                return push_name(cases, index, 0, path);
+            }
+            push_field(path, "indexes")?;
+            push_field(path, if index == count { "variant" } else { "offset" })
+        }
+        Schema::Named(name) => {
+            push_label(path, name.as_slice())?;
+            push_leaf(path, Leaf::Unit, index)
+        }
+        Schema::Case(name, brackets, part) => {
+            push_label(path, name.as_slice())?;
+            match brackets {
+                Brackets::Curly => push_value(part, index, path),
+                _ => push_name(part, index, 0, path),
+            }
+        }
+    }
+}
+
+// Appends the name of slice `index` of a field without its own name.
+#[cycle(names)]
+fn push_unnamed(schema: &Schema, index: usize, path: &mut String) -> Result<(), AllocError>
+    requires { (format_of schema.now).count ≤ 2 ^ 60 }
+{
+    match schema {
+        Schema::Field(_, part) => push_name(part, index, 0, path),
+        _ => push_name(schema, index, 0, path),
+    }
+}
+
+// Appends the name of slice `index` of the fields of a variant from number `field` on.
+#[cycle(names)]
+fn push_fields(
+    schema: &Schema,
+    index: usize,
+    field: usize,
+    path: &mut String,
+) -> Result<(), AllocError>
+    requires { (format_of schema.now).count ≤ 2 ^ 60 }
+{
+    match schema {
+        Schema::Beside(first, later) => {
+            let count = slice_count_of(first);
+            if index < count {
+                push_field(path, field_name(field))?;
+                return push_unnamed(first, index, path);
+            }
+            push_fields(later, index - count, field.saturating_add(1), path)
+        }
+        _ => {
+            push_field(path, field_name(field))?;
+            push_unnamed(schema, index, path)
+        }
+    }
+}
+
+// Appends the name of slice `index` of the fields of a variant, which have numbers as names if there are several.
+#[cycle(names)]
+fn push_value(schema: &Schema, index: usize, path: &mut String) -> Result<(), AllocError>
+    requires { (format_of schema.now).count ≤ 2 ^ 60 }
+{
+    match schema {
+        Schema::Tuple(_, first, others) => {
+            let count = slice_count_of(first);
+            if index < count {
+                push_field(path, field_name(0))?;
+                return push_unnamed(first, index, path);
+            }
+            push_fields(others, index - count, 1, path)
+        }
+        _ => push_unnamed(schema, index, path),
     }
 }

@@ -85,4 +85,16 @@ pub enum Schema {
     Beside(Box<Schema>, Box<Schema>),
     /// A field with this name.
     Field(Vec<u8>, Box<Schema>),
+    /// Lists of this length, with bounds as numbers.
+    Array(usize, Box<Schema>),
+    /// Rows of which a run is stored once.
+    Repeated(Box<Schema>),
+    /// Rows that are values, or look back to one of the last 256 values.
+    Recalled(Box<Schema>),
+    /// Rows of an enum, by its variants: one, or several as `Beside`.
+    Sum(Box<Schema>),
+    /// A variant with this name, without a value.
+    Named(Vec<u8>),
+    /// A variant with this name. JSON writes these brackets around its value.
+    Case(Vec<u8>, Brackets, Box<Schema>),
 }

@@ -2,35 +2,45 @@
 ghost use Rattle.std.specs.Prelude.{◌≡◌, ◌≢◌, ◌≤◌, ◌+◌, ◌-◌, ◌∷◌, ◌++◌, Bool, List, ℕ, length, take, drop, codes, nat_eq, IfOk, IfErr, IfSome, IfNone, true, false};
 ghost use Rattle.std.specs.List.{list_all};
 ghost use Rattle.columnar_schema.specs.declared.text.Head.{Head};
-ghost use Rattle.columnar_schema.specs.Names.{GoesOn, Names, Reads, a_field, a_type, all_fields, head_name, inside, is_blank, is_name, is_word_byte, last_comma, leaf_name, other_types, struct_body, unspaced, with_comma};
-ghost use Rattle.columnar_schema.specs.Gathered.{IsGathered};
-ghost use Rattle.columnar_schema.specs.Reading.{NamesNone, NestsWithin, Passes, ReadsFields, ReadsNamed, ReadsPart, ReadsParts, ReadsSolo, ReadsTexts, ReadsTuple, ReadsType, ReadsUnit, other_leaves, signed_leaves, unsigned_leaves, word_length};
+ghost use Rattle.columnar_schema.specs.Names.{GoesOn, Names, Reads, a_field, a_type, all_fields, head_name, inside, is_blank, is_name, is_word_byte, last_comma, leaf_name, other_types, struct_body, unspaced, with_comma, a_case, all_cases};
+ghost use Rattle.columnar_schema.specs.Reading.{NamesNone, NestsWithin, Passes, ReadsArray, ReadsFields, ReadsNamed, ReadsPart, ReadsParts, ReadsRecalled, ReadsSolo, ReadsTexts, ReadsTuple, ReadsType, ReadsUnit, other_leaves, signed_leaves, unsigned_leaves, word_length};
 ghost use Rattle.columnar_schema.specs.declared.schema.Bounds.{Bounds};
 ghost use Rattle.columnar_schema.specs.declared.schema.Leaf.TheVariants.{Text};
 ghost use Rattle.columnar_schema.specs.declared.schema.Schema.{Schema};
-ghost use Rattle.columnar_schema.specs.declared.text.Mistake.TheVariants.{Memory};
+ghost use Rattle.columnar_schema.specs.declared.text.Mistake.TheVariants.{Memory, Twice};
 
+use crate::distinct::shares_name;
+use crate::number::{after_limit, number_at};
+use crate::parts::{
+    array, beside, beside_case, beside_named, boxed, fallible, gathered, labelled, recalled, solo,
+    sum, tuple, unvalued, value_of, valued,
+};
 use crate::schema::{Bounds, Brackets, Leaf, Schema};
+use crate::words::leaf_of;
 use std::alloc::Global;
 
-/// The maximum nesting depth of types in a text.
+/// The maximum nesting depth of types in a text. An enum, which may have many variants, counts as four types.
 pub const DEPTH: usize = 64;
 
 /// Why a text is not a type.
 #[derive(Clone, Copy, PartialEq, Drop)]
 pub enum Mistake {
-    /// There is no name of a type, or of a struct or a field, at this position.
+    /// There is no name at this position: of a type, a struct, an enum, a field or a variant.
     Name,
     /// This byte is expected at this position.
     Wanted(u8),
     /// The text continues after the type.
     Longer,
-    /// A tuple has more than ten fields, or a struct more than a hundred.
+    /// A tuple or a variant has more than ten fields, a struct more than a hundred, or an enum more than 256 variants.
     Wide,
     /// Types are nested too deeply.
     Deep,
     /// An allocation failed; the position is 0.
     Memory,
+    /// There is no number at this position, or it is too large.
+    Number,
+    /// The name at this position stands again among the later fields or variants.
+    Twice,
 }
 
 /// A mistake in a text, and its position.
@@ -50,7 +60,7 @@ fn blank(byte: u8) -> bool
 
 // Returns the position after blanks.
 #[tactic(auto, using(crate::specs::ReadingLaws::blank_elsewhere, crate::specs::NameLaws::blank_passed))]
-fn after_blanks(text: &[u8], at: usize) -> usize
+pub(crate) fn after_blanks(text: &[u8], at: usize) -> usize
     requires { at ≤ length text.now }
     ensures within { result ≤ length text.now }
     ensures from { at ≤ result }
@@ -67,7 +77,7 @@ fn after_blanks(text: &[u8], at: usize) -> usize
 
 // Returns the position after this byte, which must follow the blanks.
 #[tactic(auto, using(crate::specs::ReadingLaws::first_byte, crate::specs::ReadingLaws::after_first, crate::specs::ReadingLaws::begins_within))]
-fn after(text: &[u8], at: usize, wanted: u8) -> Result<usize, Refused>
+pub(crate) fn after(text: &[u8], at: usize, wanted: u8) -> Result<usize, Refused>
     requires within { at ≤ length text.now }
     requires shows { is_blank wanted ≡ false }
     ensures within { IfOk result (λ n. n ≤ length text.now) }
@@ -87,7 +97,7 @@ fn after(text: &[u8], at: usize, wanted: u8) -> Result<usize, Refused>
 
 // Tests whether this byte follows the blanks.
 #[tactic(auto, using(crate::specs::ReadingLaws::first_byte, crate::specs::ReadingLaws::begins_within))]
-fn stands_at(text: &[u8], at: usize, wanted: u8) -> bool
+pub(crate) fn stands_at(text: &[u8], at: usize, wanted: u8) -> bool
     requires { at ≤ length text.now }
     ensures { (n : ℕ) (x : List ℕ) → drop at text.now ≡ n ∷ x → is_blank n ≡ false → result ≡ nat_eq n wanted }
 {
@@ -104,7 +114,7 @@ fn is_of_name(byte: u8) -> bool
 
 // Returns the end of the word that starts at the position.
 #[tactic(auto, using(crate::specs::NameLaws::word_more, crate::specs::NameLaws::word_grows, crate::specs::ReadingLaws::word_goes_on, crate::specs::ReadingLaws::word_ends, crate::specs::ReadingLaws::word_ends_last))]
-fn word_end(text: &[u8], at: usize) -> usize
+pub(crate) fn word_end(text: &[u8], at: usize) -> usize
     requires { at ≤ length text.now }
     ensures from { at ≤ result }
     ensures within { result ≤ length text.now }
@@ -141,6 +151,17 @@ fn name_at(text: &[u8], at: usize) -> Result<(usize, usize), Refused>
     }
 }
 
+// Returns the refusal of the name that follows the blanks, which stands again later.
+fn twice(text: &[u8], at: usize) -> Refused
+    requires { at ≤ length text.now }
+    ensures { result.mistake ≡ Twice }
+{
+    Refused {
+        at: after_blanks(text, at),
+        mistake: Mistake::Twice,
+    }
+}
+
 // Returns the position after the last field of a struct: after `}`, before which a comma may stand.
 fn after_fields(text: &[u8], at: usize) -> Result<usize, Refused>
     requires { at ≤ length text.now }
@@ -151,86 +172,6 @@ fn after_fields(text: &[u8], at: usize) -> Result<usize, Refused>
         after(text, after(text, at, b',')?, b'}')
     } else {
         after(text, at, b'}')
-    }
-}
-
-// Returns the unsigned number type with this name.
-fn unsigned(word: &[u8]) -> Option<Leaf>
-    ensures some { IfSome result (λ l. word.now ≡ leaf_name l) }
-    ensures none { IfNone result (NamesNone word.now unsigned_leaves) }
-{
-    if word == b"u8".as_slice() {
-        Some(Leaf::U8)
-    } else if word == b"u16".as_slice() {
-        Some(Leaf::U16)
-    } else if word == b"u32".as_slice() {
-        Some(Leaf::U32)
-    } else if word == b"u64".as_slice() {
-        Some(Leaf::U64)
-    } else if word == b"u128".as_slice() {
-        Some(Leaf::U128)
-    } else if word == b"usize".as_slice() {
-        Some(Leaf::Usize)
-    } else {
-        None
-    }
-}
-
-// Returns the signed number type with this name.
-fn signed(word: &[u8]) -> Option<Leaf>
-    ensures some { IfSome result (λ l. word.now ≡ leaf_name l) }
-    ensures none { IfNone result (NamesNone word.now signed_leaves) }
-{
-    if word == b"i8".as_slice() {
-        Some(Leaf::I8)
-    } else if word == b"i16".as_slice() {
-        Some(Leaf::I16)
-    } else if word == b"i32".as_slice() {
-        Some(Leaf::I32)
-    } else if word == b"i64".as_slice() {
-        Some(Leaf::I64)
-    } else if word == b"i128".as_slice() {
-        Some(Leaf::I128)
-    } else if word == b"isize".as_slice() {
-        Some(Leaf::Isize)
-    } else {
-        None
-    }
-}
-
-// Returns the other type without parts with this name.
-fn other(word: &[u8]) -> Option<Leaf>
-    ensures some { IfSome result (λ l. word.now ≡ leaf_name l) }
-    ensures none { IfNone result (NamesNone word.now other_leaves) }
-{
-    if word == b"f32".as_slice() {
-        Some(Leaf::F32)
-    } else if word == b"f64".as_slice() {
-        Some(Leaf::F64)
-    } else if word == b"bool".as_slice() {
-        Some(Leaf::Bool)
-    } else if word == b"char".as_slice() {
-        Some(Leaf::Char)
-    } else if word == b"Duration".as_slice() {
-        Some(Leaf::Duration)
-    } else if word == b"String".as_slice() {
-        Some(Leaf::Text(Bounds::Words))
-    } else {
-        None
-    }
-}
-
-// Returns the type without parts with this name.
-fn leaf_of(word: &[u8]) -> Option<Leaf>
-    ensures some { IfSome result (λ l. word.now ≡ leaf_name l) }
-    ensures none { IfNone result (NamesNone word.now unsigned_leaves × (NamesNone word.now signed_leaves × NamesNone word.now other_leaves)) }
-{
-    match unsigned(word) {
-        Some(leaf) => Some(leaf),
-        None => match signed(word) {
-            Some(leaf) => Some(leaf),
-            None => other(word),
-        },
     }
 }
 
@@ -245,6 +186,8 @@ enum Head {
     Vector,
     // `SmallVec`
     Small,
+    // `Repeats`
+    Repeats,
 }
 
 fn head_of(word: &[u8]) -> Option<Head>
@@ -259,6 +202,8 @@ fn head_of(word: &[u8]) -> Option<Head>
         Some(Head::Vector)
     } else if word == b"SmallVec".as_slice() {
         Some(Head::Small)
+    } else if word == b"Repeats".as_slice() {
+        Some(Head::Repeats)
     } else {
         None
     }
@@ -298,29 +243,8 @@ fn texts_at(text: &[u8], at: usize) -> Result<(Schema, usize), Refused>
     Ok((Schema::Simple(Leaf::Text(bounds)), next))
 }
 
-// Returns the refusal of an allocation.
-fn unallocated() -> Refused
-    ensures { result.mistake ≡ Memory }
-{
-    Refused {
-        at: 0,
-        mistake: Mistake::Memory,
-    }
-}
-
-// Moves a part of a type into a box.
-fn boxed(alloc: Global, part: Schema) -> Result<Box<Schema>, Refused>
-    ensures ok { IfOk result (λ b. b.value ≡ part) }
-    ensures err { IfErr result (λ e. e.mistake ≡ Memory) }
-{
-    match Box::new(alloc, part) {
-        Ok(part) => Ok(part),
-        Err(_) => Err(unallocated()),
-    }
-}
-
 // Returns the type with this part.
-#[tactic(auto, using(crate::specs::NameLaws::boxed_named, crate::specs::NameLaws::optional_named, crate::specs::NameLaws::listed_named, crate::specs::NameLaws::numbered_named))]
+#[tactic(auto, using(crate::specs::NameLaws::boxed_named, crate::specs::NameLaws::optional_named, crate::specs::NameLaws::listed_named, crate::specs::NameLaws::numbered_named, crate::specs::NameLaws::repeated_named))]
 fn wrap(alloc: Global, head: Head, lists: Bounds, part: Schema) -> Result<Schema, Refused>
     ensures err { IfErr result (λ e. e.mistake ≡ Memory) }
     ensures ok { IfOk result (λ s. (t : List ℕ) → Names lists a_type t part → Names lists a_type (inside (head_name head) t) s) }
@@ -330,83 +254,7 @@ fn wrap(alloc: Global, head: Head, lists: Bounds, part: Schema) -> Result<Schema
         Head::Optional => Ok(Schema::Optional(boxed(alloc, part)?)),
         Head::Vector => Ok(Schema::Lists(lists, boxed(alloc, part)?)),
         Head::Small => Ok(Schema::Lists(Bounds::Words, boxed(alloc, part)?)),
-    }
-}
-
-// Returns the result type with these parts.
-#[tactic(auto, using(crate::specs::NameLaws::fallible_named))]
-fn fallible(alloc: Global, values: Schema, errors: Schema) -> Result<Schema, Refused>
-    ensures err { IfErr result (λ e. e.mistake ≡ Memory) }
-    ensures ok { IfOk result (λ s. (lists : Bounds) (t u : List ℕ) → Names lists a_type t values → Names lists a_type u errors → Names lists a_type (inside (codes "Result") (with_comma t u)) s) }
-{
-    let values = boxed(alloc, values)?;
-    let errors = boxed(alloc, errors)?;
-    Ok(Schema::Fallible(values, errors))
-}
-
-// Returns the tuple of one field.
-#[tactic(auto, using(crate::specs::NameLaws::solo_named))]
-fn solo(alloc: Global, field: Schema) -> Result<Schema, Refused>
-    ensures err { IfErr result (λ e. e.mistake ≡ Memory) }
-    ensures ok { IfOk result (λ s. (lists : Bounds) (t : List ℕ) → Names lists a_type t field → Names lists a_type (codes "(" ++ (t ++ codes ",)")) s) }
-{
-    Ok(Schema::Solo(Brackets::Square, boxed(alloc, field)?))
-}
-
-// Returns the tuple of these fields.
-#[tactic(auto, using(crate::specs::NameLaws::tuple_named))]
-fn tuple(alloc: Global, first: Schema, others: Schema) -> Result<Schema, Refused>
-    ensures err { IfErr result (λ e. e.mistake ≡ Memory) }
-    ensures ok { IfOk result (λ s. (lists : Bounds) (t u : List ℕ) → Names lists a_type t first → Names lists other_types u others → Names lists a_type (codes "(" ++ (with_comma t u ++ codes ")")) s) }
-{
-    let first = boxed(alloc, first)?;
-    let others = boxed(alloc, others)?;
-    Ok(Schema::Tuple(Brackets::Square, first, others))
-}
-
-// Returns the fields of a tuple: one, and those after it.
-#[tactic(auto, using(crate::specs::NameLaws::beside_named))]
-fn beside(alloc: Global, field: Schema, later: Schema) -> Result<Schema, Refused>
-    ensures err { IfErr result (λ e. e.mistake ≡ Memory) }
-    ensures ok { IfOk result (λ s. (lists : Bounds) (t u : List ℕ) → Names lists a_type t field → Names lists other_types u later → Names lists other_types (with_comma t u) s) }
-{
-    let field = boxed(alloc, field)?;
-    let later = boxed(alloc, later)?;
-    Ok(Schema::Beside(field, later))
-}
-
-// Returns the field with this name.
-#[tactic(auto, using(crate::specs::NameLaws::labelled_named))]
-fn labelled(alloc: Global, name: &[u8], field: Schema) -> Result<Schema, Refused>
-    ensures err { IfErr result (λ e. e.mistake ≡ Memory) }
-    ensures ok { IfOk result (λ s. (lists : Bounds) (t : List ℕ) → is_name name.now ≡ true → Names lists a_type t field → Names lists a_field (name.now ++ (codes ":" ++ t)) s) }
-{
-    let Ok(name) = Vec::from_slice(alloc, name) else {
-        return Err(unallocated());
-    };
-    Ok(Schema::Field(name, boxed(alloc, field)?))
-}
-
-// Returns the fields of a struct: one, and those after it.
-#[tactic(auto, using(crate::specs::NameLaws::fields_named))]
-fn beside_named(alloc: Global, field: Schema, later: Schema) -> Result<Schema, Refused>
-    ensures err { IfErr result (λ e. e.mistake ≡ Memory) }
-    ensures ok { IfOk result (λ s. (lists : Bounds) (t u : List ℕ) → Names lists a_field t field → Names lists all_fields u later → Names lists all_fields (with_comma t u) s) }
-{
-    let field = boxed(alloc, field)?;
-    let later = boxed(alloc, later)?;
-    Ok(Schema::Beside(field, later))
-}
-
-// Returns the type with these fields.
-#[tactic(auto, using(crate::specs::NameLaws::gathered_one, crate::specs::NameLaws::gathered_several))]
-fn gathered(alloc: Global, all: Schema, one: Brackets, several: Brackets) -> Result<Schema, Refused>
-    ensures err { IfErr result (λ e. e.mistake ≡ Memory) }
-    ensures ok { IfOk result (λ s. IsGathered one several all s) }
-{
-    match all {
-        Schema::Beside(first, others) => Ok(Schema::Tuple(several, first, others)),
-        only => Ok(Schema::Solo(one, boxed(alloc, only)?)),
+        Head::Repeats => Ok(Schema::Repeated(boxed(alloc, part)?)),
     }
 }
 
@@ -569,6 +417,9 @@ fn named_fields_at(
         return Ok((field, next));
     }
     let (later, next) = named_fields_at(alloc, text, more, lists, depth, most - 1)?;
+    if shares_name(&field, &later) {
+        return Err(twice(text, at));
+    }
     let schema = beside_named(alloc, field, later)?;
     Ok((schema, next))
 }
@@ -652,6 +503,174 @@ fn struct_at(
     body_at(alloc, text, end, lists, depth)
 }
 
+// Parses the fields of a variant without names after its `(`; returns the variant with the position after it.
+#[cycle(types)]
+fn bare_value_at(
+    alloc: Global,
+    text: &[u8],
+    name: &[u8],
+    at: usize,
+    lists: Bounds,
+    depth: usize,
+) -> Result<(Schema, usize), Refused>
+    requires within { at ≤ length text.now }
+    requires name { is_name name.now ≡ true }
+    ensures { IfOk result (λ p. GoesOn lists a_case (name.now ++ codes "(") text.now at p.0 p.1) }
+{
+    let (all, next) = fields_at(alloc, text, at, lists, depth, 10)?;
+    let next = after(text, next, b')')?;
+    let value = value_of(all, Brackets::Square);
+    let schema = valued(alloc, name, Brackets::Bare, value)?;
+    Ok((schema, next))
+}
+
+// Parses the fields of a variant with names after its `{`; returns the variant with the position after it.
+#[cycle(types)]
+fn named_value_at(
+    alloc: Global,
+    text: &[u8],
+    name: &[u8],
+    at: usize,
+    lists: Bounds,
+    depth: usize,
+) -> Result<(Schema, usize), Refused>
+    requires within { at ≤ length text.now }
+    requires name { is_name name.now ≡ true }
+    ensures { IfOk result (λ p. GoesOn lists a_case (name.now ++ codes "{") text.now at p.0 p.1) }
+{
+    let (all, next) = named_fields_at(alloc, text, at, lists, depth, 10)?;
+    let next = after_fields(text, next)?;
+    let value = value_of(all, Brackets::Bare);
+    let schema = valued(alloc, name, Brackets::Curly, value)?;
+    Ok((schema, next))
+}
+
+// Parses a variant; returns it with the position after it.
+#[cycle(types)]
+#[tactic(auto, using(crate::specs::CaseNameLaws::case_begun, crate::specs::CaseNameLaws::case_bare))]
+fn case_at(
+    alloc: Global,
+    text: &[u8],
+    at: usize,
+    lists: Bounds,
+    depth: usize,
+) -> Result<(Schema, usize), Refused>
+    requires { at ≤ length text.now }
+    ensures { IfOk result (λ p. Reads lists a_case text.now at p.0 p.1) }
+{
+    let (start, end) = name_at(text, at)?;
+    let name = &text[start..end];
+    if stands_at(text, end, b'(') {
+        let next = after(text, end, b'(')?;
+        return bare_value_at(alloc, text, name, next, lists, depth);
+    }
+    if stands_at(text, end, b'{') {
+        let next = after(text, end, b'{')?;
+        return named_value_at(alloc, text, name, next, lists, depth);
+    }
+    Ok((unvalued(alloc, name)?, end))
+}
+
+// Parses variants, at most `most`; returns them with the position after them, before a last comma.
+#[cycle(types)]
+#[tactic(auto, using(crate::specs::CaseNameLaws::last_case_reads, crate::specs::CaseNameLaws::more_cases_read))]
+fn cases_at(
+    alloc: Global,
+    text: &[u8],
+    at: usize,
+    lists: Bounds,
+    depth: usize,
+    most: usize,
+) -> Result<(Schema, usize), Refused>
+    requires within { at ≤ length text.now }
+    requires most { most ≤ 256 }
+    ensures { IfOk result (λ p. Reads lists all_cases text.now at p.0 p.1) }
+{
+    if most == 0 {
+        return Err(Refused {
+            at,
+            mistake: Mistake::Wide,
+        });
+    }
+    let (case, next) = case_at(alloc, text, at, lists, depth)?;
+    if !stands_at(text, next, b',') {
+        return Ok((case, next));
+    }
+    let more = after(text, next, b',')?;
+    if stands_at(text, more, b'}') {
+        return Ok((case, next));
+    }
+    let (later, next) = cases_at(alloc, text, more, lists, depth, most - 1)?;
+    if shares_name(&case, &later) {
+        return Err(twice(text, at));
+    }
+    let schema = beside_case(alloc, case, later)?;
+    Ok((schema, next))
+}
+
+// Parses the rest of an enum after `enum`; returns its type with the position after it.
+#[cycle(types)]
+#[tactic(auto, using(crate::specs::CaseNameLaws::enum_goes_on))]
+fn enum_at(
+    alloc: Global,
+    text: &[u8],
+    at: usize,
+    lists: Bounds,
+    depth: usize,
+) -> Result<(Schema, usize), Refused>
+    requires { at ≤ length text.now }
+    ensures { IfOk result (λ p. GoesOn lists a_type (codes "enum") text.now at p.0 p.1) }
+{
+    let (_start, end) = name_at(text, at)?;
+    let next = after(text, end, b'{')?;
+    let (all, next) = cases_at(alloc, text, next, lists, depth, 256)?;
+    let next = after_fields(text, next)?;
+    let schema = sum(alloc, all)?;
+    Ok((schema, next))
+}
+
+// Parses the array whose items' type starts at the position; returns it with the position after it.
+#[cycle(types)]
+fn array_at(
+    alloc: Global,
+    text: &[u8],
+    at: usize,
+    lists: Bounds,
+    depth: usize,
+) -> Result<(Schema, usize), Refused>
+    requires { at ≤ length text.now }
+    ensures names { IfOk result (λ p. GoesOn lists a_type (codes "[") text.now at p.0 p.1) }
+    ensures whole { ReadsArray lists depth text.now (drop at text.now) result }
+{
+    let (part, next) = type_at(alloc, text, at, lists, depth)?;
+    let next = after(text, next, b';')?;
+    let (items, next) = number_at(text, next, usize::MAX)?;
+    let next = after(text, next, b']')?;
+    let schema = array(alloc, items, part)?;
+    Ok((schema, next))
+}
+
+// Parses the rest of a type of lookbacks, whose name ends at the position; returns it with the position after it.
+#[cycle(types)]
+fn lookbacks_at(
+    alloc: Global,
+    text: &[u8],
+    at: usize,
+    lists: Bounds,
+    depth: usize,
+) -> Result<(Schema, usize), Refused>
+    requires { at ≤ length text.now }
+    ensures names { IfOk result (λ p. GoesOn lists a_type (codes "Lookbacks") text.now at p.0 p.1) }
+    ensures whole { ReadsRecalled lists depth text.now (drop at text.now) result }
+{
+    let next = after(text, at, b'<')?;
+    let (part, next) = type_at(alloc, text, next, lists, depth)?;
+    let next = after_limit(text, next)?;
+    let next = after(text, next, b'>')?;
+    let schema = recalled(alloc, part)?;
+    Ok((schema, next))
+}
+
 // Parses the rest of the type with this name, which ends at the position; returns it with the position after it.
 #[cycle(types)]
 #[tactic(auto, using(crate::specs::NameLaws::leaf_goes_on))]
@@ -682,6 +701,12 @@ fn named(
     if word == b"struct".as_slice() {
         return struct_at(alloc, text, at, lists, depth);
     }
+    if word == b"Lookbacks".as_slice() {
+        return lookbacks_at(alloc, text, at, lists, depth);
+    }
+    if word == b"enum".as_slice() {
+        return enum_at(alloc, text, at, lists, depth.saturating_sub(3));
+    }
     Err(Refused {
         at: at.saturating_sub(word.len()),
         mistake: Mistake::Name,
@@ -711,6 +736,10 @@ fn type_at(
     if stands_at(text, at, b'(') {
         let next = after(text, at, b'(')?;
         return tuple_at(alloc, text, next, lists, depth - 1);
+    }
+    if stands_at(text, at, b'[') {
+        let next = after(text, at, b'[')?;
+        return array_at(alloc, text, next, lists, depth - 1);
     }
     let end = word_end(text, at);
     named(alloc, text, &text[at..end], end, lists, depth - 1)

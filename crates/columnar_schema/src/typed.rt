@@ -12,7 +12,7 @@ use crate::bounds::bounds_slices;
 use crate::judge::rows_of;
 use crate::leaf::leaf_slices;
 use crate::names::push_name;
-use crate::schema::{Bounds, Schema};
+use crate::schema::{Bounds, Leaf, Schema};
 use crate::text::{Mistake, Refused, parse};
 use crate::validation::validate_schema;
 use columnar_core::fault::StoreFault;
@@ -20,7 +20,7 @@ use columnar_core::store::DecodedStore;
 use std::alloc::{AllocError, Global};
 
 // Subtracts the number of slices of the type from `limit`; `None` if there are more.
-#[tactic(auto, using(crate::specs::CountLaws::tuple_count, crate::specs::CountLaws::beside_count, crate::specs::CountLaws::first_counted, crate::specs::CountLaws::others_counted, crate::specs::CountLaws::field_counted, crate::specs::CountLaws::later_counted))]
+#[tactic(auto, using(crate::specs::CountLaws::tuple_count, crate::specs::CountLaws::beside_count, crate::specs::CountLaws::first_counted, crate::specs::CountLaws::others_counted, crate::specs::CountLaws::field_counted, crate::specs::CountLaws::later_counted, crate::specs::BankLaws::sum_count, crate::specs::BankLaws::cases_counted))]
 fn left_of(schema: &Schema, limit: usize) -> Option<usize>
     ensures some { IfSome result (λ n. (format_of schema.now).count + n ≡ limit) }
     ensures none { IfNone result (limit < (format_of schema.now).count) }
@@ -38,6 +38,12 @@ fn left_of(schema: &Schema, limit: usize) -> Option<usize>
         Schema::Tuple(_, first, others) => left_of(others, left_of(first, limit)?),
         Schema::Beside(field, later) => left_of(later, left_of(field, limit)?),
         Schema::Field(_, part) => left_of(part, limit),
+        Schema::Array(_, values) => left_of(values, limit.checked_sub(1)?),
+        Schema::Repeated(values) => left_of(values, limit.checked_sub(3)?),
+        Schema::Recalled(values) => left_of(values, limit.checked_sub(4)?),
+        Schema::Sum(cases) => left_of(cases, limit.checked_sub(2)?),
+        Schema::Named(_) => limit.checked_sub(leaf_slices(Leaf::Unit)),
+        Schema::Case(_, _, part) => left_of(part, limit),
     }
 }
 
@@ -66,8 +72,9 @@ impl Type {
     }
 
     /// Parses a type. `lists` chooses the bounds of `Vec<T>`. Every text without blanks that names a type is read, if
-    /// its types nest at most 64 deep, its tuples have at most ten fields, and it has no struct. A struct has the
-    /// columns of the tuple of its fields.
+    /// its types nest at most 64 deep, its tuples have at most ten fields, its arrays at most 2^64 - 1 items, and it has
+    /// no struct or enum. A struct has the columns of the tuple of its fields, an enum a column for the values of each
+    /// variant.
     ///
     /// # Errors
     /// The first mistake and its position. A type of more than 2^60 slices is `Deep`, at the end of the text; its text

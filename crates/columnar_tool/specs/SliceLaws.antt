@@ -1,8 +1,9 @@
--- The sizes of the slices of a tuple, and their lines.
-use Rattle.std.proofs.Common.{◌≡◌, ℕ, ◌+◌, ◌<◌, List, [], ◌∷◌, ◌++◌, length, get_or, take, refl, sym, arith, append_assoc, append-nil}
+-- The sizes of the slices of a tuple or an enum, and their lines.
+use Rattle.std.proofs.Common.{◌≡◌, ℕ, ◌+◌, ◌<◌, List, [], ◌∷◌, ◌++◌, length, get_or, take, refl, sym, ap, arith, append_assoc, append-nil}
 use Rattle.std.proofs.lemmas.List.{length-take-le, take_more}
 use Rattle.columnar_base.specs.LongTupleLaws.{sides_two, tuple_two}
-use Rattle.columnar_schema.specs.declared.schema.Schema.{Schema, Tuple', Beside'}
+use Rattle.columnar_schema.specs.declared.schema.Schema.{Schema, Tuple', Beside', Sum'}
+use Rattle.columnar_schema.specs.BankLaws.{bank_sizes}
 use Rattle.columnar_schema.specs.Formats.{columns_of, format_of}
 use Rattle.columnar_tool.specs.Slices.{AreSlices, slice_line}
 
@@ -11,6 +12,9 @@ tuple_sizes s {k} {p} {a} {q} {r} e = rw e ((tuple_two (format_of a) (columns_of
 
 pub beside_sizes : (s : Schema) {p : _} {a : Schema} {q : _} {r : Schema} → s ≡ Beside' p a q r → (format_of s).sizes ≡ (format_of a).sizes ++ (format_of r).sizes
 beside_sizes s {p} {a} {q} {r} e = rw e ((sides_two (format_of a) (columns_of r).head (columns_of r).others).sizes)
+
+pub sum_sizes : (s : Schema) {p : _} {t : Schema} → s ≡ Sum' p t → (format_of s).sizes ≡ (format_of t).sizes ++ (1 ∷ 8 ∷ [])
+sum_sizes s {p} {t} e = rw e (ap (λ ns. ns ++ (1 ∷ 8 ∷ [])) (bank_sizes (columns_of t).head (columns_of t).others))
 
 -- one more line
 slices_more : (i k : ℕ) (sizes text name : List ℕ) (size : ℕ) → k ≡ i + length sizes → AreSlices i sizes text → AreSlices i (sizes ++ (size ∷ [])) (text ++ slice_line k name size)

@@ -196,8 +196,8 @@ told_more s wanted path bytes rest store after label line n ok one old mid new t
   printed = appends_both old mid new t.text line t.printed p;
   goes_on =
       λ later more q.
-        let k : Reports s wanted path n (store ∷ stores_in after) (rest_in after) (one && later) (line ++ more) = tested line more one later (rw l at v) q in
-        rw (and_all ok one later, append_assoc t.text line more) (t.goes_on (one && later) (line ++ more) (rw (e, r) k));
+      let k : Reports s wanted path n (store ∷ stores_in after) (rest_in after) (one && later) (line ++ more) = tested line more one later (rw l at v) q in
+      rw (and_all ok one later, append_assoc t.text line more) (t.goes_on (one && later) (line ++ more) (rw (e, r) k));
 }
 
 pub told_all : (s : Schema) (wanted : Wanted) (path bytes rest : List ℕ) (n : ℕ) (ok : Bool) (old new : Option (List ℕ)) → Told s wanted path bytes rest n ok old new → length rest ≡ 0 → IsReport s wanted path bytes ok old new

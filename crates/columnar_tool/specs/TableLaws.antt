@@ -62,11 +62,11 @@ rows_begin : (bytes : List ℕ) (i n : ℕ) → i ≤ n → (rest : List ℕ) ×
 rows_begin bytes i zero l = let e : i ≡ 0 = omega arith in ([], rw e refl)
 rows_begin bytes i (suc n) l =
     ⊎_elim
-        (λ (p : n < i). let e : i ≡ suc n = omega arith in ([], rw e (sym (append-nil (rows_text bytes (suc n))))))
-        (λ (p : i ≤ n).
-            let k = rows_begin bytes i n p in
-            (k.0 ++ row_of bytes n, ap (λ z. z ++ row_of bytes n) k.1 ∙ append_assoc (rows_text bytes i) k.0 (row_of bytes n)))
-        (cases_lt n i)
+    (λ (p : n < i). let e : i ≡ suc n = omega arith in ([], rw e (sym (append-nil (rows_text bytes (suc n))))))
+    (λ (p : i ≤ n).
+    let k = rows_begin bytes i n p in
+    (k.0 ++ row_of bytes n, ap (λ z. z ++ row_of bytes n) k.1 ∙ append_assoc (rows_text bytes i) k.0 (row_of bytes n)))
+    (cases_lt n i)
 
 -- no line was printed after those of the first i slices
 pub rows_begun : (bytes : List ℕ) (i n : ℕ) (old new : Option (List ℕ)) → i ≤ n → Appends old new (rows_text bytes i) → Began old new (rows_text bytes n)
@@ -80,10 +80,10 @@ row_begun bytes i n begin end padding line old mid new l p b e k w q =
     let m : row_text i begin end padding ≡ row_of bytes i = rw (k, b, e) refl in
     let r = rows_begin bytes (suc i) n (omega arith) in
     let s : WentOut old mid (row_of bytes i ++ r.0) (rows_text bytes n) = record {
-          front = rows_text bytes i;
-          split = r.1 ∙ append_assoc (rows_text bytes i) (row_of bytes i) r.0;
-          appended = p;
-        } in
+      front = rows_text bytes i;
+      split = r.1 ∙ append_assoc (rows_text bytes i) (row_of bytes i) r.0;
+      appended = p;
+    } in
     let d = sent_part old mid new (row_of bytes i ++ r.0) (row_of bytes i) r.0 (rows_text bytes n) s refl (rw (w ∙ m) at q) in
     (d.0, d.1.1)
 

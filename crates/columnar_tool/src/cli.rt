@@ -381,10 +381,12 @@ fn no_type<E: Write>(err: &mut E, refused: &Refused) -> u8
 fn tell_mistake<E: Write>(err: &mut E, at: usize, mistake: Mistake) {
     let _written = match mistake {
         Mistake::Memory => writeln!(err, "failed: no memory"),
-        Mistake::Name => writeln!(err, "not a type: expected a type at {at}"),
+        Mistake::Name => writeln!(err, "not a type: expected a type or a name at {at}"),
         Mistake::Wanted(byte) => writeln!(err, "not a type: expected `{}` at {at}", byte as char),
         Mistake::Longer => writeln!(err, "not a type: unexpected text at {at}"),
-        Mistake::Wide => writeln!(err, "not a type: more than ten fields at {at}"),
+        Mistake::Wide => writeln!(err, "not a type: too many fields or variants at {at}"),
         Mistake::Deep => writeln!(err, "not a type: nested too deep at {at}"),
+        Mistake::Number => writeln!(err, "not a type: expected a number at {at}"),
+        Mistake::Twice => writeln!(err, "not a type: the name at {at} stands twice"),
     };
 }

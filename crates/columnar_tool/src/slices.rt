@@ -1,5 +1,5 @@
 //! The slices of a type.
-ghost use Rattle.std.specs.Prelude.{◌≡◌, ◌++◌, IfOk, OnOk, string_bytes};
+ghost use Rattle.std.specs.Prelude.{◌≡◌, ◌∷◌, [], ◌++◌, IfOk, OnOk, string_bytes};
 ghost use Rattle.columnar_schema.specs.Formats.{bounds_format, format_of, leaf_format};
 ghost use Rattle.columnar_tool.specs.Slices.{AreSlices, PrintsSlices, name_text, slice_line};
 
@@ -39,6 +39,13 @@ fn leaf_sizes(leaf: Leaf) -> &'static [usize]
     }
 }
 
+// Appends the element sizes of the variants of rows.
+fn push_forms(sizes: &mut Vec<usize>) -> Result<(), AllocError>
+    ensures { OnOk result (sizes.new.items ≡ sizes.old.items ++ (1 ∷ (8 ∷ []))) }
+{
+    sizes.extend_from_slice(&[1, 8])
+}
+
 // Appends the element size of each slice of a type.
 fn push_sizes(schema: &Schema, sizes: &mut Vec<usize>) -> Result<(), AllocError>
     ensures { OnOk result (sizes.new.items ≡ sizes.old.items ++ (format_of schema.now).sizes) }
@@ -60,6 +67,12 @@ fn push_sizes(schema: &Schema, sizes: &mut Vec<usize>) -> Result<(), AllocError>
         }
         Schema::Solo(_, field) => push_sizes(field, sizes),
         Schema::Field(_, part) => push_sizes(part, sizes),
+        Schema::Case(_, _, part) => push_sizes(part, sizes),
+        Schema::Named(_) => sizes.extend_from_slice(leaf_sizes(Leaf::Unit)),
+        Schema::Sum(cases) => {
+            push_sizes(cases, sizes)?;
+            push_forms(sizes)
+        }
         Schema::Tuple(_, first, others) => {
             push_sizes(first, sizes)?;
             push_sizes(others, sizes)
@@ -67,6 +80,19 @@ fn push_sizes(schema: &Schema, sizes: &mut Vec<usize>) -> Result<(), AllocError>
         Schema::Beside(field, later) => {
             push_sizes(field, sizes)?;
             push_sizes(later, sizes)
+        }
+        Schema::Array(_, values) => {
+            sizes.extend_from_slice(bounds_sizes(Bounds::Words))?;
+            push_sizes(values, sizes)
+        }
+        Schema::Repeated(values) => {
+            sizes.extend_from_slice(bounds_sizes(Bounds::Unaries))?;
+            push_sizes(values, sizes)
+        }
+        Schema::Recalled(values) => {
+            sizes.extend_from_slice(bounds_sizes(Bounds::Unaries))?;
+            push_sizes(values, sizes)?;
+            sizes.extend_from_slice(leaf_sizes(Leaf::U8))
         }
     }
 }

@@ -26,8 +26,11 @@ use columnar_sums::result::Results;
 use columnar_sums::result::bytes::{check_results, judge_results};
 use std::alloc::Global;
 
-// Tests whether each distance reaches a value. Takes one step for each row.
-fn all_reach<E: IndexAs<u8>, CC: Words, RC: Words, WC: Words, L>(
+/// Tests whether each distance is less than the number of values before it. Adds a step for each row to the tally.
+///
+/// # Requires
+/// Well-formed bits, and a distance for each clear bit.
+pub fn all_reach<E: IndexAs<u8>, CC: Words, RC: Words, WC: Words, L>(
     bits: &RankSelect<CC, RC, WC>,
     errs: &E,
     tally: &mut Tally<L>,

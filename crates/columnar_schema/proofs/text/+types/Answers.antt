@@ -1,8 +1,11 @@
 use Rattle.std.specs.Prelude.{codes, nat_eq}
 use Rattle.std.proofs.lemmas.Bool.{eqb-true}
 use Rattle.std.proofs.Common.{rules, ◌≡◌, ◌≢◌, ◌++◌, ◌∷◌, ◌∙◌, true, false, ap, sym, refl, arith, drop, suc, ◌-◌, ◌≤◌}
+use Rattle.columnar_schema.specs.ArrayLaws.{array_goes_on, array_read, opens_square}
 use Rattle.columnar_schema.specs.NameLaws.{object_goes_on, object_named, places_go_on, places_named}
-use Rattle.columnar_schema.specs.ParsingLaws.{begins, no, opens, word_at, begun, fields_end, fields_go, first_field, leaf_done, none_left, nests_some, not_closed, part_done, parts_done, rest_begins, shape_of, some_fields, texts_done, tuple_read}
+use Rattle.columnar_schema.specs.ParsingLaws.{begins, no, opens, word_at, begun, fields_end, fields_go, first_field, leaf_done, lookbacks_done, none_left, nests_some, not_closed, part_done, parts_done, rest_begins, shape_of, some_fields, texts_done, tuple_read}
+use Rattle.columnar_schema.specs.RecalledLaws.{lookbacks_go_on, limit_apart}
+use Rattle.columnar_schema.specs.CaseNameLaws.{bare_goes_on, named_goes_on}
 use Rattle.columnar_schema.proofs.text.+types.Goals as goal
 
 pub fields_at-returns-then-most-eq0-clause-whole : goal.fields_at-returns-then-most-eq0-clause-whole
@@ -57,7 +60,8 @@ pub named-returns-clause-whole : goal.named-returns-clause-whole
 named-returns-clause-whole i c t rest s n w f o most d h a =
     let results : c.args.word.now ≢ codes "Result" = search rules in
     let strings : c.args.word.now ≢ codes "Strings" = search rules in
-    absurd (none_left (shape_of n most c.args.depth rest d h a o) c.args.word.now w c.in_default.ensures.none c.in_default-head_of.ensures.none results strings)
+    let lookbacks : c.args.word.now ≢ codes "Lookbacks" = search rules in
+    absurd (none_left (shape_of n most c.args.depth rest d h a o) c.args.word.now w c.in_default.ensures.none c.in_default-head_of.ensures.none results strings lookbacks)
 
 pub tuple_at-returns-in_err-next-clause-solo : goal.tuple_at-returns-in_err-next-clause-solo
 tuple_at-returns-in_err-next-clause-solo i c t rest s n e h =
@@ -210,16 +214,80 @@ type_at-returns-clause-whole i c t rest s n e h a =
     let there : drop c.after_blanks-at.result c.args.text.now ≡ t ++ rest = ap (λ z. drop z c.args.text.now) same ∙ e in
     let first = begun b c.args.text.now rest c.after_blanks-at.result there in
     let word = word_at c.args.text.now c.after_blanks-at.result c.word_end-end.result (t ++ rest) there c.word_end-end.ensures.ends in
-    c.named.ensures.whole t rest s n word.0 word.1 (λ x q. no (sym c.if-stands_at.false ∙ c.stands_at.ensures 40 _ (there ∙ ap (λ z. z ++ rest) q) refl)) c.args.depth refl h a
+    c.named.ensures.whole t rest s n word.0 word.1 (λ x q. no (sym c.if-stands_at.false ∙ c.stands_at.ensures 40 _ (there ∙ ap (λ z. z ++ rest) q) refl), λ x q. no (sym c.if-stands_at-2.false ∙ c.stands_at-2.ensures 91 _ (there ∙ ap (λ z. z ++ rest) q) refl)) c.args.depth refl h a
+
+pub type_at-returns-in_err-next-2-clause-whole : goal.type_at-returns-in_err-next-2-clause-whole
+type_at-returns-in_err-next-2-clause-whole i c t rest s n e h a =
+    let b = begins n in
+    let same : c.after_blanks-at.result ≡ c.args.at = c.after_blanks-at.ensures.here b.first _ (begun b c.args.text.now rest c.args.at e) b.shows in
+    let there : drop c.after_blanks-at.result c.args.text.now ≡ t ++ rest = ap (λ z. drop z c.args.text.now) same ∙ e in
+    let first = begun b c.args.text.now rest c.after_blanks-at.result there in
+    let stands : true ≡ nat_eq b.first 91 = sym c.if-stands_at-2.true ∙ c.stands_at-2.ensures b.first _ first b.shows in
+    let is : b.first ≡ 91 = eqb-true b.first 91 (sym stands) in
+    absurd (c.in_err-next-2.ensures.passes _ (first ∙ ap (λ k. k ∷ (b.later ++ rest)) is))
+
+pub type_at-returns-then-stands_at-2-clause-whole : goal.type_at-returns-then-stands_at-2-clause-whole
+type_at-returns-then-stands_at-2-clause-whole i c t rest s n e h a =
+    let b = begins n in
+    let same : c.after_blanks-at.result ≡ c.args.at = c.after_blanks-at.ensures.here b.first _ (begun b c.args.text.now rest c.args.at e) b.shows in
+    let there : drop c.after_blanks-at.result c.args.text.now ≡ t ++ rest = ap (λ z. drop z c.args.text.now) same ∙ e in
+    let first = begun b c.args.text.now rest c.after_blanks-at.result there in
+    let stands : true ≡ nat_eq b.first 91 = sym c.if-stands_at-2.true ∙ c.stands_at-2.ensures b.first _ first b.shows in
+    let is : b.first ≡ 91 = eqb-true b.first 91 (sym stands) in
+    let next = c.in_ok-next-2.ensures.passes _ (first ∙ ap (λ k. k ∷ (b.later ++ rest)) is) in
+    array_read n c.args.depth rest c.args.text.now c.in_ok-next-2.next c.array_at.result (ap (λ z. opens_square (z ++ rest)) b.is ∙ sym stands) h (next ∙ sym (ap (λ z. drop 1 (z ++ rest)) b.is)) c.array_at.ensures.whole
 
 pub named-returns-then-eq-3-clause-whole : goal.named-returns-then-eq-3-clause-whole
 named-returns-then-eq-3-clause-whole i c t rest s n w f o most d h a =
     let results : c.args.word.now ≢ codes "Result" = search rules in
     let strings : c.args.word.now ≢ codes "Strings" = search rules in
-    absurd (none_left (shape_of n most c.args.depth rest d h a o) c.args.word.now w c.in_default.ensures.none c.in_default-head_of.ensures.none results strings)
+    let lookbacks : c.args.word.now ≢ codes "Lookbacks" = search rules in
+    absurd (none_left (shape_of n most c.args.depth rest d h a o) c.args.word.now w c.in_default.ensures.none c.in_default-head_of.ensures.none results strings lookbacks)
 
 pub object_at-returns : goal.object_at-returns
 object_at-returns i c = object_goes_on c.args.lists c.args.text.now c.args.at c.in_ok-all.next c.in_ok-next.next c.in_ok-all.all c.in_ok-schema.schema c.in_ok-next.ensures.stands.0 c.in_ok-all.ensures c.in_ok-next.ensures.stands.1 c.in_ok-next.ensures.within (object_named c.in_ok-all.all c.in_ok-schema.schema c.in_ok-next.ensures.stands.0 c.in_ok-schema.ensures.ok)
 
 pub places_at-returns : goal.places_at-returns
 places_at-returns i c = places_go_on c.args.lists c.args.text.now c.args.at c.in_ok-all.next c.in_ok-next.next c.in_ok-next-2.next c.in_ok-all.all c.in_ok-schema.schema c.in_ok-all.ensures.names c.in_ok-next.ensures.stands c.in_ok-next-2.ensures.stands c.in_ok-next-2.ensures.within (places_named c.in_ok-all.all c.in_ok-schema.schema c.in_ok-schema.ensures.ok)
+
+pub array_at-returns-clause-names : goal.array_at-returns-clause-names
+array_at-returns-clause-names i c = array_goes_on c.args.lists c.args.text.now c.args.at c.in_ok-part.next c.in_ok-next.next c.in_ok-items.next c.in_ok-next-2.next c.in_ok-items.items c.in_ok-part.part c.in_ok-schema.schema c.in_ok-part.ensures.names c.in_ok-next.ensures.stands c.in_ok-items.ensures.stands c.in_ok-next-2.ensures.stands c.in_ok-next-2.ensures.within c.in_ok-schema.ensures.ok
+
+pub lookbacks_at-returns-clause-names : goal.lookbacks_at-returns-clause-names
+lookbacks_at-returns-clause-names i c = lookbacks_go_on c.args.lists c.args.text.now c.args.at c.in_ok-next.next c.in_ok-part.next c.in_ok-next-2.next c.in_ok-next-3.next c.in_ok-part.part c.in_ok-schema.schema c.in_ok-next.ensures.stands c.in_ok-part.ensures.names c.in_ok-next-2.ensures.stands c.in_ok-next-3.ensures.stands c.in_ok-next-3.ensures.within c.in_ok-schema.ensures.ok
+
+pub named-returns-then-eq-4-clause-whole : goal.named-returns-then-eq-4-clause-whole
+named-returns-then-eq-4-clause-whole i c t rest s n w f o most d h a = lookbacks_done (shape_of n most c.args.depth rest d h a o) (search rules) c.args.text.now _ (λ t' w' rest' s' n' e. c.lookbacks_at.ensures.whole t' w' rest' s' n' (f ∙ e))
+
+pub named-returns-then-eq-5-clause-whole : goal.named-returns-then-eq-5-clause-whole
+named-returns-then-eq-5-clause-whole i c t rest s n w f o most d h a =
+    let results : c.args.word.now ≢ codes "Result" = search rules in
+    let strings : c.args.word.now ≢ codes "Strings" = search rules in
+    let lookbacks : c.args.word.now ≢ codes "Lookbacks" = search rules in
+    absurd (none_left (shape_of n most c.args.depth rest d h a o) c.args.word.now w c.in_default.ensures.none c.in_default-head_of.ensures.none results strings lookbacks)
+
+pub bare_value_at-returns : goal.bare_value_at-returns
+bare_value_at-returns i c = bare_goes_on c.args.lists c.args.text.now c.args.name.now c.args.at c.in_ok-all.next c.in_ok-next.next c.in_ok-all.all c.value_of-value.result c.in_ok-schema.schema c.requires.name c.in_ok-all.ensures.names c.in_ok-next.ensures.stands c.in_ok-next.ensures.within c.value_of-value.ensures c.in_ok-schema.ensures.ok
+
+pub named_value_at-returns : goal.named_value_at-returns
+named_value_at-returns i c = named_goes_on c.args.lists c.args.text.now c.args.name.now c.args.at c.in_ok-all.next c.in_ok-next.next c.in_ok-all.all c.value_of-value.result c.in_ok-schema.schema c.in_ok-next.ensures.stands.0 c.requires.name c.in_ok-all.ensures c.in_ok-next.ensures.stands.1 c.in_ok-next.ensures.within c.value_of-value.ensures c.in_ok-schema.ensures.ok
+
+pub lookbacks_at-returns-in_err-part-clause-whole : goal.lookbacks_at-returns-in_err-part-clause-whole
+lookbacks_at-returns-in_err-part-clause-whole i c t w rest s n e l h =
+    let failed = c.in_err-part.ensures.whole t (w ++ (62 ∷ rest)) s n (c.in_ok-next.ensures.passes _ e) h (limit_apart rest l) in
+    search rules
+
+pub lookbacks_at-returns-in_err-next-2-clause-whole : goal.lookbacks_at-returns-in_err-next-2-clause-whole
+lookbacks_at-returns-in_err-next-2-clause-whole i c t w rest s n e l h =
+    let part = c.in_ok-part.ensures.whole t (w ++ (62 ∷ rest)) s n (c.in_ok-next.ensures.passes _ e) h (limit_apart rest l) in
+    absurd (c.in_err-next-2.ensures.passes w rest part l)
+
+pub lookbacks_at-returns-in_err-next-3-clause-whole : goal.lookbacks_at-returns-in_err-next-3-clause-whole
+lookbacks_at-returns-in_err-next-3-clause-whole i c t w rest s n e l h =
+    let part = c.in_ok-part.ensures.whole t (w ++ (62 ∷ rest)) s n (c.in_ok-next.ensures.passes _ e) h (limit_apart rest l) in
+    absurd (c.in_err-next-3.ensures.passes _ (c.in_ok-next-2.ensures.passes w rest part l))
+
+pub lookbacks_at-returns-clause-whole : goal.lookbacks_at-returns-clause-whole
+lookbacks_at-returns-clause-whole i c t w rest s n e l h =
+    let part = c.in_ok-part.ensures.whole t (w ++ (62 ∷ rest)) s n (c.in_ok-next.ensures.passes _ e) h (limit_apart rest l) in
+    c.in_ok-next-3.ensures.passes _ (c.in_ok-next-2.ensures.passes w rest part l)

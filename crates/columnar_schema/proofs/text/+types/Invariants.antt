@@ -31,8 +31,29 @@ decreases-body_at l = 1000 * l.depth + 650
 abbrev pub decreases-struct_at : goal.decreases-struct_at
 decreases-struct_at l = 1000 * l.depth + 660
 
+abbrev pub decreases-bare_value_at : goal.decreases-bare_value_at
+decreases-bare_value_at l = 1000 * l.depth + 110
+
+abbrev pub decreases-named_value_at : goal.decreases-named_value_at
+decreases-named_value_at l = 1000 * l.depth + 110
+
+abbrev pub decreases-case_at : goal.decreases-case_at
+decreases-case_at l = 1000 * l.depth + 120
+
+abbrev pub decreases-cases_at : goal.decreases-cases_at
+decreases-cases_at l = 1000 * l.depth + (l.most + 121)
+
+abbrev pub decreases-enum_at : goal.decreases-enum_at
+decreases-enum_at l = 1000 * l.depth + 660
+
 abbrev pub decreases-named : goal.decreases-named
 decreases-named l = 1000 * l.depth + 700
 
 abbrev pub decreases-type_at : goal.decreases-type_at
 decreases-type_at l = 1000 * l.depth
+
+abbrev pub decreases-array_at : goal.decreases-array_at
+decreases-array_at l = 1000 * l.depth + 600
+
+abbrev pub decreases-lookbacks_at : goal.decreases-lookbacks_at
+decreases-lookbacks_at l = 1000 * l.depth + 600

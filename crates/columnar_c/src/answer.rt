@@ -26,7 +26,8 @@ pub struct Fault {
     pub rule: u32,
     /// What is wrong with the text: 1 no name at the position, of a type, a struct, an enum, a field or a variant, 2
     /// another byte is expected there, 3 the text continues after the type, 4 a tuple or a variant has more than ten
-    /// fields, a struct more than a hundred, or an enum more than 256 variants, 5 types are nested too deeply.
+    /// fields, a struct more than a hundred, or an enum more than 256 variants, 5 types are nested too deeply,
+    /// 6 there is no number at the position, or it is too large, 7 the name there stands again later.
     pub mistake: u32,
     /// The slice that breaks the rule.
     pub slice: usize,

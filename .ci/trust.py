@@ -145,13 +145,13 @@ def modules():
 
 @functools.cache
 def passed_on():
-    """Returns, by crate and module, the crate and module that a crate's Lib.antt re-exports."""
+    """Returns, by crate and module, the crate and module that a crate's Lib.antt re-exports, under their name or another."""
     found = {}
     for crate in libraries():
         lib = f"crates/{crate}/specs/Lib.antt"
         if os.path.isfile(f"{ROOT}/{lib}"):
-            for other, name in re.findall(r"(?m)^pub use Rattle\.(\w+)\.specs\.(\w+)$", read(lib)):
-                found[crate, name] = other, name
+            for other, name, alias in re.findall(r"(?m)^pub use Rattle\.(\w+)\.specs\.(\w+)(?: as (\w+))?$", read(lib)):
+                found[crate, alias or name] = other, name
     return found
 
 

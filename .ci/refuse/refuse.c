@@ -1,6 +1,7 @@
 // Refuses one request for memory, and counts all of them. Preloaded into a program, it stands in front of malloc, calloc
 // and realloc. The environment names the request that is refused, from 1 on, as REFUSE (0: none), and a file to which the
-// number of all requests is written when the program ends, as REFUSE_COUNT.
+// number of all requests is written when the program ends, as REFUSE_COUNT. A request of the size SHUT, which is refused, shuts the
+// allocator: from there on it refuses all, until a request of the size OPEN. How often it was shut is written to the file REFUSE_SHUT.
 #include <errno.h>
 #include <fcntl.h>
 #include <stddef.h>
@@ -11,38 +12,47 @@ extern void *__libc_malloc(size_t size);
 extern void *__libc_calloc(size_t count, size_t size);
 extern void *__libc_realloc(void *old, size_t size);
 
+static const size_t SHUT = 0x4B6176696E740001;
+static const size_t OPEN = 0x4B6176696E740002;
+
 static unsigned long made;
 static unsigned long refused;
+static unsigned long shut;
 static int is_read;
+static int is_shut;
 
-static int is_refused(void) {
+static int is_refused(size_t size) {
+    if (size == SHUT || size == OPEN) {
+        is_shut = size == SHUT;
+        shut += size == SHUT;
+        errno = ENOMEM;
+        return 1;
+    }
     if (!is_read) {
         const char *wanted = getenv("REFUSE");
         refused = wanted ? strtoul(wanted, NULL, 10) : 0;
         is_read = 1;
     }
     made += 1;
-    if (made != refused) {
+    if (made != refused && !is_shut) {
         return 0;
     }
     errno = ENOMEM;
     return 1;
 }
 
-void *malloc(size_t size) { return is_refused() ? NULL : __libc_malloc(size); }
+void *malloc(size_t size) { return is_refused(size) ? NULL : __libc_malloc(size); }
 
-void *calloc(size_t count, size_t size) { return is_refused() ? NULL : __libc_calloc(count, size); }
+void *calloc(size_t count, size_t size) { return is_refused(size) ? NULL : __libc_calloc(count, size); }
 
-void *realloc(void *old, size_t size) { return is_refused() ? NULL : __libc_realloc(old, size); }
+void *realloc(void *old, size_t size) { return is_refused(size) ? NULL : __libc_realloc(old, size); }
 
-__attribute__((destructor)) static void report(void) {
-    const char *path = getenv("REFUSE_COUNT");
+static void tell(const char *path, unsigned long left) {
     if (!path) {
         return;
     }
     char digits[24];
     size_t start = sizeof digits;
-    unsigned long left = made;
     digits[--start] = '\n';
     do {
         digits[--start] = (char)('0' + left % 10);
@@ -55,4 +65,9 @@ __attribute__((destructor)) static void report(void) {
     ssize_t written = write(file, digits + start, sizeof digits - start);
     (void)written;
     close(file);
+}
+
+__attribute__((destructor)) static void report(void) {
+    tell(getenv("REFUSE_COUNT"), made);
+    tell(getenv("REFUSE_SHUT"), shut);
 }

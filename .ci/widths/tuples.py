@@ -43,6 +43,31 @@ def halves(part, width, wide):
     return fill(f"let later = ⟨nest[{half}:]: {part}⟩;\n", width), fill(f"⟨nest[:{half + 1}]: {part} | later⟩", width)
 
 
+def nested_room(width, law, column, fact, cut="", first=0):
+    """Returns the proof of a fact about the room of nested parts, by a law for two parts; `column` is the type of a part, `cut` the number of
+    rows that stay, if the law has one."""
+    if first == width - 1:
+        return fill(fact, width, [first])
+    text = f"({law} ⟨[:1]: g.{column}.Column.format⟩ (nested ⟨1+list[1:]: g.{column}.Column.format⟩) {cut}{fact} {nested_room(width, law, column, fact, cut, first + 1)})"
+    return fill(text, width, range(first, width))
+
+
+def reserved(width):
+    """Returns the proof that each part has its reserved room if the last call is Ok: each call is Ok only if the one before it was."""
+    calls = ["c.reserve_room-done", *(f"c.reserve_after-done{f'-{at}' if at > 1 else ''}" for at in range(1, width - 1)), "c.reserve_after"]
+
+    def part(at):
+        text = f"{calls[at]}.ensures.room"
+        for later in range(at + 1, width):
+            text = f"(on_earlier _ {calls[later]}.result {calls[later - 1]}.result {calls[later]}.ensures.earlier {text})"
+        return text
+
+    text = part(width - 1)
+    for at in reversed(range(width - 1)):
+        text = f"(both_covered _ _ _ _ _ _ {calls[-1]}.result {part(at)} {text})"
+    return text[1:-1]
+
+
 def core(width):
     check, check_parts = "check_tuple", "check_tuple(&⟨nest: &self.$0 | (&self.$0,)⟩, from, tally)"
     if width >= HALVES_CHECK:
@@ -60,4 +85,4 @@ def made():
     for width in WIDTHS:
         yield f"crates/columnar_base/src/tuple/{NUMBERS[width]}.rt", "base", base(width)
         yield f"crates/columnar_core/src/tuple/{NUMBERS[width]}.rt", "core", core(width)
-    yield from answers("answers")
+    yield from answers("answers", lambda width: {"added": nested_room(width, "pair_adds_room", "$P", "c.add_room⟨[:1]: $-2⟩.ensures"), "freed": nested_room(width, "pair_frees", "$A", "c.clear⟨[:1]: $-2⟩.ensures.freed", "0 "), "cut_freed": nested_room(width, "pair_frees", "$A", "c.truncate⟨[:1]: $-2⟩.ensures.freed", "c.args.n "), "reserved": reserved(width)})

@@ -4,6 +4,11 @@ pub use Rattle.columnar_core.specs.Texts
 pub use Rattle.columnar_core.specs.Frame
 pub use Rattle.columnar_core.specs.Change
 pub use Rattle.columnar_core.specs.ChangeLaws
+pub use Rattle.columnar_core.specs.Room
+pub use Rattle.columnar_core.specs.RoomLaws
+pub use Rattle.columnar_bits.specs.Rooms as BitRooms
+pub use Rattle.columnar_lists.specs.Rooms as ListRooms
+pub use Rattle.columnar_sums.specs.Rooms as SumRooms
 pub use Rattle.columnar_core.specs.AlikeLaws
 pub use Rattle.columnar_bytes.specs.Accepted
 pub use Rattle.columnar_bytes.specs.Stashes
@@ -152,6 +157,7 @@ pub use Rattle.columnar_bytes.specs.StreamFaults
 pub use Rattle.columnar_bytes.specs.StoresLeft
 pub use Rattle.columnar_bytes.specs.Exact
 pub use Rattle.columnar_names.specs.Kept
+pub use Rattle.columnar_names.specs.Names
 pub use Rattle.columnar_operators.specs.Partly
 pub use Rattle.columnar_operators.specs.Picks
 pub use Rattle.columnar_operators.specs.PickLaws

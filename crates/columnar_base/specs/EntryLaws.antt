@@ -9,6 +9,8 @@ use Rattle.columnar_base.specs.Tuples.{tuples}
 use Rattle.columnar_base.specs.TupleLaws.{length-tuples, length-piece, tuples-drop, tuples-take, pair_parts, pair_copied, pair_refused_left, pair_refused_right}
 use Rattle.columnar_base.specs.LongTuples.{nested, tuple_format, PartOf, Parts}
 use Rattle.columnar_base.specs.LongTupleLaws.{tuple_same, tuple_parts, under_took, under_copied, under_refused, up_to}
+use Rattle.columnar_base.specs.Room.{WasFull, Leaves, Frees, AddsRoom, pair_room}
+use Rattle.columnar_base.specs.RoomLaws.{pair_leaves, pair_full_left, pair_full_right}
 use Rattle.columnar_base.specs.Entries.{Entry, pushed, piece, entry_pieces, HasPiece, HavePieces, Level, joined_entry, Entered}
 
 -- one item, pushed
@@ -53,6 +55,16 @@ first_refused a b fs p q qs s l g = pair_refused_left a (nested b fs) p.rows (jo
 -- The others refused, and the first part was cut back.
 pub others_refused : (a b : Format) (fs : List Format) {x y m v w : Content} (p q : Entry) (qs : List Entry) {error : GrowError} → IsLawful a → IsSound (nested a (b ∷ fs)) (both x y) → Level p (q ∷ qs) → Entered a x m p → WasCut a m v (length (a.rows x)) → Refused (nested b fs) y w (joined_entry q qs).rows error → Refused (nested a (b ∷ fs)) (both x y) (both v w) (joined_entry p (q ∷ qs)).rows error
 others_refused a b fs p q qs law s l g k h = pair_refused_right a (nested b fs) p.rows (joined_entry q qs).rows s (level_rows p q qs l) (undone law (first_sound a b fs s) g.took.grew k) h
+
+-- the same of room
+pub next_leaves : {a b a' b' : List Row → Type 0} (p q : Entry) (qs : List Entry) → Level p (q ∷ qs) → Leaves a a' p.rows → Leaves b b' (joined_entry q qs).rows → Leaves (pair_room a b) (pair_room a' b') (joined_entry p (q ∷ qs)).rows
+next_leaves p q qs l g h = pair_leaves p.rows (joined_entry q qs).rows (level_rows p q qs l) g h
+
+pub first_full : {a : List Row → Type 0} (b : List Row → Type 0) {error : GrowError} (p q : Entry) (qs : List Entry) → Level p (q ∷ qs) → WasFull a p.rows error → WasFull (pair_room a b) (joined_entry p (q ∷ qs)).rows error
+first_full b p q qs l g = pair_full_left b p.rows (joined_entry q qs).rows (level_rows p q qs l) g
+
+pub others_full : (a : List Row → Type 0) {b : List Row → Type 0} {error : GrowError} (p q : Entry) (qs : List Entry) → Level p (q ∷ qs) → WasFull b (joined_entry q qs).rows error → WasFull (pair_room a b) (joined_entry p (q ∷ qs)).rows error
+others_full a p q qs l g = pair_full_right a p.rows (joined_entry q qs).rows (level_rows p q qs l) g
 
 -- the result of a push of all parts, stated for the tuple
 pub took_on_ok : {T : Type 0} (a b : Format) (fs : List Format) (x y : Content) (p : Entry) (r : Result T GrowError) → OnOk r (Entered (nested a (b ∷ fs)) x y p) → OnOk r (Took (tuple_format a b fs) x y p.rows)
@@ -107,3 +119,18 @@ copied_on_ok a b fs c d a' b' fs' start stop s (Err e) h = tt
 pub copy_refused : {T : Type 0} (a b : Format) (fs : List Format) (c d : Content) (a' b' : Format) (fs' : List Format) {v w : Content} (start stop : ℕ) → IsSound (tuple_format a' b' fs') (both v w) → (r : Result T GrowError) → IfErr r (λ e. Refused (nested a (b ∷ fs)) c d (joined_entry (piece a' v start stop) (entry_pieces b' fs' w start stop)).rows e) → IfErr r (λ e. Refused (tuple_format a b fs) c d (take (stop - start) (drop start (tuples (a'.rows v) ((nested b' fs').rows w)))) e)
 copy_refused a b fs c d a' b' fs' start stop s (Ok u) h = tt
 copy_refused a b fs c d a' b' fs' start stop s (Err e) h = rw (views_rows a' b' fs' start stop s) at (under_refused (tuple_same a b fs) h)
+
+-- room for what a copy of all parts adds, said of the tuple
+pub copied_leaves : {T : Type 0} (x y : List Row → Type 0) (a' b' : Format) (fs' : List Format) {v w : Content} (start stop : ℕ) → IsSound (tuple_format a' b' fs') (both v w) → (r : Result T GrowError) → OnOk r (Leaves x y (joined_entry (piece a' v start stop) (entry_pieces b' fs' w start stop)).rows) → OnOk r (Leaves x y (take (stop - start) (drop start (tuples (a'.rows v) ((nested b' fs').rows w)))))
+copied_leaves x y a' b' fs' start stop s (Ok u) h = rw (views_rows a' b' fs' start stop s) at h
+copied_leaves x y a' b' fs' start stop s (Err e) h = tt
+
+pub copied_full : {T : Type 0} (x : List Row → Type 0) (a' b' : Format) (fs' : List Format) {v w : Content} (start stop : ℕ) → IsSound (tuple_format a' b' fs') (both v w) → (r : Result T GrowError) → IfErr r (WasFull x (joined_entry (piece a' v start stop) (entry_pieces b' fs' w start stop)).rows) → IfErr r (WasFull x (take (stop - start) (drop start (tuples (a'.rows v) ((nested b' fs').rows w)))))
+copied_full x a' b' fs' start stop s (Ok u) h = tt
+copied_full x a' b' fs' start stop s (Err e) h = rw (views_rows a' b' fs' start stop s) at h
+
+pub tuple_adds_room : (a b : Format) (fs : List Format) {c : Content} {x y : List Row → Type 0} → AddsRoom (nested a (b ∷ fs)) c x y → AddsRoom (tuple_format a b fs) c x y
+tuple_adds_room a b fs {c} p = record { adds = λ s rs h. p.adds ((tuple_same a b fs).back c s) rs h }
+
+pub tuple_frees : (a b : Format) (fs : List Format) {c : Content} {x y : List Row → Type 0} (n : ℕ) → Frees (nested a (b ∷ fs)) c n x y → Frees (tuple_format a b fs) c n x y
+tuple_frees a b fs {c} n p = record { frees = λ s rs h. p.frees ((tuple_same a b fs).back c s) rs h }

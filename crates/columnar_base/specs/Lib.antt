@@ -1,3 +1,5 @@
+pub mod Room
+pub mod RoomLaws
 pub mod Row
 pub mod RowLaws
 pub mod Format

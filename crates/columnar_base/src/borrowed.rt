@@ -12,6 +12,8 @@ impl<'a, T: Element> Column for &'a [T] {
     ghost format = { elements_format T.size T.align T.row_of };
 
     ghost content = { λ s. elements T.le_bytes s.now };
+
+    ghost room = { λ c rs. ⊥ };
 }
 
 impl<'a, T: Element> Len for &'a [T] {
@@ -39,6 +41,8 @@ impl<T: Element, const N: usize> Column for [T; N] {
     ghost format = { elements_format T.size T.align T.row_of };
 
     ghost content = { λ s. elements T.le_bytes s };
+
+    ghost room = { λ c rs. ⊥ };
 }
 
 impl<T: Element, const N: usize> Len for [T; N] {
@@ -59,6 +63,8 @@ impl<'a, C: Column> Column for &'a C {
     ghost format = { C.format };
 
     ghost content = { λ c. C.content c.now };
+
+    ghost room = { λ c rs. ⊥ };
 }
 
 impl<'a, C: Len> Len for &'a C {
@@ -71,6 +77,8 @@ impl<'a, C: Column> Column for &'a mut C {
     ghost format = { C.format };
 
     ghost content = { λ c. C.content c.now };
+
+    ghost room = { λ c rs. ⊥ };
 }
 
 impl<'a, C: Len> Len for &'a mut C {
@@ -106,6 +114,8 @@ impl<C: Column> Column for Rc<C> {
     ghost format = { C.format };
 
     ghost content = { λ r. C.content r.value };
+
+    ghost room = { λ c rs. ⊥ };
 }
 
 impl<C: Len> Len for Rc<C> {

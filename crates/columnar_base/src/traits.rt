@@ -5,6 +5,7 @@ ghost use Rattle.std.specs.Iterator.{IsFinite, HoldsAlong, Drains, Yields};
 ghost use Rattle.columnar_base.specs.Row.{Row};
 ghost use Rattle.columnar_base.specs.Format.{Content, Format, IsSound};
 ghost use Rattle.columnar_base.specs.Change.{Took, Refused, StoppedAt};
+ghost use Rattle.columnar_base.specs.Room.{WasFull, Leaves, Frees};
 
 use crate::fault::GrowError;
 use crate::iter::IterOwn;
@@ -17,6 +18,9 @@ pub trait Item {
 
     // what its reads require: a view inside it is well-formed
     ghost valid: { Self → Type 0 };
+
+    // a push allocates nothing but room for its row
+    ghost unbuffered: { Type 0 } = { Unit {0} };
 }
 
 /// A list of rows, stored in a few slices.
@@ -26,6 +30,9 @@ pub trait Column {
 
     // what this value holds
     ghost content: { Self → Content };
+
+    // these rows, pushed in this order, need no allocation
+    ghost room: { Self → List Row → Type 0 };
 }
 
 /// A column with a length.
@@ -52,10 +59,11 @@ pub trait Len: Column {
 
 /// A column that can be emptied.
 pub trait Clear: Column {
-    /// Removes all rows and leaves a well-formed column; allocates nothing.
+    /// Removes all rows and leaves a well-formed column; allocates nothing. There is room for the removed rows again.
     fn clear(&mut self)
         ensures sound { IsSound Self.format (Self.content self.new) }
-        ensures rows { Self.format.rows (Self.content self.new) ≡ [] };
+        ensures rows { Self.format.rows (Self.content self.new) ≡ [] }
+        ensures freed { Frees Self.format (Self.content self.old) 0 (Self.room self.old) (Self.room self.new) };
 }
 
 /// A column that takes items of type `T`.
@@ -66,13 +74,15 @@ pub trait Push<T: Item>: Column {
     /// A well-formed column, and a valid item.
     ///
     /// # Errors
-    /// `Memory`; `Length` or `Offset` only if the column cannot hold the rows together. The rows and the lengths of all
-    /// parts stay.
+    /// `Memory` only if the column has no room for the row; `Length` or `Offset` only if the column cannot hold the rows
+    /// together. The rows and the lengths of all parts stay.
     fn push(&mut self, item: T) -> Result<(), GrowError>
         requires sound { IsSound Self.format (Self.content self.old) }
         requires valid { T.valid item }
         ensures ok { OnOk result (Took Self.format (Self.content self.old) (Self.content self.new) (T.meaning item ∷ [])) }
-        ensures err { IfErr result (λ e. Refused Self.format (Self.content self.old) (Self.content self.new) (T.meaning item ∷ []) e) };
+        ensures err { IfErr result (λ e. Refused Self.format (Self.content self.old) (Self.content self.new) (T.meaning item ∷ []) e) }
+        ensures wanted { T.unbuffered → IfErr result (WasFull (Self.room self.old) (T.meaning item ∷ [])) }
+        ensures left { OnOk result (Leaves (Self.room self.old) (Self.room self.new) (T.meaning item ∷ [])) };
 
     /// Pushes the items in order.
     ///
@@ -88,6 +98,8 @@ pub trait Push<T: Item>: Column {
         requires valid { HoldsAlong I.next_gives items (All T.valid) }
         ensures ok { OnOk result ((xs : List T) × (Drains I.next_gives items xs × Took Self.format (Self.content self.old) (Self.content self.new) (map T.meaning xs))) }
         ensures err { IfErr result (λ e. (xs : List T) × (rest : I) × (Yields I.next_gives items xs rest × StoppedAt Self.format (Self.content self.old) (Self.content self.new) (map T.meaning xs) e)) }
+        ensures wanted { T.unbuffered → IfErr result (λ e. (xs : List T) × (rest : I) × (Yields I.next_gives items xs rest × (StoppedAt Self.format (Self.content self.old) (Self.content self.new) (map T.meaning xs) e × WasFull (Self.room self.old) (map T.meaning xs) e))) }
+        ensures left { OnOk result ((xs : List T) × (Drains I.next_gives items xs × (Took Self.format (Self.content self.old) (Self.content self.new) (map T.meaning xs) × Leaves (Self.room self.old) (Self.room self.new) (map T.meaning xs)))) }
     {
         for item in items {
             self.push(item)?;
@@ -111,7 +123,9 @@ pub trait PushInto<C: Column>: Item {
         requires sound { IsSound C.format (C.content column.old) }
         requires valid { Self.valid self }
         ensures ok { OnOk result (Took C.format (C.content column.old) (C.content column.new) (Self.meaning self ∷ [])) }
-        ensures err { IfErr result (λ e. Refused C.format (C.content column.old) (C.content column.new) (Self.meaning self ∷ []) e) };
+        ensures err { IfErr result (λ e. Refused C.format (C.content column.old) (C.content column.new) (Self.meaning self ∷ []) e) }
+        ensures wanted { Self.unbuffered → IfErr result (WasFull (C.room column.old) (Self.meaning self ∷ [])) }
+        ensures left { OnOk result (Leaves (C.room column.old) (C.room column.new) (Self.meaning self ∷ [])) };
 }
 
 /// Pushes items by reference, for callers that cannot name the lifetime in `Push<&T>`.
@@ -127,7 +141,9 @@ pub trait PushRef<T: Item>: Column {
         requires sound { IsSound Self.format (Self.content self.old) }
         requires valid { T.valid item.now }
         ensures ok { OnOk result (Took Self.format (Self.content self.old) (Self.content self.new) (T.meaning item.now ∷ [])) }
-        ensures err { IfErr result (λ e. Refused Self.format (Self.content self.old) (Self.content self.new) (T.meaning item.now ∷ []) e) };
+        ensures err { IfErr result (λ e. Refused Self.format (Self.content self.old) (Self.content self.new) (T.meaning item.now ∷ []) e) }
+        ensures wanted { T.unbuffered → IfErr result (WasFull (Self.room self.old) (T.meaning item.now ∷ [])) }
+        ensures left { OnOk result (Leaves (Self.room self.old) (Self.room self.new) (T.meaning item.now ∷ [])) };
 
     /// Appends rows that represent the items, one each and in order, or none. In contrast, a push of a slice appends
     /// one row, a list.
@@ -144,6 +160,8 @@ pub trait PushRef<T: Item>: Column {
         requires valid { All T.valid items.now }
         ensures ok { OnOk result (Took Self.format (Self.content self.old) (Self.content self.new) (map T.meaning items.now)) }
         ensures err { IfErr result (λ e. Refused Self.format (Self.content self.old) (Self.content self.new) (map T.meaning items.now) e) }
+        ensures wanted { T.unbuffered → IfErr result (WasFull (Self.room self.old) (map T.meaning items.now)) }
+        ensures left { OnOk result (Leaves (Self.room self.old) (Self.room self.new) (map T.meaning items.now)) }
     {
         let before = self.len();
         for i in 0..items.len() {
@@ -309,4 +327,6 @@ impl<'x, T: Item> Item for &'x T {
     ghost meaning = { λ x. T.meaning x.now };
 
     ghost valid = { λ x. T.valid x.now };
+
+    ghost unbuffered = { T.unbuffered };
 }

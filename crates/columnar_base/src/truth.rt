@@ -16,10 +16,14 @@ impl<T: Item> Item for Option<T> {
     ghost meaning = { option_row T.meaning };
 
     ghost valid = { option_valid T.valid };
+
+    ghost unbuffered = { T.unbuffered };
 }
 
 impl<T: Item, E: Item> Item for Result<T, E> {
     ghost meaning = { result_row T.meaning E.meaning };
 
     ghost valid = { result_valid T.valid E.valid };
+
+    ghost unbuffered = { T.unbuffered × E.unbuffered };
 }

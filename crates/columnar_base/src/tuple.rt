@@ -1,11 +1,12 @@
 //! Tuples of columns of equal length: columns of tuples.
-ghost use Rattle.std.specs.Prelude.{◌≡◌, ◌≤◌, length, List, [], ◌∷◌, Ok, OnOk, IfOk, IfErr};
-ghost use Rattle.columnar_base.specs.Row.{tuple};
+ghost use Rattle.std.specs.Prelude.{◌≡◌, ◌≤◌, length, List, [], ◌∷◌, Ok, OnOk, IfOk, IfErr, IsOk};
+ghost use Rattle.columnar_base.specs.Row.{Row, tuple};
 ghost use Rattle.columnar_base.specs.Format.{both, IsSound};
 ghost use Rattle.columnar_base.specs.Change.{Refused, Stayed, WasCut};
 ghost use Rattle.columnar_base.specs.Tuples.{pair_format};
 ghost use Rattle.columnar_base.specs.TupleLaws.{pair_lawful};
 ghost use Rattle.columnar_base.specs.Entries.{Entry, Entered, Level, joined_entry, pushed};
+ghost use Rattle.columnar_base.specs.Room.{WasFull, Leaves, KeepsRoom, pair_room};
 
 use crate::fault::GrowError;
 use crate::storage::{Reserve, Storage, Truncate};
@@ -27,6 +28,8 @@ impl<S: Item, T: Item> Item for (S, T) {
     ghost meaning = { λ p. tuple (S.meaning p.0) (T.meaning p.1) };
 
     ghost valid = { λ p. S.valid p.0 × T.valid p.1 };
+
+    ghost unbuffered = { S.unbuffered × T.unbuffered };
 }
 
 /// The slices of the first part, then those of the second. Each row is the tuple of the parts' rows.
@@ -34,6 +37,8 @@ impl<A: Column, B: Column> Column for (A, B) {
     ghost format = { pair_format A.format B.format };
 
     ghost content = { λ c. both (A.content c.0) (B.content c.1) };
+
+    ghost room = { λ c. pair_room (A.room c.0) (B.room c.1) };
 }
 
 impl<A: Len, B: Len> Len for (A, B) {
@@ -116,6 +121,10 @@ impl<A: Storage, B: Storage> Storage for (A, B) {
 impl<A: Reserve, B: Reserve> Reserve for (A, B) {
     type Room = (A::Room, B::Room);
 
+    ghost reserves = { A.reserves × B.reserves };
+
+    ghost covers = { λ r. pair_room (A.covers r.0) (B.covers r.1) };
+
     fn no_room() -> (A::Room, B::Room) {
         (A::no_room(), B::no_room())
     }
@@ -142,6 +151,9 @@ pub trait Enter<C: Column> {
     // what it requires
     ghost valid: { Self → Type 0 };
 
+    // `enter` allocates nothing but room for the rows
+    ghost unbuffered: { Type 0 } = { Unit {0} };
+
     /// Appends rows that represent those of the entry, one each, or none.
     ///
     /// # Requires
@@ -153,7 +165,9 @@ pub trait Enter<C: Column> {
         requires sound { IsSound C.format (C.content column.old) }
         requires valid { Self.valid self }
         ensures ok { OnOk result (Entered C.format (C.content column.old) (C.content column.new) (Self.entry self)) }
-        ensures err { IfErr result (λ e. Refused C.format (C.content column.old) (C.content column.new) (Self.entry self).rows e) };
+        ensures err { IfErr result (λ e. Refused C.format (C.content column.old) (C.content column.new) (Self.entry self).rows e) }
+        ensures wanted { Self.unbuffered → IfErr result (WasFull (C.room column.old) (Self.entry self).rows) }
+        ensures left { OnOk result (Leaves (C.room column.old) (C.room column.new) (Self.entry self).rows) };
 }
 
 /// An item to push by value.
@@ -164,6 +178,8 @@ impl<T: Item, C: Push<T>> Enter<C> for ByValue<T> {
     ghost entry = { λ v. pushed (T.meaning v.0) };
 
     ghost valid = { λ v. T.valid v.0 };
+
+    ghost unbuffered = { T.unbuffered };
 
     #[inline(always)]
     fn enter(self, column: &mut C) -> Result<(), GrowError> {
@@ -179,6 +195,8 @@ impl<'x, T: Item, C: PushRef<T>> Enter<C> for ByRef<'x, T> {
     ghost entry = { λ v. pushed (T.meaning v.0.now) };
 
     ghost valid = { λ v. T.valid v.0.now };
+
+    ghost unbuffered = { T.unbuffered };
 
     #[inline(always)]
     fn enter(self, column: &mut C) -> Result<(), GrowError> {
@@ -224,6 +242,8 @@ pub fn reserve_after<A: Reserve>(
     requires memory { IfErr earlier (λ e. e ≡ GrowError.Memory) }
     ensures stayed { Stayed A.format (A.content part.old) (A.content part.new) }
     ensures memory { IfErr result (λ e. e ≡ GrowError.Memory) }
+    ensures earlier { OnOk result (IsOk earlier) }
+    ensures room { OnOk result (A.reserves → KeepsRoom (A.covers room) (A.room part.new)) }
 {
     earlier?;
     part.reserve_room(room)
@@ -264,6 +284,8 @@ pub fn enter_two<A: Truncate, B: Column, P: Enter<A>, Q: Enter<B> + Drop>(
     requires level { Level (P.entry p) (Q.entry q ∷ []) }
     ensures ok { OnOk result (Entered (pair_format A.format B.format) (both (A.content first.old) (B.content second.old)) (both (A.content first.new) (B.content second.new)) (joined_entry (P.entry p) (Q.entry q ∷ []))) }
     ensures err { IfErr result (λ e. Refused (pair_format A.format B.format) (both (A.content first.old) (B.content second.old)) (both (A.content first.new) (B.content second.new)) (joined_entry (P.entry p) (Q.entry q ∷ [])).rows e) }
+    ensures wanted { P.unbuffered × Q.unbuffered → IfErr result (WasFull (pair_room (A.room first.old) (B.room second.old)) (joined_entry (P.entry p) (Q.entry q ∷ [])).rows) }
+    ensures left { OnOk result (Leaves (pair_room (A.room first.old) (B.room second.old)) (pair_room (A.room first.new) (B.room second.new)) (joined_entry (P.entry p) (Q.entry q ∷ [])).rows) }
 {
     let before = first.len();
     p.enter(first)?;

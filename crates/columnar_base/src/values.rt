@@ -68,6 +68,8 @@ impl<'x, T: Item> Item for &'x [T] {
     ghost meaning = { λ s. list (map T.meaning s.now) };
 
     ghost valid = { λ s. All T.valid s.now };
+
+    ghost unbuffered = { T.unbuffered };
 }
 
 /// Its row is that of the boxed value.
@@ -75,6 +77,8 @@ impl<T: Item> Item for Box<T> {
     ghost meaning = { λ b. T.meaning b.value };
 
     ghost valid = { λ b. T.valid b.value };
+
+    ghost unbuffered = { T.unbuffered };
 }
 
 /// Its row is the list of its items' rows.
@@ -82,6 +86,8 @@ impl<T: Item> Item for Vec<T> {
     ghost meaning = { λ v. list (map T.meaning v.items) };
 
     ghost valid = { λ v. All T.valid v.items };
+
+    ghost unbuffered = { T.unbuffered };
 }
 
 /// Its row is the list of its items' rows.
@@ -89,6 +95,8 @@ impl<T: Item, const N: usize> Item for SmallVec<T, N> {
     ghost meaning = { λ v. list (map T.meaning v.items) };
 
     ghost valid = { λ v. All T.valid v.items };
+
+    ghost unbuffered = { T.unbuffered };
 }
 
 /// Its row is the list of its bytes.

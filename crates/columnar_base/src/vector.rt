@@ -1,6 +1,8 @@
 //! Columns of elements in a `Vec`.
 ghost use Rattle.columnar_base.specs.Elements.{elements_format, elements};
 ghost use Rattle.columnar_base.specs.ElementLaws.{elements_lawful};
+ghost use Rattle.columnar_base.specs.Room.{up_to_count};
+ghost use Rattle.std.specs.Prelude.{◌+◌, ◌≤◌, length, vec_len, vec_capacity};
 
 use crate::element::Element;
 use crate::fault::GrowError;
@@ -13,6 +15,8 @@ impl<T: Element> Column for Vec<T> {
     ghost format = { elements_format T.size T.align T.row_of };
 
     ghost content = { λ v. elements T.le_bytes v.items };
+
+    ghost room = { λ v rs. vec_len v + length rs ≤ vec_capacity v };
 }
 
 impl<T: Element> Len for Vec<T> {
@@ -82,11 +86,19 @@ impl<T: Element> Storage for Vec<T> {
 impl<T: Element> Reserve for Vec<T> {
     type Room = usize;
 
+    ghost reserves = { Unit {0} };
+
+    ghost covers = { up_to_count };
+
     fn no_room() -> usize {
         0
     }
 
     fn reserve_room(&mut self, room: usize) -> Result<(), GrowError> {
+        // no memory has so many elements: a saturated sum
+        if room == usize::MAX {
+            return Err(GrowError::Memory);
+        }
         self.reserve(room)?;
         Ok(())
     }

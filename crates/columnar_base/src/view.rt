@@ -28,6 +28,8 @@ impl<'v, T: Element> Column for View<'v, T> {
     ghost format = { elements_format T.size T.align T.row_of };
 
     ghost content = { λ v. items_content T.le_bytes v.items };
+
+    ghost room = { λ v rs. ⊥ };
 }
 
 impl<'a, T: Element> View<'a, T> {

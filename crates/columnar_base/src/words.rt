@@ -1,5 +1,5 @@
 //! Words of 64 bits, read by index: a single word, an array, a `Vec`, or a view of one of these.
-ghost use Rattle.std.specs.Prelude.{◌≡◌, ℕ, ◌+◌, ◌*◌, ◌^◌, ◌<◌, ◌≤◌, List, [], ◌∷◌, length, slice_index};
+ghost use Rattle.std.specs.Prelude.{◌≡◌, ℕ, ◌+◌, ◌*◌, ◌^◌, ◌<◌, ◌≤◌, List, [], ◌∷◌, length, slice_index, vec_capacity};
 ghost use Rattle.columnar_base.specs.WordViews.{word, words_in, le_bytes, view_bytes, view_words};
 
 use crate::view::{Items, View, element_at, element_in};
@@ -8,6 +8,9 @@ use crate::view::{Items, View, element_at, element_in};
 pub trait Words {
     // the bytes of the words, lowest first within a word
     ghost bytes: { Self → List ℕ };
+
+    // so many words fit without an allocation
+    ghost capacity: { Self → ℕ };
 
     /// Returns a view of the words; allocates nothing.
     fn words(&self) -> View<'_, u64>
@@ -35,6 +38,8 @@ pub trait Words {
 impl Words for u64 {
     ghost bytes = { λ n. le_bytes (n ∷ []) };
 
+    ghost capacity = { λ n. 1 };
+
     fn words(&self) -> View<'_, u64> {
         View::from_slice(std::slice::from_ref(self))
     }
@@ -42,6 +47,8 @@ impl Words for u64 {
 
 impl Words for Vec<u64> {
     ghost bytes = { λ v. le_bytes v.items };
+
+    ghost capacity = { vec_capacity };
 
     fn words(&self) -> View<'_, u64> {
         View::from_slice(self.as_slice())
@@ -51,6 +58,8 @@ impl Words for Vec<u64> {
 impl Words for [u64; 2] {
     ghost bytes = { λ words. le_bytes words };
 
+    ghost capacity = { λ words. 2 };
+
     fn words(&self) -> View<'_, u64> {
         View::from_slice(self)
     }
@@ -58,6 +67,8 @@ impl Words for [u64; 2] {
 
 impl<'v> Words for View<'v, u64> {
     ghost bytes = { λ v. view_bytes v };
+
+    ghost capacity = { λ v. 0 };
 
     fn words(&self) -> View<'_, u64> {
         *self

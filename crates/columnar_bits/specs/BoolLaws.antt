@@ -335,6 +335,9 @@ rows_between xs i j = rw (map_drop truth i xs) (sym (take-map truth (j - i) (dro
 pub length_between : (xs : List Bool) (i j : ℕ) → j ≤ length (map truth xs) → length (take (j - i) (drop i (map truth xs))) ≡ j - i
 length_between xs i j l = length-take-le (j - i) (drop i (map truth xs)) (omega (arith, length-drop i (map truth xs)))
 
+pub length_range : (xs : List Bool) (i j : ℕ) → j ≤ length (map truth xs) → length (slice_range xs i j) ≡ j - i
+length_range xs i j l = length-take-le (j - i) (drop i xs) (omega (arith, length-drop i xs, length-map xs truth, l))
+
 pub length_added : (new old xs : List Bool) (i j : ℕ) → new ≡ old ++ slice_range xs i j → i ≤ j → j ≤ length xs → length new ≡ length old + (j - i)
 length_added new old xs i j e h l = omega (arith, ap length e, length-append old (slice_range xs i j), length-take-le (j - i) (drop i xs) (omega (arith, length-drop i xs)))
 

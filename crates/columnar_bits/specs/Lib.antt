@@ -4,3 +4,5 @@ pub mod BoolColumns
 pub mod BoolLaws
 pub mod BoolByteLaws
 pub mod MayBitLaws
+pub mod Rooms
+pub mod RoomLaws

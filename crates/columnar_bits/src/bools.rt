@@ -2,11 +2,13 @@
 ghost use Rattle.std.specs.Prelude.{◌≡◌, ℕ, ◌+◌, ◌-◌, ◌*◌, ◌/◌, ◌%◌, ◌^◌, ◌<◌, ◌≤◌, [], ◌∷◌, ◌++◌, length, vec_len, vec_capacity, slice_index_or, slice_range, false, OnOk, OnErr, IfErr, IsOk, refl};
 ghost use Rattle.columnar_core.specs.Row.{truth};
 ghost use Rattle.columnar_core.specs.Format.{IsSound};
-ghost use Rattle.columnar_core.specs.Change.{Stayed, Took, Refused};
+ghost use Rattle.columnar_core.specs.Change.{Stayed, Took, Refused, WasCut};
 ghost use Rattle.columnar_core.specs.WordViews.{le_bytes, view_bytes};
 ghost use Rattle.columnar_bits.specs.Bits.{bit as bit_of, truths, number_of_bits};
 ghost use Rattle.columnar_bits.specs.BoolColumns.{bools_format, bools_content, IsOfGrowth, bits_held, bits_in, owned_content, owned_bits, last_word, last_count, SoundBools, Tail};
 ghost use Rattle.columnar_bits.specs.BoolLaws.{bools_lawful};
+ghost use Rattle.columnar_bits.specs.Rooms.{count_room, bits_top};
+ghost use Rattle.columnar_core.specs.Room.{WasFull, Leaves, Frees, up_to_count};
 
 use columnar_core::container::{
     Borrow, Container, ExtendFrom, Reborrow, Reserve, Storage, Truncate,
@@ -37,6 +39,8 @@ impl<VC: Words, TC: Words> Column for Bools<VC, TC> {
     ghost format = { bools_format };
 
     ghost content = { bools_content VC.bytes TC.bytes };
+
+    ghost room = { λ b. count_room (length (bits_held VC.bytes TC.bytes b)) (bits_top (VC.capacity b.values)) };
 }
 
 /// Returns the number of bits of whole words and a tail.
@@ -48,6 +52,18 @@ pub fn count_bits(values: View<'_, u64>, tail: View<'_, u64>) -> usize
     ensures { result ≡ length (bits_in (view_bytes values.entry) (view_bytes tail.entry)) }
 {
     64 * word_count(values) + word_at(tail, 1) as usize
+}
+
+/// Returns at least the number of bits of whole words and a tail; any number if they are not well formed.
+pub fn most_bits(values: View<'_, u64>, tail: View<'_, u64>) -> usize
+    ensures { SoundBools (view_bytes values.entry) (view_bytes tail.entry) → length (bits_in (view_bytes values.entry) (view_bytes tail.entry)) ≤ result }
+{
+    let last = if word_count(tail) == 2 {
+        word_at(tail, 1) as usize
+    } else {
+        0
+    };
+    word_count(values).saturating_mul(64).saturating_add(last)
 }
 
 /// Returns bit `index` of whole words and a tail.
@@ -220,6 +236,7 @@ fn with_words<L>(
     requires short { length (owned_bits column) + 64 * count < 2 ^ 64 }
     ensures bits { owned_bits result ≡ owned_bits column ++ slice_range (bits_in (view_bytes values.entry) (view_bytes tail.entry)) start (start + 64 * count) }
     ensures sound { IsSound bools_format (owned_content result) }
+    ensures capacity { vec_capacity result.values ≡ vec_capacity column.values }
     ensures turns { tally.new.turns ≤ tally.old.turns + count }
 {
     let mut column = column;
@@ -250,6 +267,8 @@ impl Bools<Vec<u64>, [u64; 2]> {
         ensures full { 2 ^ 64 ≤ length (owned_bits self.old) + count → result ≡ Err GrowError.Length }
         ensures kinds { IfErr result IsOfGrowth }
         ensures no_memory { length (owned_bits self.old) % 64 + count < 64 → IsOk result }
+        ensures wanted { result ≡ Err GrowError.Memory → bits_top (vec_capacity self.old.values) ≤ length (owned_bits self.old) + count }
+        ensures capacity { vec_capacity self.old.values ≤ vec_capacity self.new.values }
         ensures sound { IsSound bools_format (owned_content self.new) }
     {
         let (word, have) = tail_parts(self.tail.words());
@@ -300,6 +319,8 @@ impl Bools<Vec<u64>, [u64; 2]> {
         ensures full { 2 ^ 64 ≤ length (owned_bits self.old) + 1 → result ≡ Err GrowError.Length }
         ensures kinds { IfErr result IsOfGrowth }
         ensures no_memory { length (owned_bits self.old) % 64 < 63 → IsOk result }
+        ensures wanted { result ≡ Err GrowError.Memory → bits_top (vec_capacity self.old.values) ≤ length (owned_bits self.old) + 1 }
+        ensures capacity { vec_capacity self.old.values ≤ vec_capacity self.new.values }
         ensures sound { IsSound bools_format (owned_content self.new) }
     {
         let (word, have) = tail_parts(self.tail.words());
@@ -333,6 +354,8 @@ impl Bools<Vec<u64>, [u64; 2]> {
         ensures length { result ≡ Err GrowError.Length → 2 ^ 64 ≤ length (owned_bits self.old) + (range.«end» - range.start) }
         ensures full { 2 ^ 64 ≤ length (owned_bits self.old) + (range.«end» - range.start) → result ≡ Err GrowError.Length }
         ensures kinds { IfErr result IsOfGrowth }
+        ensures wanted { result ≡ Err GrowError.Memory → bits_top (vec_capacity self.old.values) ≤ length (owned_bits self.old) + (range.«end» - range.start) }
+        ensures capacity { OnOk result (vec_capacity self.old.values ≤ vec_capacity self.new.values) }
         ensures sound { IsSound bools_format (owned_content self.new) }
         ensures turns { tally.new.turns ≤ tally.old.turns + ((range.«end» - range.start) / 64 + 1) }
     {
@@ -381,6 +404,8 @@ impl Bools<Vec<u64>, [u64; 2]> {
         ensures length { result ≡ Err GrowError.Length → 2 ^ 64 ≤ length (owned_bits self.old) + (range.«end» - range.start) }
         ensures full { 2 ^ 64 ≤ length (owned_bits self.old) + (range.«end» - range.start) → result ≡ Err GrowError.Length }
         ensures kinds { IfErr result IsOfGrowth }
+        ensures wanted { result ≡ Err GrowError.Memory → bits_top (vec_capacity self.old.values) ≤ length (owned_bits self.old) + (range.«end» - range.start) }
+        ensures capacity { OnOk result (vec_capacity self.old.values ≤ vec_capacity self.new.values) }
         ensures sound { IsSound bools_format (owned_content self.new) }
     {
         self.extend_bits_from_tallied(other, range, &mut Tally::new())
@@ -388,7 +413,12 @@ impl Bools<Vec<u64>, [u64; 2]> {
 }
 
 impl Clear for Bools<Vec<u64>, [u64; 2]> {
-    fn clear(&mut self) {
+    fn clear(&mut self)
+        ensures sound { IsSound bools_format (owned_content self.new) }
+        ensures rows { bools_format.rows (owned_content self.new) ≡ [] }
+        ensures freed { Frees bools_format (owned_content self.old) 0 (count_room (length (owned_bits self.old)) (bits_top (vec_capacity self.old.values))) (count_room (length (owned_bits self.new)) (bits_top (vec_capacity self.new.values))) }
+        ensures capacity { vec_capacity self.old.values ≤ vec_capacity self.new.values }
+    {
         self.values.clear();
         self.tail = tail_of(0, 0);
     }
@@ -397,7 +427,13 @@ impl Clear for Bools<Vec<u64>, [u64; 2]> {
 impl Truncate for Bools<Vec<u64>, [u64; 2]> {
     ghost lawful = { bools_lawful };
 
-    fn truncate(&mut self, n: usize) {
+    fn truncate(&mut self, n: usize)
+        requires sound { IsSound bools_format (owned_content self.old) }
+        requires in_range { n ≤ length (bools_format.rows (owned_content self.old)) }
+        ensures cut { WasCut bools_format (owned_content self.old) (owned_content self.new) n }
+        ensures freed { Frees bools_format (owned_content self.old) n (count_room (length (owned_bits self.old)) (bits_top (vec_capacity self.old.values))) (count_room (length (owned_bits self.new)) (bits_top (vec_capacity self.new.values))) }
+        ensures capacity { vec_capacity self.old.values ≤ vec_capacity self.new.values }
+    {
         let count = (n % 64) as u64;
         let word = low_bits(
             word_or_tail(self.values.words(), self.tail.words(), n / 64),
@@ -425,12 +461,23 @@ impl Storage for Bools<Vec<u64>, [u64; 2]> {
 impl Reserve for Bools<Vec<u64>, [u64; 2]> {
     type Room = usize;
 
+    ghost reserves = { Unit {0} };
+
+    ghost covers = { up_to_count };
+
     fn no_room() -> usize {
         0
     }
 
+    /// Reserves capacity for `room` bits: for the words that they fill with the bits of the tail.
     fn reserve_room(&mut self, room: usize) -> Result<(), GrowError> {
-        self.values.reserve(room)?;
+        // no column has so many bits: a saturated sum
+        if room == usize::MAX {
+            return Err(GrowError::Memory);
+        }
+        let (_, have) = tail_parts(self.tail.words());
+        self.values
+            .reserve(room / 64 + (room % 64 + have as usize) / 64)?;
         Ok(())
     }
 }
@@ -447,6 +494,8 @@ impl Push<bool> for Bools<Vec<u64>, [u64; 2]> {
         requires sound { IsSound bools_format (owned_content self.old) }
         ensures ok { OnOk result (Took bools_format (owned_content self.old) (owned_content self.new) (truth item ∷ [])) }
         ensures err { IfErr result (λ e. Refused bools_format (owned_content self.old) (owned_content self.new) (truth item ∷ []) e) }
+        ensures wanted { IfErr result (WasFull (count_room (length (owned_bits self.old)) (bits_top (vec_capacity self.old.values))) (truth item ∷ [])) }
+        ensures left { OnOk result (Leaves (count_room (length (owned_bits self.old)) (bits_top (vec_capacity self.old.values))) (count_room (length (owned_bits self.new)) (bits_top (vec_capacity self.new.values))) (truth item ∷ [])) }
         ensures no_memory { length (owned_bits self.old) % 64 < 63 → IsOk result }
     {
         self.push_bit(item)
@@ -465,6 +514,8 @@ impl<'x> Push<&'x bool> for Bools<Vec<u64>, [u64; 2]> {
         requires sound { IsSound bools_format (owned_content self.old) }
         ensures ok { OnOk result (Took bools_format (owned_content self.old) (owned_content self.new) (truth item.now ∷ [])) }
         ensures err { IfErr result (λ e. Refused bools_format (owned_content self.old) (owned_content self.new) (truth item.now ∷ []) e) }
+        ensures wanted { IfErr result (WasFull (count_room (length (owned_bits self.old)) (bits_top (vec_capacity self.old.values))) (truth item.now ∷ [])) }
+        ensures left { OnOk result (Leaves (count_room (length (owned_bits self.old)) (bits_top (vec_capacity self.old.values))) (count_room (length (owned_bits self.new)) (bits_top (vec_capacity self.new.values))) (truth item.now ∷ [])) }
         ensures no_memory { length (owned_bits self.old) % 64 < 63 → IsOk result }
     {
         self.push_ref(item)
@@ -483,6 +534,8 @@ impl PushRef<bool> for Bools<Vec<u64>, [u64; 2]> {
         requires sound { IsSound bools_format (owned_content self.old) }
         ensures ok { OnOk result (Took bools_format (owned_content self.old) (owned_content self.new) (truth item.now ∷ [])) }
         ensures err { IfErr result (λ e. Refused bools_format (owned_content self.old) (owned_content self.new) (truth item.now ∷ []) e) }
+        ensures wanted { IfErr result (WasFull (count_room (length (owned_bits self.old)) (bits_top (vec_capacity self.old.values))) (truth item.now ∷ [])) }
+        ensures left { OnOk result (Leaves (count_room (length (owned_bits self.old)) (bits_top (vec_capacity self.old.values))) (count_room (length (owned_bits self.new)) (bits_top (vec_capacity self.new.values))) (truth item.now ∷ [])) }
         ensures no_memory { length (owned_bits self.old) % 64 < 63 → IsOk result }
     {
         self.push_bit(*item)
@@ -491,7 +544,7 @@ impl PushRef<bool> for Bools<Vec<u64>, [u64; 2]> {
 
 impl<'x> ExtendFrom<Bools<View<'x, u64>, View<'x, u64>>> for Bools<Vec<u64>, [u64; 2]> {
     fn add_room(room: usize, view: Bools<View<'x, u64>, View<'x, u64>>) -> usize {
-        room.saturating_add(word_count(view.values))
+        room.saturating_add(most_bits(view.values, view.tail))
     }
 
     fn extend_from_self(

@@ -1,5 +1,6 @@
 -- The contents of a stash.
 use Rattle.std.specs.Prelude.{ℕ, List, ◌≡◌}
+use Rattle.columnar_core.specs.Row.{Row}
 use Rattle.columnar_core.specs.Format.{Content, slices_of}
 use Rattle.columnar_core.specs.Words.{store_bytes}
 use Rattle.columnar_core.specs.Frame.{framed_slices}
@@ -24,6 +25,12 @@ abbrev pub stash_content : {C B : Type 0} {column : ColumnOf C} {store : BytesOf
 stash_content {C} {B} {column} {store} (Typed c) = column.content c
 stash_content {C} {B} {column} {store} (Bytes k) = column.format.build (framed_slices (checked_bytes k))
 stash_content {C} {B} {column} {store} (Align k) = column.format.build (framed_slices (checked_bytes k))
+
+-- the room of a column; bytes have none
+abbrev pub stash_room : {C B : Type 0} {column : ColumnOf C} {store : BytesOf B} → Stash C B column store → List Row → Type 0
+stash_room {C} {B} {column} {store} (Typed c) rs = column.room c rs
+stash_room {C} {B} {column} {store} (Bytes k) rs = ⊥
+stash_room {C} {B} {column} {store} (Align k) rs = ⊥
 
 -- the variant of a stash
 abbrev pub variant_of : {C B : Type 0} {column : ColumnOf C} {store : BytesOf B} → Stash C B column store → Variant

@@ -120,11 +120,13 @@ pub enum Stash<C: Stored, B: ByteStore> {
 }
 
 impl<C: Stored, B: ByteStore> Column for Stash<C, B> {
-    ghost use Rattle.columnar_bytes.specs.Stashes.{stash_content};
+    ghost use Rattle.columnar_bytes.specs.Stashes.{stash_content, stash_room};
 
     ghost format = { C.format };
 
     ghost content = { stash_content };
+
+    ghost room = { stash_room };
 }
 
 impl<C: Stored + Len, B: ByteStore> Len for Stash<C, B> {

@@ -6,7 +6,9 @@ use Rattle.columnar_core.specs.Frame.{framed_slices}
 use Rattle.columnar_core.specs.declared.fault.StoreFault.{StoreFault}
 use Rattle.columnar_bytes.specs.Accepted.{Accepts, IsFirstFault}
 use Rattle.columnar_schema.specs.Formats.{format_of}
-use Rattle.columnar_schema.specs.Names.{Names, a_type, unspaced}
+use Rattle.columnar_schema.specs.Names.{Names, a_type}
+use Rattle.columnar_schema.specs.Tokens.{tokens}
+use Rattle.columnar_schema.specs.Unnamed.{NamesNothing}
 use Rattle.columnar_schema.specs.declared.schema.Bounds.{Bounds}
 use Rattle.columnar_schema.specs.declared.schema.Bounds.TheVariants.{Words, Strides, Unaries}
 use Rattle.columnar_schema.specs.declared.schema.Schema.{Schema}
@@ -19,7 +21,11 @@ bounds_of n = if n == 0 then Some Words else (if n == 1 then Some Unaries else (
 pub record IsTypeOf (bounds : ℕ) (text : List ℕ) (schema : Schema) : Type 0 where
   pub lists : Bounds
   pub kept : bounds_of bounds ≡ Some lists
-  pub named : Names lists a_type (unspaced text) schema
+  pub named : Names lists a_type (tokens text) schema
+
+-- the text names no type within the limits, with the ends of lists stored as the number says
+abbrev pub IsNoType : ℕ → List ℕ → Type 0
+IsNoType bounds text = (lists : Bounds) → bounds_of bounds ≡ Some lists → NamesNothing lists text
 
 -- the first rule that the bytes break, and its slice
 pub record BreaksFirst (f : Format) (bytes : List ℕ) (rule slice : ℕ) : Type 0 where

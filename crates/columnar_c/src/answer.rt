@@ -1,6 +1,7 @@
 //! The return values of the calls, and what they report about a store or the text of its type.
-ghost use Rattle.std.specs.Prelude.{◌≡◌, ◌≤◌, length, IfSome, IfNone};
+ghost use Rattle.std.specs.Prelude.{◌≡◌, ◌≢◌, ◌≤◌, length, IfSome, IfNone};
 ghost use Rattle.columnar_core.specs.Faults.{fault_number, fault_slice};
+ghost use Rattle.columnar_schema.specs.declared.text.Mistake.TheVariants.{Memory};
 ghost use Rattle.columnar_c.specs.Answers.{bounds_of};
 
 use columnar_core::fault::StoreFault;
@@ -81,6 +82,7 @@ pub fn fault_in_text(text: &[u8], refused: &Refused) -> Fault
 pub fn unread(refused: &Refused) -> u32
     ensures no_type { 2 ≤ result }
     ensures no_memory { result ≤ 3 }
+    ensures refused { result ≡ 2 → refused.now.mistake ≢ Memory }
 {
     match refused.mistake {
         Mistake::Memory => NO_MEMORY,

@@ -1,6 +1,6 @@
 //! The exported functions. They require only that each pointer points to as many bytes as its length says.
 ghost use Rattle.std.specs.Prelude.{◌≡◌, ◌≤◌, ◌↔◌, ◌⊎◌, length, None};
-ghost use Rattle.columnar_c.specs.Answers.{bounds_of, Judged, Counted};
+ghost use Rattle.columnar_c.specs.Answers.{bounds_of, Judged, Counted, IsNoType};
 
 use crate::answer::{
     ACCEPTED, BROKEN, Fault, NO_BOUNDS, bounds_of_number, fault_in_store, fault_in_text, no_fault,
@@ -23,6 +23,7 @@ pub extern "C" fn columnar_check(
     fault: &mut Fault,
 ) -> u32
     ensures judged { result ≤ 1 → Judged bounds text.now bytes.now result fault.new.rule fault.new.slice }
+    ensures untyped { result ≡ 2 → IsNoType bounds text.now }
     ensures unbroken { (result ≡ 1) ⊎ (fault.new.rule ≡ 0) }
     ensures place { fault.new.place ≤ length text.now }
     ensures bounds { (result ≡ 4) ↔ (bounds_of bounds ≡ None) }
@@ -44,6 +45,7 @@ pub extern "C" fn columnar_rows(
 ) -> u32
     ensures counted { result ≤ 1 → Counted bounds text.now bytes.now result rows.new fault.new.rule fault.new.slice }
     ensures uncounted { (result ≡ 0) ⊎ (rows.new ≡ 0) }
+    ensures untyped { result ≡ 2 → IsNoType bounds text.now }
     ensures unbroken { (result ≡ 1) ⊎ (fault.new.rule ≡ 0) }
     ensures place { fault.new.place ≤ length text.now }
     ensures bounds { (result ≡ 4) ↔ (bounds_of bounds ≡ None) }

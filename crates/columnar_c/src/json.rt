@@ -1,7 +1,7 @@
 //! The exported function that writes a row as JSON. It requires only that each pointer points to as many bytes as its
 //! length says.
 ghost use Rattle.std.specs.Prelude.{◌≡◌, ◌++◌, ◌<◌, ◌≤◌, ◌↔◌, ◌⊎◌, length, drop, None, IfOk, IfErr};
-ghost use Rattle.columnar_c.specs.Answers.{bounds_of};
+ghost use Rattle.columnar_c.specs.Answers.{IsNoType, bounds_of};
 ghost use Rattle.columnar_c.specs.RowAnswers.{IsRowText, IsUntold, Told, refusal_number};
 
 use crate::answer::{
@@ -95,6 +95,7 @@ pub extern "C" fn columnar_row_json(
     ensures told { (result ≤ 1) ⊎ (5 ≤ result) → Told bounds text.now bytes.now index result out.old out.new written.new fault.new.rule fault.new.slice }
     ensures stays { (result ≡ 0) ⊎ (out.new ≡ out.old) }
     ensures unwritten { ((result ≡ 0) ⊎ (result ≡ 8)) ⊎ (written.new ≡ 0) }
+    ensures untyped { result ≡ 2 → IsNoType bounds text.now }
     ensures unbroken { (result ≡ 1) ⊎ (fault.new.rule ≡ 0) }
     ensures place { fault.new.place ≤ length text.now }
     ensures bounds { (result ≡ 4) ↔ (bounds_of bounds ≡ None) }

@@ -165,6 +165,8 @@ impl<'b, C: Column> Column for Lent<'b, C> {
     ghost format = { C.format };
 
     ghost content = { λ c. C.content c.column.now };
+
+    ghost room = { λ c rs. ⊥ };
 }
 
 impl<'b, C: Len> Len for Lent<'b, C> {

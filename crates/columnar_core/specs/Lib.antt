@@ -35,6 +35,8 @@ pub use Rattle.columnar_base.specs.LongTuples
 pub use Rattle.columnar_base.specs.Solos
 pub use Rattle.columnar_base.specs.Change
 pub use Rattle.columnar_base.specs.ChangeLaws
+pub use Rattle.columnar_base.specs.Room
+pub use Rattle.columnar_base.specs.RoomLaws
 pub use Rattle.columnar_base.specs.Faults
 pub use Rattle.columnar_base.specs.Reads
 pub use Rattle.columnar_base.specs.RowsLeft
@@ -50,3 +52,5 @@ pub use Rattle.columnar_base.specs.Texts
 pub use Rattle.columnar_base.specs.May
 pub use Rattle.columnar_base.specs.MayLaws
 pub mod LentLaws
+pub mod RoomViews
+pub mod OffsetRoomLaws

@@ -29,6 +29,8 @@ impl<R: Item> Item for Boxed<R> {
     ghost meaning = { λ b. R.meaning b.0 };
 
     ghost valid = { λ b. R.valid b.0 };
+
+    ghost unbuffered = { R.unbuffered };
 }
 
 impl<R: OrderedRow> OrderedRow for Boxed<R> {
@@ -73,6 +75,8 @@ impl<C: Column> Column for Boxed<C> {
     ghost format = { C.format };
 
     ghost content = { λ b. C.content b.0 };
+
+    ghost room = { λ b. C.room b.0 };
 }
 
 impl<C: Column> Boxed<C> {
@@ -167,6 +171,10 @@ impl<C: Storage> Storage for Boxed<C> {
 
 impl<C: Reserve> Reserve for Boxed<C> {
     type Room = C::Room;
+
+    ghost reserves = { C.reserves };
+
+    ghost covers = { C.covers };
 
     fn no_room() -> C::Room {
         C::no_room()

@@ -1,11 +1,12 @@
 //! Traits of containers: columns that grow, are cut, and are borrowed as views.
-ghost use Rattle.std.specs.Prelude.{◌≡◌, ◌+◌, ◌-◌, ◌<◌, ◌≤◌, ◌↔◌, length, [], take, drop, OnOk, IfOk, IfErr, IsTrue, IsSome, IfSome, IfNone, slice_get, Some};
-ghost use Rattle.std.specs.Iterator.{IsFinite};
+ghost use Rattle.std.specs.Prelude.{List, All, ◌≡◌, ◌+◌, ◌-◌, ◌<◌, ◌≤◌, ◌↔◌, length, [], take, drop, OnOk, IfOk, IfErr, IsTrue, IsSome, IfSome, IfNone, slice_get, Some};
+ghost use Rattle.std.specs.Iterator.{IsFinite, Drains};
 ghost use Rattle.columnar_base.specs.Row.{unit};
 ghost use Rattle.columnar_base.specs.Format.{Fits, IsSound, representable, slices_of};
 ghost use Rattle.columnar_core.specs.Store.{slices_in};
 ghost use Rattle.columnar_core.specs.Slices.{bytes_in, alignment};
 ghost use Rattle.columnar_base.specs.Change.{Copied, Refused, Stayed};
+ghost use Rattle.columnar_base.specs.Room.{WasFull, Leaves, AddsRoom, rows_of_all};
 
 use crate::byte_slice::ByteSlice;
 use crate::bytes::Stored;
@@ -20,7 +21,8 @@ use std::ops::Range;
 /// A column that copies ranges of rows from views of type `V`.
 pub trait ExtendFrom<V: Column + Copy>: Truncate + Reserve {
     /// Adds to `room` the capacity that the slices of `view` need.
-    fn add_room(room: Self::Room, view: V) -> Self::Room;
+    fn add_room(room: Self::Room, view: V) -> Self::Room
+        ensures { AddsRoom V.format (V.content view) (Self.covers room) (Self.covers result) };
 
     /// Appends rows that represent those of the range, one each and in order, or none. A front of the view, copied into
     /// an empty column, has equal rows.
@@ -29,15 +31,17 @@ pub trait ExtendFrom<V: Column + Copy>: Truncate + Reserve {
     /// A well-formed column and view, and a range of the view's rows.
     ///
     /// # Errors
-    /// `Memory`; `Length` or `Offset` only if the column cannot hold the rows together. The rows and the lengths of all
-    /// parts stay.
+    /// `Memory` only if the column has no room for the rows; `Length` or `Offset` only if the column cannot hold the rows
+    /// together. The rows and the lengths of all parts stay.
     fn extend_from_self(&mut self, view: V, range: Range<usize>) -> Result<(), GrowError>
         requires sound { IsSound Self.format (Self.content self.old) }
         requires view_sound { IsSound V.format (V.content view) }
         requires ordered { range.start ≤ range.«end» }
         requires in_range { range.«end» ≤ length (V.format.rows (V.content view)) }
         ensures ok { OnOk result (Copied Self.format (Self.content self.old) (Self.content self.new) range.start (take (range.«end» - range.start) (drop range.start (V.format.rows (V.content view))))) }
-        ensures err { IfErr result (λ e. Refused Self.format (Self.content self.old) (Self.content self.new) (take (range.«end» - range.start) (drop range.start (V.format.rows (V.content view)))) e) };
+        ensures err { IfErr result (λ e. Refused Self.format (Self.content self.old) (Self.content self.new) (take (range.«end» - range.start) (drop range.start (V.format.rows (V.content view)))) e) }
+        ensures wanted { IfErr result (WasFull (Self.room self.old) (take (range.«end» - range.start) (drop range.start (V.format.rows (V.content view))))) }
+        ensures left { OnOk result (Leaves (Self.room self.old) (Self.room self.new) (take (range.«end» - range.start) (drop range.start (V.format.rows (V.content view))))) };
 
     /// Does what `extend_from_self` does. Returns `None` and changes nothing if the view does not have the range of
     /// rows.
@@ -59,6 +63,8 @@ pub trait ExtendFrom<V: Column + Copy>: Truncate + Reserve {
         ensures range { IsSome result ↔ ((range.start ≤ range.«end») × (range.«end» ≤ length (V.format.rows (V.content view)))) }
         ensures ok { IfSome result (λ r. OnOk r (Copied Self.format (Self.content self.old) (Self.content self.new) range.start (take (range.«end» - range.start) (drop range.start (V.format.rows (V.content view)))))) }
         ensures err { IfSome result (λ r. IfErr r (λ e. Refused Self.format (Self.content self.old) (Self.content self.new) (take (range.«end» - range.start) (drop range.start (V.format.rows (V.content view)))) e)) }
+        ensures wanted { IfSome result (λ r. IfErr r (WasFull (Self.room self.old) (take (range.«end» - range.start) (drop range.start (V.format.rows (V.content view)))))) }
+        ensures left { IfSome result (λ r. OnOk r (Leaves (Self.room self.old) (Self.room self.new) (take (range.«end» - range.start) (drop range.start (V.format.rows (V.content view)))))) }
         ensures stays { IfNone result (Self.content self.new ≡ Self.content self.old) }
     {
         if range.start > range.end || range.end > view.len() {
@@ -80,6 +86,7 @@ pub trait ExtendFrom<V: Column + Copy>: Truncate + Reserve {
         requires finite { IsFinite (I.remaining views) }
         ensures stayed { Stayed Self.format (Self.content self.old) (Self.content self.new) }
         ensures memory { IfErr result (λ e. e ≡ GrowError.Memory) }
+        ensures room { OnOk result ((vs : List V) × (Drains I.next_gives views vs × (Self.reserves → All (λ v. IsSound V.format (V.content v)) vs → Self.room self.new (rows_of_all V.format V.content vs)))) }
     {
         let mut room = Self::no_room();
         for view in views {
@@ -106,6 +113,7 @@ pub trait ExtendFrom<V: Column + Copy>: Truncate + Reserve {
         ensures sound { IfOk result (λ c. IsSound Self.format (Self.content c)) }
         ensures rows { IfOk result (λ c. Self.format.rows (Self.content c) ≡ []) }
         ensures memory { IfErr result (λ e. e ≡ GrowError.Memory) }
+        ensures room { IfOk result (λ c. (vs : List V) × (Drains I.next_gives views vs × (Self.reserves → All (λ v. IsSound V.format (V.content v)) vs → Self.room c (rows_of_all V.format V.content vs)))) }
     {
         let mut column = Self::empty(alloc);
         column.reserve_for(views)?;

@@ -12,6 +12,7 @@ pub mod lent;
 pub mod offsets;
 pub mod owned;
 pub mod rc;
+pub mod room;
 pub mod sides;
 pub mod slice;
 pub mod store;

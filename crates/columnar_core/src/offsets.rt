@@ -1,14 +1,15 @@
 //! Columns of offsets: the bounds of lists and strings.
-ghost use Rattle.std.specs.Prelude.{◌≡◌, ℕ, ◌+◌, ◌-◌, ◌*◌, ◌^◌, ◌<◌, ◌≤◌, ◌∷◌, [], length, take, drop, slice_get, Some, IsTrue, OnOk, IfErr};
-ghost use Rattle.columnar_base.specs.Row.{number};
+ghost use Rattle.std.specs.Prelude.{◌≡◌, ℕ, ◌+◌, ◌-◌, ◌*◌, ◌^◌, ◌<◌, ◌≤◌, ◌∷◌, ◌++◌, [], List, length, take, drop, slice_get, Some, IsTrue, OnOk, IfErr};
+ghost use Rattle.columnar_base.specs.Row.{Row, number};
 ghost use Rattle.columnar_base.specs.Format.{IsSound, Fits, bytes_held, representable};
 ghost use Rattle.columnar_base.specs.Elements.{word_row};
 ghost use Rattle.columnar_base.specs.Change.{Refused, Took};
+ghost use Rattle.columnar_base.specs.Room.{WasFull, Leaves, KeepsRoom};
 ghost use Rattle.columnar_core.specs.Bounds.{rises, numbers, last_or, shifted, IsBounds};
 ghost use Rattle.columnar_core.specs.Store.{slices_in};
 
 use crate::bytes::Stored;
-use crate::container::Truncate;
+use crate::container::{Reserve, Truncate};
 use crate::store::DecodedStore;
 use columnar_base::fault::GrowError;
 use columnar_base::tally::Tally;
@@ -114,11 +115,22 @@ pub trait PushAfter: Column {
         requires sound { IsSound Self.format (Self.content self.old) }
         requires last { last_or 0 (numbers (Self.format.rows (Self.content self.old))) ≡ last }
         ensures ok { OnOk result (Took Self.format (Self.content self.old) (Self.content self.new) (word_row offset ∷ [])) }
-        ensures err { IfErr result (λ e. Refused Self.format (Self.content self.old) (Self.content self.new) (word_row offset ∷ []) e) };
+        ensures err { IfErr result (λ e. Refused Self.format (Self.content self.old) (Self.content self.new) (word_row offset ∷ []) e) }
+        ensures wanted { IfErr result (WasFull (Self.room self.old) (word_row offset ∷ [])) }
+        ensures left { OnOk result (Leaves (Self.room self.old) (Self.room self.new) (word_row offset ∷ [])) };
+}
+
+/// A column of offsets whose reserved capacity is for offsets from any start.
+pub trait ReserveOffsets: Reserve {
+    // a column with the capacity has room for the offsets, shifted to follow its last one
+    ghost follow: { (column : Self) (room : Self.Room) (last : ℕ) (os : List Row) → last ≡ last_or 0 (numbers (Self.format.rows (Self.content column))) → KeepsRoom (Self.covers room) (Self.room column) → Self.covers room os → Self.room column (shifted 0 last (numbers os)) };
+
+    // capacity for any offsets and then for others is also for these, shifted to follow the last one
+    ghost add: { (room more : Self.Room) (os others : List Row) → ((xs : List Row) → Self.covers room xs → Self.covers more (xs ++ others)) → Self.covers room os → Self.covers more (os ++ shifted 0 (last_or 0 (numbers os)) (numbers others)) };
 }
 
 /// A column of offsets that takes those of views of type `W`, shifted to follow its own.
-pub trait ExtendShifted<W: Offsets>: Column {
+pub trait ExtendShifted<W: Offsets>: ReserveOffsets {
     /// Appends the offsets of the range, shifted by `start - lower`, or none. `lower` is the offset before the range,
     /// `start` the column's last one. Counts a step in the tally for each offset that it reads one by one.
     ///
@@ -145,6 +157,8 @@ pub trait ExtendShifted<W: Offsets>: Column {
         requires held { (i n : ℕ) → range.start ≤ i → i < range.«end» → slice_get (numbers (W.format.rows (W.content view.now))) i ≡ Some n → (lower ≤ n) × (start + (n - lower) < 2 ^ 64) }
         ensures ok { OnOk result (Took Self.format (Self.content self.old) (Self.content self.new) (take (range.«end» - range.start) (drop range.start (shifted lower start (numbers (W.format.rows (W.content view.now))))))) }
         ensures err { IfErr result (λ e. Refused Self.format (Self.content self.old) (Self.content self.new) (take (range.«end» - range.start) (drop range.start (shifted lower start (numbers (W.format.rows (W.content view.now)))))) e) }
+        ensures wanted { IfErr result (WasFull (Self.room self.old) (take (range.«end» - range.start) (drop range.start (shifted lower start (numbers (W.format.rows (W.content view.now))))))) }
+        ensures left { OnOk result (Leaves (Self.room self.old) (Self.room self.new) (take (range.«end» - range.start) (drop range.start (shifted lower start (numbers (W.format.rows (W.content view.now))))))) }
         ensures turns { tally.new.turns ≤ tally.old.turns + (range.«end» - range.start) };
 }
 
@@ -172,6 +186,8 @@ pub fn push_shifted<W: Offsets, BC: Truncate + Push<u64>, L>(
     requires held { (i n : ℕ) → range.start ≤ i → i < range.«end» → slice_get (numbers (W.format.rows (W.content view.now))) i ≡ Some n → (lower ≤ n) × (start + (n - lower) < 2 ^ 64) }
     ensures ok { OnOk result (Took BC.format (BC.content bounds.old) (BC.content bounds.new) (take (range.«end» - range.start) (drop range.start (shifted lower start (numbers (W.format.rows (W.content view.now))))))) }
     ensures err { IfErr result (λ e. Refused BC.format (BC.content bounds.old) (BC.content bounds.new) (take (range.«end» - range.start) (drop range.start (shifted lower start (numbers (W.format.rows (W.content view.now)))))) e) }
+    ensures wanted { IfErr result (WasFull (BC.room bounds.old) (take (range.«end» - range.start) (drop range.start (shifted lower start (numbers (W.format.rows (W.content view.now))))))) }
+    ensures left { OnOk result (Leaves (BC.room bounds.old) (BC.room bounds.new) (take (range.«end» - range.start) (drop range.start (shifted lower start (numbers (W.format.rows (W.content view.now))))))) }
     ensures turns { tally.new.turns ≤ tally.old.turns + (range.«end» - range.start) }
 {
     let before = bounds.len();

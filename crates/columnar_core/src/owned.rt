@@ -17,6 +17,8 @@ impl<'v, C: Column> Column for Owned<'v, C> {
     ghost format = { C.format };
 
     ghost content = { λ o. C.content o.0.now };
+
+    ghost room = { λ c rs. ⊥ };
 }
 
 impl<'v, C: ContainerBytes> Stored for Owned<'v, C> {

@@ -28,6 +28,9 @@ pub(crate) fn append_typed<T: Element>(column: &mut Vec<T>, items: &[T]) -> Resu
     ensures ok { OnOk result (column.new.items ≡ column.old.items ++ items.now) }
     ensures err { OnErr result (column.new.items ≡ column.old.items) }
     ensures memory { IfErr result (λ e. e ≡ GrowError.Memory) }
+    ensures len { OnOk result (vec_len column.new ≡ vec_len column.old + length items.now) }
+    ensures capacity { vec_capacity column.old ≤ vec_capacity column.new }
+    ensures full { OnErr result (vec_capacity column.old < vec_len column.old + length items.now) }
 {
     if items.len() > column.capacity() - Vec::len(column) {
         return append_grown(column, items);
@@ -46,6 +49,9 @@ fn append_grown<T: Element>(column: &mut Vec<T>, items: &[T]) -> Result<(), Grow
     ensures ok { OnOk result (column.new.items ≡ column.old.items ++ items.now) }
     ensures err { OnErr result (column.new.items ≡ column.old.items) }
     ensures memory { IfErr result (λ e. e ≡ GrowError.Memory) }
+    ensures len { OnOk result (vec_len column.new ≡ vec_len column.old + length items.now) }
+    ensures capacity { vec_capacity column.old ≤ vec_capacity column.new }
+    ensures full { OnErr result (vec_capacity column.old < vec_len column.old + length items.now) }
 {
     column.extend_from_slice(items)?;
     Ok(())
@@ -57,7 +63,9 @@ fn append_grown<T: Element>(column: &mut Vec<T>, items: &[T]) -> Result<(), Grow
 fn with_all<T: Element>(column: Vec<T>, bytes: &[u8]) -> Vec<T>
     requires whole { length bytes.now % T.size ≡ 0 }
     requires room { vec_len column + length bytes.now / T.size ≤ vec_capacity column }
-    ensures { Appended T.le_bytes column.items result.items bytes.now }
+    ensures items { Appended T.le_bytes column.items result.items bytes.now }
+    ensures len { vec_len result ≡ vec_len column + length bytes.now / T.size }
+    ensures capacity { vec_capacity result ≡ vec_capacity column }
 {
     let mut column = column;
     for i in 0..count_in::<T>(bytes) {
@@ -74,6 +82,9 @@ fn append_bytes<T: Element>(column: &mut Vec<T>, bytes: &[u8]) -> Result<(), Gro
     ensures ok { OnOk result (Appended T.le_bytes column.old.items column.new.items bytes.now) }
     ensures err { OnErr result (column.new.items ≡ column.old.items) }
     ensures memory { IfErr result (λ e. e ≡ GrowError.Memory) }
+    ensures len { OnOk result (vec_len column.new ≡ vec_len column.old + length bytes.now / T.size) }
+    ensures capacity { vec_capacity column.old ≤ vec_capacity column.new }
+    ensures full { OnErr result (vec_capacity column.old < vec_len column.old + length bytes.now / T.size) }
 {
     column.reserve(count_in::<T>(bytes))?;
     let empty = Vec::new(*column.allocator());

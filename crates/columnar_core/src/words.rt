@@ -1,13 +1,16 @@
 //! Columns of 64-bit numbers as offsets.
-ghost use Rattle.std.specs.Prelude.{◌≡◌, ℕ, ◌+◌, ◌*◌, ◌^◌, ◌<◌, ◌≤◌, length, drop, false, IsTrue, MatchOption};
+ghost use Rattle.std.specs.Prelude.{◌≡◌, ℕ, ◌+◌, ◌*◌, ◌^◌, ◌<◌, ◌≤◌, length, drop, vec_len, vec_capacity, false, IsTrue, MatchOption};
 ghost use Rattle.columnar_base.specs.Format.{Fits, IsSound, bytes_held, representable};
 ghost use Rattle.columnar_base.specs.Elements.{elements_rows, first_slice, word_row_of, words_format};
-ghost use Rattle.columnar_core.specs.Bounds.{rises, numbers};
+ghost use Rattle.columnar_core.specs.Bounds.{rises, numbers, last_or};
 ghost use Rattle.columnar_core.specs.BoundLaws.{words_bounds};
+ghost use Rattle.columnar_core.specs.OffsetRoomLaws.{counted_follow, counted_add};
 ghost use Rattle.columnar_core.specs.Store.{slices_in};
 
 use crate::bytes::Stored;
-use crate::offsets::{ExtendShifted, Offsets, PushAfter, StoredOffsets, push_shifted};
+use crate::offsets::{
+    ExtendShifted, Offsets, PushAfter, ReserveOffsets, StoredOffsets, push_shifted,
+};
 use crate::store::DecodedStore;
 use columnar_base::fault::GrowError;
 use columnar_base::tally::Tally;
@@ -91,6 +94,12 @@ impl PushAfter for Vec<u64> {
     fn push_after(&mut self, _last: u64, offset: u64) -> Result<(), GrowError> {
         Push::<u64>::push(self, offset)
     }
+}
+
+impl ReserveOffsets for Vec<u64> {
+    ghost follow = { λ v room last os e h c. counted_follow (vec_len v) (vec_capacity v) room last os h c };
+
+    ghost add = { λ room more os others f c. counted_add room more (last_or 0 (numbers os)) os others f c };
 }
 
 /// Reserves capacity for all offsets at once, then pushes each.

@@ -311,6 +311,24 @@ pub enum {} {{",
         joined(self.alloc, arms.as_slice(), " | ")
     }
 
+    // Returns the type of a read row whose values have the types of those of the enum, or of its rows.
+    fn read_as(&self, is_row: bool) -> Result<String, AllocError> {
+        if is_row {
+            return String::from_str(self.alloc, self.rows.as_str());
+        }
+        let mut kinds = Vec::new(self.alloc);
+        for case in &self.cases {
+            if case.has_value() {
+                keep(
+                    &mut kinds,
+                    String::from_str(self.alloc, case.kind.as_str())?,
+                )?;
+            }
+        }
+        let angles = in_angles(self.alloc, kinds.as_slice())?;
+        format!(in self.alloc; "{}Rows{angles}", self.prefix)
+    }
+
     // Adds the impl of `Item` for values or for rows.
     fn add_item(&mut self, is_row: bool) -> Result<(), AllocError> {
         let has_all = self.cases.iter().all(|case| case.has_value());
@@ -323,6 +341,7 @@ pub enum {} {{",
         let module = if is_row { ".rows" } else { "" };
         let meaning = self.meanings(is_row)?;
         let valid = self.valid_ones(is_row)?;
+        let read = self.read_as(is_row)?;
         let place = self.place.as_str();
         self.lines.put(format!(in self.alloc;
             "    ghost use Rattle.columnar.specs.Row.{{{rows}}};
@@ -332,6 +351,8 @@ pub enum {} {{",
     ghost meaning = {{ λ s. elim s as (λ v. Row) [ {meaning} ] }};
 
     ghost valid = {{ λ s. elim s as (λ v. Type 0) [ {valid} ] }};
+
+    ghost unbuffered = {{ ⟦<{read} as Item>⟧.unbuffered }};
 }}
 "
         ))

@@ -49,7 +49,7 @@ pub fn add_head(
         "//! Rows of {list}, as `columnar_derive` writes them.
 use super::*;
 use columnar::fault::{{GrowError, OwnError}};
-use columnar::names::PartNames;"
+use columnar::names::{{PartNames, name_in}};"
     ))?;
     let is_generic = of.has_generic_struct || of.has_generic_enum;
     if is_generic {

@@ -6,7 +6,7 @@ use std::fmt::Write;
 pub const WIDTH: usize = 100;
 
 /// The greatest length of the items of a tuple or call on one line.
-const ITEMS: usize = 60;
+pub const ITEMS: usize = 60;
 
 // The greatest length of values that share lines if one line cannot hold them all.
 const SHORT: usize = 10;
@@ -163,8 +163,8 @@ fn paired(alloc: Global, items: &[String], from: usize) -> Result<String, AllocE
     Ok(text)
 }
 
-// Returns the number of characters of a text.
-fn width(text: &str) -> usize {
+/// Returns the number of characters of a text.
+pub fn width(text: &str) -> usize {
     text.chars().count()
 }
 

@@ -1,9 +1,10 @@
 //! The names of parts: of the fields of a struct, or of the variants of an enum.
 use crate::generics::Generics;
-use crate::lines::{Header, Lines};
+use crate::lines::{Header, ITEMS, Lines, WIDTH, each, joined, width};
 use std::alloc::{AllocError, Global};
+use std::fmt::Write;
 
-/// Adds the impl that names the parts of a type, in order.
+/// Adds the impl that names the parts of a type, in order, and its ghost.
 pub fn add_names(
     alloc: Global,
     lines: &mut Lines,
@@ -21,17 +22,45 @@ pub fn add_names(
         },
         generics.bounds.as_slice(),
     )?;
-    let begun = format!(in alloc;
-        "    fn part_name(index: usize) -> &'static str {{
-        match index {{"
-    )?;
-    lines.add(begun.as_str())?;
-    for (i, name) in names.iter().enumerate() {
+    let mut list = String::new(alloc);
+    for name in names {
         let name = name.as_str();
-        let line = format!(in alloc; "            {i} => \"{name}\",")?;
-        lines.add(line.as_str())?;
+        write!(list, "codes \"{name}\" ∷ ")?;
     }
-    lines.add("            _ => \"\",\n        }\n    }\n}\n")
+    let words = if names.is_empty() {
+        "[]"
+    } else {
+        "[], ◌∷◌, codes"
+    };
+    lines.put(format!(in alloc;
+        "    ghost use Rattle.std.specs.Prelude.{{{words}}};
+    ghost use Rattle.columnar.specs.Names.{{name_at}};
+
+    ghost name_of = {{ name_at ({list}[]) }};
+
+    fn part_name(index: usize) -> &'static str {{"
+    ))?;
+    add_list_of_names(alloc, lines, names)?;
+    lines.add("    }\n}\n")
+}
+
+// Adds the call that returns one of the names.
+fn add_list_of_names(alloc: Global, lines: &mut Lines, names: &[String]) -> Result<(), AllocError> {
+    let names = each(alloc, names, "\"", "\"")?;
+    let list = joined(alloc, names.as_slice(), ", ")?;
+    let arguments = format!(in alloc; "&[{list}], index")?;
+    let arguments = arguments.as_str();
+    if width(arguments) <= ITEMS {
+        return lines.put(format!(in alloc; "        name_in({arguments})"));
+    }
+    lines.add("        name_in(")?;
+    let indent = "            ";
+    if names.len() == 1 {
+        lines.add_list(indent, "&[", names.as_slice(), "],", WIDTH)?;
+    } else {
+        lines.add_arguments(indent, "&[", names.as_slice(), "],")?;
+    }
+    lines.add("            index,\n        )")
 }
 
 // The names that the language reserves.

@@ -223,7 +223,7 @@ impl<'x> Page<'x> {
         in_clause(self.alloc, fields.as_slice())
     }
 
-    // Adds the meaning of values and rows: that of the tuple of their fields.
+    // Adds the meaning of values and rows, and whether they are pushed without a buffer: as the tuple of their fields.
     fn add_items(&mut self) -> Result<(), AllocError> {
         let fields = self.tuple_in_clause()?;
         let parts = self.parts.as_str();
@@ -242,6 +242,8 @@ impl<'x> Page<'x> {
             "    ghost meaning = {{ λ e. ⟦<{parts} as Item>⟧.meaning {fields} }};
 
     ghost valid = {{ λ e. ⟦<{parts} as Item>⟧.valid {fields} }};
+
+    ghost unbuffered = {{ ⟦<{parts} as Item>⟧.unbuffered }};
 }}
 "
         ))?;
@@ -257,6 +259,8 @@ impl<'x> Page<'x> {
             "    ghost meaning = {{ λ e. ⟦<{tuple} as Item>⟧.meaning {fields} }};
 
     ghost valid = {{ λ e. ⟦<{tuple} as Item>⟧.valid {fields} }};
+
+    ghost unbuffered = {{ ⟦<{tuple} as Item>⟧.unbuffered }};
 }}
 "
         ))

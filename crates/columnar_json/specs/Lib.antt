@@ -1,5 +1,11 @@
 pub mod Pieces
 pub mod Json
+pub mod Csv
+pub mod Views
+pub mod CsvLaws
+pub mod FieldLaws
+pub mod RecordLaws
+pub mod ChosenLaws
 pub mod Written
 pub mod WrittenLaws
 pub mod TextLaws

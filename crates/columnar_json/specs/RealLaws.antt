@@ -34,7 +34,7 @@ back_by t b false e h =
     let k : nat_lt (2 * t - 1 - b) t ≡ true = lt-ltb (2 * t - 1 - b) t (omega (arith, m, h)) in
     rw k (omega (arith, h))
 
-place_back : (f : Format) (x : Float) → to_bits f x < 2 * top f → T (fits f x) → float_at f (float_place f (to_bits f x)) ≡ x
+pub place_back : (f : Format) (x : Float) → to_bits f x < 2 * top f → T (fits f x) → float_at f (float_place f (to_bits f x)) ≡ x
 place_back f x h k = ap (of_bits f) (back_by (top f) (to_bits f x) (nat_lt (to_bits f x) (top f)) refl h) ∙ of_bits-to_bits f x k
 
 -- ---- texts of floats

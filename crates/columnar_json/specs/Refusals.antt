@@ -5,9 +5,11 @@ use Rattle.columnar_core.specs.Frame.{framed_slices}
 use Rattle.columnar_schema.specs.declared.schema.Schema.{Schema}
 use Rattle.columnar_json.specs.Json.{first_flaw, flaws_of, row_at}
 use Rattle.columnar_json.specs.Stored.{stored_rows}
+use Rattle.columnar_json.specs.Views.{flaws_by}
 use Rattle.columnar_json.specs.declared.rows.Rows.{Rows}
 use Rattle.columnar_json.specs.declared.unwritten.Unwritten.{Unwritten}
 use Rattle.columnar_json.specs.declared.unwritten.Unwritten.TheVariants.{Memory, NoRow, NotText, WrongLength}
+use Rattle.columnar_json.specs.declared.view.View.{View}
 
 -- the rows of an accepted store
 abbrev pub all_rows : Rows → List Row
@@ -19,3 +21,10 @@ IsRefusal s rs i Memory = Unit {0}
 IsRefusal s rs i NoRow = length rs ≤ i
 IsRefusal s rs i NotText = first_flaw (flaws_of s (row_at rs i)) ≡ Some NotText
 IsRefusal s rs i WrongLength = first_flaw (flaws_of s (row_at rs i)) ≡ Some WrongLength
+
+-- the same for what a view writes
+abbrev pub IsRefusalBy : View → Schema → List Row → ℕ → Unwritten → Type 0
+IsRefusalBy v s rs i Memory = Unit {0}
+IsRefusalBy v s rs i NoRow = length rs ≤ i
+IsRefusalBy v s rs i NotText = first_flaw (flaws_by v s (row_at rs i)) ≡ Some NotText
+IsRefusalBy v s rs i WrongLength = first_flaw (flaws_by v s (row_at rs i)) ≡ Some WrongLength

@@ -29,7 +29,7 @@ pub plain_spells : (bs : List ℕ) → Spells (plain bs) bs
 plain_spells [] = refl
 plain_spells (b ∷ bs) = (b ∷ bs, [], (sym (append-nil (b ∷ bs)), (refl, refl)))
 
-spells_both : (ps qs : List Piece) (t u : List ℕ) → Spells ps t → Spells qs u → Spells (ps ++ qs) (t ++ u)
+pub spells_both : (ps qs : List Piece) (t u : List ℕ) → Spells ps t → Spells qs u → Spells (ps ++ qs) (t ++ u)
 spells_both [] qs t u h k = rw h k
 spells_both (p ∷ ps) qs t u h k =
     (h.0, h.1 ++ u, (ap (λ z. z ++ u) h.2.0 ∙ append_assoc h.0 h.1 u, (h.2.1.0, spells_both ps qs h.1 u h.2.1.1 k)))
@@ -85,7 +85,7 @@ between_failed old first new a ps z fs e p q = row_goes_on old first new (plain 
 pub passed : (old new text : List ℕ) (flaws : List Unwritten) (e : Unwritten) (r : Result (Unit {0}) Unwritten) → IsErrAnd r (λ y. y ≡ e) → Wrote old new text flaws (Err e) → Wrote old new text flaws r
 passed old new text flaws e r h w = rw (passed_on r h) w
 
-flawless : (flaws : List Unwritten) (e : Unwritten) → IsFirstFlaw [] e → IsFirstFlaw flaws e
+pub flawless : (flaws : List Unwritten) (e : Unwritten) → IsFirstFlaw [] e → IsFirstFlaw flaws e
 flawless flaws Memory h = tt
 flawless flaws NoRow h = h
 flawless flaws NotText h = absurd (cc (h))

@@ -5,13 +5,14 @@ ghost use Rattle.columnar_core.specs.Store.{slices_in};
 ghost use Rattle.columnar_schema.specs.Formats.{leaf_format};
 ghost use Rattle.columnar_schema.specs.declared.schema.Leaf.TheVariants.{Text};
 ghost use Rattle.columnar_base.specs.Texts.{text_row};
+ghost use Rattle.columnar_json.specs.Csv.{leaf_csv};
 ghost use Rattle.columnar_json.specs.Json.{leaf_flaws, leaf_json, row_at};
 ghost use Rattle.columnar_json.specs.Written.{WroteRow};
 
-use crate::real::{push_double, push_single};
+use crate::real::{push_double, push_finite_double, push_finite_single, push_single};
 use crate::text::{
     push_bytes, push_character, push_duration, push_integer, push_large, push_large_integer,
-    push_number, push_text, push_truth,
+    push_number, push_plain_character, push_plain_text, push_text, push_truth,
 };
 use crate::unwritten::Unwritten;
 use columnar_bits::bools::Bools;
@@ -129,5 +130,43 @@ pub fn write_leaf(
             )
         }
         Leaf::Text(bounds) => push_text(out, text_at(bounds, store, offset, index)),
+    }
+}
+
+/// Appends row `index` of accepted slices as a value of CSV.
+///
+/// # Requires
+/// The slices from `offset` on were accepted for this type, and have this row.
+///
+/// # Errors
+/// `NotText` for a text that is not UTF-8, or `Memory`. `out` then begins as before.
+#[tactic(auto, using(crate::specs::WrittenLaws::wrote_plain))]
+pub fn write_plain(
+    leaf: Leaf,
+    store: &DecodedStore<'_>,
+    offset: usize,
+    index: usize,
+    out: &mut Vec<u8>,
+) -> Result<(), Unwritten>
+    requires fits { Fits (leaf_format leaf) offset (slices_in store.now) }
+    requires in_range { index < length ((leaf_format leaf).rows ((leaf_format leaf).build (drop offset (slices_in store.now)))) }
+    ensures { WroteRow out.old.items out.new.items (leaf_csv leaf (row_at ((leaf_format leaf).rows ((leaf_format leaf).build (drop offset (slices_in store.now)))) index)) (leaf_flaws leaf (row_at ((leaf_format leaf).rows ((leaf_format leaf).build (drop offset (slices_in store.now)))) index)) result }
+{
+    match leaf {
+        Leaf::F32 => push_finite_single(
+            out,
+            row_in::<Singles<View<'_, u32>>>(store, offset, index),
+        ),
+        Leaf::F64 => push_finite_double(
+            out,
+            row_in::<Doubles<View<'_, u64>>>(store, offset, index),
+        ),
+        Leaf::Char => push_plain_character(
+            out,
+            row_in::<Chars<View<'_, u32>>>(store, offset, index),
+        ),
+        Leaf::Unit => push_bytes(out, b""),
+        Leaf::Text(bounds) => push_plain_text(out, text_at(bounds, store, offset, index)),
+        _ => write_leaf(leaf, store, offset, index, out),
     }
 }

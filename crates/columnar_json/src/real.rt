@@ -4,6 +4,7 @@ ghost use Rattle.std.specs.Float.{binary32, binary64, float_is_finite};
 ghost use Rattle.std.specs.Float.Ieee.{fits};
 ghost use Rattle.ryu.specs.Parse.{parse_float};
 ghost use Rattle.ryu.specs.Plain.{IsPlusNumber};
+ghost use Rattle.columnar_json.specs.Csv.{finite};
 ghost use Rattle.columnar_json.specs.Pieces.{double, single};
 ghost use Rattle.columnar_json.specs.Written.{Wrote, WroteRow};
 
@@ -43,5 +44,29 @@ pub fn push_double(out: &mut Vec<u8>, x: f64) -> Result<(), Unwritten>
         push_finite(out, x)
     } else {
         push_bytes(out, b"null")
+    }
+}
+
+/// Appends a number that reads as the float, or nothing if the float is not finite.
+pub fn push_finite_single(out: &mut Vec<u8>, x: f32) -> Result<(), Unwritten>
+    ensures fits { fits binary32 x ≡ true }
+    ensures text { WroteRow out.old.items out.new.items (finite x (single x)) [] result }
+{
+    if x.is_finite() {
+        push_finite(out, x)
+    } else {
+        push_bytes(out, b"")
+    }
+}
+
+/// Appends a number that reads as the float, or nothing if the float is not finite.
+pub fn push_finite_double(out: &mut Vec<u8>, x: f64) -> Result<(), Unwritten>
+    ensures fits { fits binary64 x ≡ true }
+    ensures text { WroteRow out.old.items out.new.items (finite x (double x)) [] result }
+{
+    if x.is_finite() {
+        push_finite(out, x)
+    } else {
+        push_bytes(out, b"")
     }
 }

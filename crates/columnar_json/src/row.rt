@@ -30,7 +30,7 @@ use columnar_sums::discriminant::Discriminant;
 use columnar_sums::rank_select::RankSelect;
 
 // Returns whether bit `index` is set, and the number of set bits before it.
-fn bit_at(store: &DecodedStore<'_>, offset: usize, index: usize) -> (bool, usize)
+pub(crate) fn bit_at(store: &DecodedStore<'_>, offset: usize, index: usize) -> (bool, usize)
     requires fits { Fits ranks_format offset (slices_in store.now) }
     requires in_range { index < length (ranks_format.rows (ranks_format.build (drop offset (slices_in store.now)))) }
     ensures bit { slice_get (ranks_format.rows (ranks_format.build (drop offset (slices_in store.now)))) index ≡ Some (truth result.0) }
@@ -44,7 +44,7 @@ fn bit_at(store: &DecodedStore<'_>, offset: usize, index: usize) -> (bool, usize
 }
 
 // Returns row `index` of bytes, a distance.
-fn distance_at(store: &DecodedStore<'_>, offset: usize, index: usize) -> usize
+pub(crate) fn distance_at(store: &DecodedStore<'_>, offset: usize, index: usize) -> usize
     requires fits { Fits bytes_format offset (slices_in store.now) }
     requires in_range { index < length (bytes_format.rows (bytes_format.build (drop offset (slices_in store.now)))) }
     ensures { slice_get (bytes_format.rows (bytes_format.build (drop offset (slices_in store.now)))) index ≡ Some (number result) }
@@ -179,7 +179,7 @@ fn write_items(
 }
 
 // Returns the variant of row `index`, and the number of earlier rows that have it.
-fn variant_at(store: &DecodedStore<'_>, offset: usize, index: usize) -> (usize, usize)
+pub(crate) fn variant_at(store: &DecodedStore<'_>, offset: usize, index: usize) -> (usize, usize)
     requires fits { Fits discriminant_format offset (slices_in store.now) }
     requires in_range { index < length (discriminant_format.rows (discriminant_format.build (drop offset (slices_in store.now)))) }
     ensures variant { slice_get (variants_of (discriminant_format.build (drop offset (slices_in store.now)))) index ≡ Some result.0 }

@@ -22,8 +22,8 @@ pub fn push_bytes(out: &mut Vec<u8>, bytes: &[u8]) -> Result<(), Unwritten>
     }
 }
 
-// Appends one byte.
-fn push_byte(out: &mut Vec<u8>, byte: u8) -> Result<(), Unwritten>
+/// Appends one byte.
+pub fn push_byte(out: &mut Vec<u8>, byte: u8) -> Result<(), Unwritten>
     ensures { Wrote out.old.items out.new.items (byte ∷ []) [] result }
 {
     match out.push(byte) {
@@ -134,6 +134,13 @@ pub fn push_character(out: &mut Vec<u8>, character: char) -> Result<(), Unwritte
     push_quoted(out, character.encode_utf8(&mut [0; 4]).as_bytes())
 }
 
+/// Appends the bytes of the character.
+pub fn push_plain_character(out: &mut Vec<u8>, character: char) -> Result<(), Unwritten>
+    ensures { Wrote out.old.items out.new.items (encode_utf8 character) [] result }
+{
+    push_bytes(out, character.encode_utf8(&mut [0; 4]).as_bytes())
+}
+
 /// Appends the text between quotes.
 ///
 /// # Errors
@@ -144,6 +151,19 @@ pub fn push_text(out: &mut Vec<u8>, bytes: &[u8]) -> Result<(), Unwritten>
     match as_text(bytes) {
         Ok(_) => push_quoted(out, bytes),
         Err(_) => Err(Unwritten::NotText),
+    }
+}
+
+/// Appends the bytes of the text.
+///
+/// # Errors
+/// `NotText` if the bytes are not UTF-8; then nothing is appended. `Memory`.
+pub fn push_plain_text(out: &mut Vec<u8>, bytes: &[u8]) -> Result<(), Unwritten>
+    ensures { Wrote out.old.items out.new.items (text_bytes (text_row bytes.now)) (text_flaws (text_bytes (text_row bytes.now))) result }
+{
+    match as_text(bytes) {
+        Ok(_) => push_bytes(out, bytes),
+        Err(_why) => Err(Unwritten::NotText),
     }
 }
 

@@ -13,11 +13,15 @@ use Rattle.columnar_base.specs.Row.{Row, list, number}
 use Rattle.columnar_base.specs.Format.{Format, Content, both, IsSound, IsLawful}
 use Rattle.columnar_base.specs.Change.{Took, Refused, IsTrueOf}
 use Rattle.columnar_base.specs.ChangeLaws.{true_from, unchanged}
+use Rattle.columnar_base.specs.Room.{WasFull, Leaves}
+use Rattle.columnar_base.specs.RoomLaws.{full_front}
 use Rattle.columnar_base.specs.RowsLeft.{GivesRow}
 use Rattle.columnar_base.specs.declared.fault.GrowError.{GrowError}
 use Rattle.columnar_lists.specs.Each.{range_rows}
 use Rattle.columnar_lists.specs.Lists.{lists_format, ends}
 use Rattle.columnar_lists.specs.ListLaws.{lists_parts, list_refused_values, lists_refused_bounds, one_ends}
+use Rattle.columnar_lists.specs.RoomLaws.{list_full_values}
+use Rattle.columnar_lists.specs.Rooms.{lists_room}
 
 -- a range of numbers gives the first of the numbers that are left
 pub range_gives : (row : ℕ → Row) (s : Range ℕ) (r : Option ℕ) (t : Range ℕ) → range_steps (λ (x : ℕ) (y : ℕ). y - x) (λ x y. y ≡ x + 1) s r t → YieldsFirstBy row (range_rows row) s r t
@@ -82,6 +86,20 @@ module _ {S A : Type 0} (steps : S → Option A → S → Type 0) (meaning : A �
   pub each_taken : {R : Type 0} (result : Result R GrowError) (f : Format) (old new : Content) (s : S) → OnOk result ((xs : List A) × (Drains steps s xs × Took f old new (list (map meaning xs) ∷ []))) → OnOk result (Took f old new (list (rows s) ∷ []))
   each_taken (Ok v) f old new s h = rw (rows_of_all h.0 s h.1.0) h.1.1
   each_taken (Err e) f old new s h = h
+
+  -- the room that it left
+  pub each_leaves : {R : Type 0} (result : Result R GrowError) (f : Format) (x y : Content) (old new : List Row → Type 0) (s : S) → OnOk result ((xs : List A) × (Drains steps s xs × (Took f x y (list (map meaning xs) ∷ []) × Leaves old new (list (map meaning xs) ∷ [])))) → OnOk result (Leaves old new (list (rows s) ∷ []))
+  each_leaves (Ok v) f x y old new s h = rw (rows_of_all h.0 s h.1.0) h.1.1.1
+  each_leaves (Err e) f x y old new s h = h
+
+  -- the values had no room for the first items, so there is none for all; or there was no room for the list of all
+  pub each_full : {R : Type 0} (result : Result R GrowError) (b t : List Row → Type 0) (n : ℕ) (s : S) → IfErr result (λ e. (xs : List A) × (((rest : S) × (Yields steps s xs rest × WasFull t (map meaning xs) e)) ⊎ (Drains steps s xs × WasFull (lists_room b t n) (list (map meaning xs) ∷ []) e))) → IfErr result (WasFull (lists_room b t n) (list (rows s) ∷ []))
+  each_full (Ok v) b t n s h = h
+  each_full (Err error) b t n s h =
+      elim h.1 [
+        | inl k ↦ rw (rows_of_run h.0 s k.0 k.1.0) (list_full_values b n (map meaning h.0 ++ rows k.0) (full_front (map meaning h.0) (rows k.0) k.1.1))
+        | inr k ↦ rw (rows_of_all h.0 s k.0) k.1
+      ]
 
   -- the values refused the items up to one of them, so they refuse all; or the bounds refused the end of all
   each_cause : (b t : Format) {x y : Content} (error : GrowError) → IsLawful t → IsSound (lists_format b t) (both x y) → (s : S) → (xs : List A) × (((rest : S) × (Yields steps s xs rest × IsTrueOf error t y (map meaning xs))) ⊎ (Drains steps s xs × IsTrueOf error b x (number (length (t.rows y) + length xs) ∷ []))) → IsTrueOf error (lists_format b t) (both x y) (list (rows s) ∷ [])

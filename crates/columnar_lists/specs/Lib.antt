@@ -2,6 +2,8 @@ pub mod Lists
 pub mod CutLaws
 pub mod ListLaws
 pub mod ListPushLaws
+pub mod Rooms
+pub mod RoomLaws
 pub mod Cut
 pub mod PieceLaws
 pub mod EarlierListLaws

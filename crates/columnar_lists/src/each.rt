@@ -184,6 +184,8 @@ impl<I: Determined> Item for Each<I> {
     ghost meaning = { λ e. list (I.rows e.0) };
 
     ghost valid = { λ e. I.sound e.0 };
+
+    ghost unbuffered = { I.Item.unbuffered };
 }
 
 /// Pushes the items by value.

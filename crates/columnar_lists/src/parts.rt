@@ -6,14 +6,16 @@ ghost use Rattle.columnar_base.specs.Format.{both, bytes_held, first, moved, rep
 ghost use Rattle.columnar_base.specs.Faults.{verdict};
 ghost use Rattle.columnar_base.specs.Change.{Copied, Refused, Stayed, Took, WasCut};
 ghost use Rattle.columnar_core.specs.Bounds.{numbers, last_or};
+ghost use Rattle.columnar_base.specs.Room.{WasFull, Leaves, Frees, KeepsRoom};
 ghost use Rattle.columnar_lists.specs.Lists.{lists_format};
+ghost use Rattle.columnar_lists.specs.Rooms.{lists_room};
 
 use columnar_base::fault::{GrowError, StoreFault};
 use columnar_base::tally::Tally;
 use columnar_base::traits::{Column, Index, Item, Len, PushRef};
 use columnar_core::bytes::Check;
 use columnar_core::container::{ExtendFrom, Reserve, Truncate};
-use columnar_core::offsets::{ExtendShifted, Offsets, PushAfter, StoredOffsets};
+use columnar_core::offsets::{ExtendShifted, Offsets, PushAfter, ReserveOffsets, StoredOffsets};
 use columnar_core::two::check_two;
 use std::ops::Range;
 
@@ -52,7 +54,8 @@ pub fn range_of<BC: Offsets>(bounds: &BC, index: usize) -> (usize, usize)
 pub fn cut_lists<TC: Truncate, BC: Truncate + Offsets>(bounds: &mut BC, values: &mut TC, n: usize)
     requires sound { IsSound (lists_format BC.format TC.format) (both (BC.content bounds.old) (TC.content values.old)) }
     requires in_range { n ≤ length ((lists_format BC.format TC.format).rows (both (BC.content bounds.old) (TC.content values.old))) }
-    ensures { WasCut (lists_format BC.format TC.format) (both (BC.content bounds.old) (TC.content values.old)) (both (BC.content bounds.new) (TC.content values.new)) n }
+    ensures cut { WasCut (lists_format BC.format TC.format) (both (BC.content bounds.old) (TC.content values.old)) (both (BC.content bounds.new) (TC.content values.new)) n }
+    ensures freed { Frees (lists_format BC.format TC.format) (both (BC.content bounds.old) (TC.content values.old)) n (lists_room (BC.room bounds.old) (TC.room values.old) (length (TC.format.rows (TC.content values.old)))) (lists_room (BC.room bounds.new) (TC.room values.new) (length (TC.format.rows (TC.content values.new)))) }
 {
     let end = start_of(bounds, n);
     values.truncate(end as usize);
@@ -66,7 +69,7 @@ pub fn cut_lists<TC: Truncate, BC: Truncate + Offsets>(bounds: &mut BC, values: 
 ///
 /// # Errors
 /// `Memory`, and no other error.
-pub fn reserve_lists<TC: Reserve, BC: Reserve>(
+pub fn reserve_lists<TC: Reserve, BC: ReserveOffsets>(
     bounds: &mut BC,
     values: &mut TC,
     room: (BC::Room, TC::Room),
@@ -74,6 +77,7 @@ pub fn reserve_lists<TC: Reserve, BC: Reserve>(
     requires { IsSound (lists_format BC.format TC.format) (both (BC.content bounds.old) (TC.content values.old)) }
     ensures stayed { Stayed (lists_format BC.format TC.format) (both (BC.content bounds.old) (TC.content values.old)) (both (BC.content bounds.new) (TC.content values.new)) }
     ensures memory { IfErr result (λ e. e ≡ GrowError.Memory) }
+    ensures room { OnOk result (BC.reserves × TC.reserves → KeepsRoom (lists_room (BC.covers room.0) (TC.covers room.1) 0) (lists_room (BC.room bounds.new) (TC.room values.new) (length (TC.format.rows (TC.content values.new))))) }
 {
     bounds.reserve_room(room.0)?;
     values.reserve_room(room.1)
@@ -92,6 +96,9 @@ pub(crate) fn end_list<TC: Truncate, BC: PushAfter>(
     requires last { last_or 0 (numbers (BC.format.rows (BC.content bounds.old))) ≡ before }
     ensures ok { OnOk result (Took BC.format (BC.content bounds.old) (BC.content bounds.new) (number (length (TC.format.rows (TC.content values.old))) ∷ []) × (TC.content values.new ≡ TC.content values.old)) }
     ensures err { IfErr result (λ e. Refused BC.format (BC.content bounds.old) (BC.content bounds.new) (number (length (TC.format.rows (TC.content values.old))) ∷ []) e × WasCut TC.format (TC.content values.old) (TC.content values.new) before) }
+    ensures wanted { IfErr result (WasFull (BC.room bounds.old) (number (length (TC.format.rows (TC.content values.old))) ∷ [])) }
+    ensures left { OnOk result (Leaves (BC.room bounds.old) (BC.room bounds.new) (number (length (TC.format.rows (TC.content values.old))) ∷ [])) }
+    ensures values { OnOk result (KeepsRoom (TC.room values.old) (TC.room values.new)) }
 {
     let end = values.len();
     match bounds.push_after(before as u64, end as u64) {
@@ -120,6 +127,8 @@ pub fn push_list<T: Item, TC: Truncate + PushRef<T>, BC: Offsets + PushAfter>(
     requires valid { All T.valid items.now }
     ensures ok { OnOk result (Took (lists_format BC.format TC.format) (both (BC.content bounds.old) (TC.content values.old)) (both (BC.content bounds.new) (TC.content values.new)) (list (map T.meaning items.now) ∷ [])) }
     ensures err { IfErr result (λ e. Refused (lists_format BC.format TC.format) (both (BC.content bounds.old) (TC.content values.old)) (both (BC.content bounds.new) (TC.content values.new)) (list (map T.meaning items.now) ∷ []) e) }
+    ensures wanted { T.unbuffered → IfErr result (WasFull (lists_room (BC.room bounds.old) (TC.room values.old) (length (TC.format.rows (TC.content values.old)))) (list (map T.meaning items.now) ∷ [])) }
+    ensures left { OnOk result (Leaves (lists_room (BC.room bounds.old) (TC.room values.old) (length (TC.format.rows (TC.content values.old)))) (lists_room (BC.room bounds.new) (TC.room values.new) (length (TC.format.rows (TC.content values.new)))) (list (map T.meaning items.now) ∷ [])) }
 {
     let before = values.len();
     values.push_slice(items)?;
@@ -154,6 +163,8 @@ pub fn copy_lists_tallied<
     requires in_range { range.«end» ≤ length ((lists_format W.format V.format).rows (both (W.content view.now) (V.content items))) }
     ensures ok { OnOk result (Copied (lists_format BC.format TC.format) (both (BC.content bounds.old) (TC.content values.old)) (both (BC.content bounds.new) (TC.content values.new)) range.start (take (range.«end» - range.start) (drop range.start ((lists_format W.format V.format).rows (both (W.content view.now) (V.content items)))))) }
     ensures err { IfErr result (λ e. Refused (lists_format BC.format TC.format) (both (BC.content bounds.old) (TC.content values.old)) (both (BC.content bounds.new) (TC.content values.new)) (take (range.«end» - range.start) (drop range.start ((lists_format W.format V.format).rows (both (W.content view.now) (V.content items))))) e) }
+    ensures wanted { IfErr result (WasFull (lists_room (BC.room bounds.old) (TC.room values.old) (length (TC.format.rows (TC.content values.old)))) (take (range.«end» - range.start) (drop range.start ((lists_format W.format V.format).rows (both (W.content view.now) (V.content items)))))) }
+    ensures left { OnOk result (Leaves (lists_room (BC.room bounds.old) (TC.room values.old) (length (TC.format.rows (TC.content values.old)))) (lists_room (BC.room bounds.new) (TC.room values.new) (length (TC.format.rows (TC.content values.new)))) (take (range.«end» - range.start) (drop range.start ((lists_format W.format V.format).rows (both (W.content view.now) (V.content items)))))) }
     ensures turns { tally.new.turns ≤ tally.old.turns + (range.«end» - range.start) }
 {
     let before = values.len();
@@ -192,6 +203,8 @@ pub fn copy_lists<V: Column + Copy, W: Offsets, TC: ExtendFrom<V>, BC: ExtendShi
     requires in_range { range.«end» ≤ length ((lists_format W.format V.format).rows (both (W.content view.now) (V.content items))) }
     ensures ok { OnOk result (Copied (lists_format BC.format TC.format) (both (BC.content bounds.old) (TC.content values.old)) (both (BC.content bounds.new) (TC.content values.new)) range.start (take (range.«end» - range.start) (drop range.start ((lists_format W.format V.format).rows (both (W.content view.now) (V.content items)))))) }
     ensures err { IfErr result (λ e. Refused (lists_format BC.format TC.format) (both (BC.content bounds.old) (TC.content values.old)) (both (BC.content bounds.new) (TC.content values.new)) (take (range.«end» - range.start) (drop range.start ((lists_format W.format V.format).rows (both (W.content view.now) (V.content items))))) e) }
+    ensures wanted { IfErr result (WasFull (lists_room (BC.room bounds.old) (TC.room values.old) (length (TC.format.rows (TC.content values.old)))) (take (range.«end» - range.start) (drop range.start ((lists_format W.format V.format).rows (both (W.content view.now) (V.content items)))))) }
+    ensures left { OnOk result (Leaves (lists_room (BC.room bounds.old) (TC.room values.old) (length (TC.format.rows (TC.content values.old)))) (lists_room (BC.room bounds.new) (TC.room values.new) (length (TC.format.rows (TC.content values.new)))) (take (range.«end» - range.start) (drop range.start ((lists_format W.format V.format).rows (both (W.content view.now) (V.content items)))))) }
 {
     copy_lists_tallied(bounds, values, view, items, range, &mut Tally::new())
 }

@@ -5,6 +5,7 @@ ghost use Rattle.columnar_base.specs.Format.{both, IsSound};
 ghost use Rattle.columnar_base.specs.TwoPartsLaws.{two_counted};
 ghost use Rattle.columnar_core.specs.Bounds.{numbers};
 ghost use Rattle.columnar_lists.specs.Lists.{joined, lists_format};
+ghost use Rattle.columnar_lists.specs.Rooms.{lists_room};
 ghost use Rattle.columnar_lists.specs.ListLaws.{same_lists, lists_lawful, lists_storable};
 
 mod earlier;
@@ -20,7 +21,7 @@ use columnar_core::bytes::{AsBytes, Check, FromBytes, Stored};
 use columnar_core::container::{
     Borrow, Container, ContainerBytes, ExtendFrom, Named, Reborrow, Reserve, Storage, Truncate,
 };
-use columnar_core::offsets::{ExtendShifted, Offsets, PushAfter, StoredOffsets};
+use columnar_core::offsets::{ExtendShifted, Offsets, PushAfter, ReserveOffsets, StoredOffsets};
 use columnar_core::slice::Slice;
 use columnar_core::store::DecodedStore;
 use columnar_core::two::{byte_slice_of_two, judge_two, load_two, sizes_of_two, slice_of_two};
@@ -42,6 +43,8 @@ impl<TC: Column, BC: Column> Column for Vecs<TC, BC> {
     ghost format = { lists_format BC.format TC.format };
 
     ghost content = { λ v. both (BC.content v.bounds) (TC.content v.values) };
+
+    ghost room = { λ v. lists_room (BC.room v.bounds) (TC.room v.values) (length (TC.format.rows (TC.content v.values))) };
 }
 
 impl<TC: Column, BC: Len> Len for Vecs<TC, BC> {
@@ -147,7 +150,7 @@ impl<TC: Column, BC: Offsets> Vecs<TC, BC> {
     }
 }
 
-impl<TC: Clear, BC: Clear> Clear for Vecs<TC, BC> {
+impl<TC: Clear, BC: Clear + Offsets> Clear for Vecs<TC, BC> {
     fn clear(&mut self) {
         self.bounds.clear();
         self.values.clear();
@@ -176,8 +179,12 @@ impl<TC: Storage, BC: Storage + Offsets> Storage for Vecs<TC, BC> {
     }
 }
 
-impl<TC: Reserve, BC: Reserve> Reserve for Vecs<TC, BC> {
+impl<TC: Reserve, BC: ReserveOffsets> Reserve for Vecs<TC, BC> {
     type Room = (BC::Room, TC::Room);
+
+    ghost reserves = { BC.reserves × TC.reserves };
+
+    ghost covers = { λ r. lists_room (BC.covers r.0) (TC.covers r.1) 0 };
 
     fn no_room() -> (BC::Room, TC::Room) {
         (BC::no_room(), TC::no_room())

@@ -69,6 +69,8 @@ impl<TC: Column, VC: Column, CC: Words, RC: Words, WC: Words, const N: u8> Colum
     ghost format = { lookbacks_format TC.format VC.format };
 
     ghost content = { λ c. results_content TC.content VC.content CC.bytes RC.bytes WC.bytes c.inner };
+
+    ghost room = { λ c rs. ⊥ };
 }
 
 impl<TC: Column, VC: Column, CC: Words, RC: Words, WC: Words, const N: u8> Lookbacks<

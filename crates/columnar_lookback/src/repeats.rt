@@ -26,6 +26,8 @@ impl<TC: Column, CC: Words, VC: Words, WC: Words> Column for Repeats<TC, CC, VC,
     ghost format = { repeats_format TC.format };
 
     ghost content = { λ r. both (ranks_content CC.bytes VC.bytes WC.bytes r.inner.indexes) (TC.content r.inner.somes) };
+
+    ghost room = { λ c rs. ⊥ };
 }
 
 impl<TC: Len, CC: Words, VC: Words, WC: Words> Len for Repeats<TC, CC, VC, WC> {

@@ -1,4 +1,7 @@
 //! Names of the slices of columns of lists, of strings and of trees.
+ghost use Rattle.std.specs.Prelude.{◌++◌, ◌∷◌, codes};
+ghost use Rattle.columnar_names.specs.Names.{field_path};
+
 use crate::names::{SliceNames, push_field, push_slice};
 use columnar_base::fault::GrowError;
 use columnar_core::offsets::StoredOffsets;
@@ -8,6 +11,8 @@ use columnar_strings::string::Strings;
 use std::alloc::Global;
 
 impl<TC: SliceNames, BC: StoredOffsets + SliceNames> SliceNames for Vecs<TC, BC> {
+    ghost names_at = { λ p. BC.names_at (field_path p (codes "bounds")) ++ TC.names_at (field_path p (codes "values")) };
+
     fn push_names(alloc: Global, path: &str, names: &mut Vec<String>) -> Result<(), GrowError> {
         push_field::<BC>(alloc, path, "bounds", names)?;
         push_field::<TC>(alloc, path, "values", names)
@@ -15,6 +20,8 @@ impl<TC: SliceNames, BC: StoredOffsets + SliceNames> SliceNames for Vecs<TC, BC>
 }
 
 impl<BC: StoredOffsets + SliceNames, VC: SliceNames> SliceNames for Strings<BC, VC> {
+    ghost names_at = { λ p. BC.names_at (field_path p (codes "bounds")) ++ VC.names_at (field_path p (codes "values")) };
+
     fn push_names(alloc: Global, path: &str, names: &mut Vec<String>) -> Result<(), GrowError> {
         push_field::<BC>(alloc, path, "bounds", names)?;
         push_field::<VC>(alloc, path, "values", names)
@@ -22,6 +29,8 @@ impl<BC: StoredOffsets + SliceNames, VC: SliceNames> SliceNames for Strings<BC, 
 }
 
 impl<TC: SliceNames, BC: NodeBounds> SliceNames for Trees<TC, BC> {
+    ghost names_at = { λ p. field_path p (codes "groups") ∷ field_path p (codes "bounds") ∷ TC.names_at (field_path p (codes "values")) };
+
     fn push_names(alloc: Global, path: &str, names: &mut Vec<String>) -> Result<(), GrowError> {
         push_slice(alloc, path, "groups", names)?;
         push_slice(alloc, path, "bounds", names)?;

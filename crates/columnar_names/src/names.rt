@@ -1,6 +1,7 @@
 //! Types whose slices have names.
-ghost use Rattle.std.specs.Prelude.{◌≡◌, ◌+◌, length, OnOk, IfOk, IfErr};
+ghost use Rattle.std.specs.Prelude.{◌≡◌, ◌+◌, ◌++◌, ◌∷◌, [], ℕ, List, codes, length, map, OnOk, IfOk, IfErr, string_bytes};
 ghost use Rattle.columnar_names.specs.Kept.{KeepsItems};
+ghost use Rattle.columnar_names.specs.Names.{field_path, name_at};
 
 use columnar_base::fault::GrowError;
 use columnar_core::bytes::Stored;
@@ -10,11 +11,15 @@ use std::alloc::Global;
 /// `values` of lists of numbers, and `1.indexes.counts` of pairs with options. The name of a column that is a single
 /// slice is empty.
 pub trait SliceNames: Stored {
+    /// The names of the slices, in order, of a column at a path.
+    ghost names_at: { List ℕ → List (List ℕ) };
+
     /// Appends the names of the slices, in order, of a column at `path`.
     ///
     /// # Errors
     /// `Memory`, and no other error. The old names stay; those of its first slices may have been appended.
     fn push_names(alloc: Global, path: &str, names: &mut Vec<String>) -> Result<(), GrowError>
+        ensures names { OnOk result (map string_bytes names.new.items ≡ map string_bytes names.old.items ++ Self.names_at path.now) }
         ensures count { OnOk result (length names.new.items ≡ length names.old.items + Self.format.count) }
         ensures kept { KeepsItems names.old.items names.new.items }
         ensures memory { IfErr result (λ e. e ≡ GrowError.Memory) };
@@ -24,6 +29,7 @@ pub trait SliceNames: Stored {
     /// # Errors
     /// `Memory`, and no other error.
     final fn slice_names(alloc: Global) -> Result<Vec<String>, GrowError>
+        ensures names { IfOk result (λ names. map string_bytes names.items ≡ Self.names_at []) }
         ensures count { IfOk result (λ names. length names.items ≡ Self.format.count) }
         ensures memory { IfErr result (λ e. e ≡ GrowError.Memory) }
     {
@@ -43,6 +49,7 @@ pub fn push_field<C: SliceNames>(
     field: &str,
     names: &mut Vec<String>,
 ) -> Result<(), GrowError>
+    ensures names { OnOk result (map string_bytes names.new.items ≡ map string_bytes names.old.items ++ C.names_at (field_path path.now field.now)) }
     ensures count { OnOk result (length names.new.items ≡ length names.old.items + C.format.count) }
     ensures kept { KeepsItems names.old.items names.new.items }
     ensures memory { IfErr result (λ e. e ≡ GrowError.Memory) }
@@ -61,6 +68,7 @@ pub fn push_slice(
     field: &str,
     names: &mut Vec<String>,
 ) -> Result<(), GrowError>
+    ensures names { OnOk result (map string_bytes names.new.items ≡ map string_bytes names.old.items ++ (field_path path.now field.now ∷ [])) }
     ensures count { OnOk result (length names.new.items ≡ length names.old.items + 1) }
     ensures kept { KeepsItems names.old.items names.new.items }
     ensures memory { IfErr result (λ e. e ≡ GrowError.Memory) }
@@ -74,7 +82,9 @@ pub fn push_slice(
 ///
 /// # Errors
 /// `Memory`, and no other error.
+#[tactic(auto, unfolding(crate::specs::Names::field_path))]
 pub fn joined(alloc: Global, path: &str, field: &str) -> Result<String, GrowError>
+    ensures path { IfOk result (λ joined. string_bytes joined ≡ field_path path.now field.now) }
     ensures memory { IfErr result (λ e. e ≡ GrowError.Memory) }
 {
     let mut text = String::from_str(alloc, path)?;
@@ -87,12 +97,29 @@ pub fn joined(alloc: Global, path: &str, field: &str) -> Result<String, GrowErro
 
 /// The names of parts: of the fields of a struct, or of the variants of an enum.
 pub trait PartNames {
+    /// The name of part i, counted from 0; empty if there is no such part.
+    ghost name_of: { ℕ → List ℕ };
+
     /// Returns the name of part `index`, counted from 0; empty if there is no such part.
-    fn part_name(index: usize) -> &'static str;
+    fn part_name(index: usize) -> &'static str
+        ensures name { result.now ≡ Self.name_of index };
+}
+
+/// Returns the name at a place of a list; empty if there is none.
+pub fn name_in(names: &[&'static str], index: usize) -> &'static str
+    ensures name { result.now ≡ name_at (map (λ name. name.now) names.now) index }
+{
+    match names.get(index) {
+        Some(name) => name,
+        None => "",
+    }
 }
 
 /// Columns of parts whose names are given.
 pub trait NamedParts: Stored {
+    /// The names of the slices, in order, of the parts at a path, whose own names are given.
+    ghost parts_at: { (ℕ → List ℕ) → List ℕ → List (List ℕ) };
+
     /// Does what `push_names` does, with the names that `N` gives the parts.
     ///
     /// # Errors
@@ -102,6 +129,7 @@ pub trait NamedParts: Stored {
         path: &str,
         names: &mut Vec<String>,
     ) -> Result<(), GrowError>
+        ensures names { OnOk result (map string_bytes names.new.items ≡ map string_bytes names.old.items ++ Self.parts_at N.name_of path.now) }
         ensures count { OnOk result (length names.new.items ≡ length names.old.items + Self.format.count) }
         ensures kept { KeepsItems names.old.items names.new.items }
         ensures memory { IfErr result (λ e. e ≡ GrowError.Memory) };
@@ -111,6 +139,8 @@ pub trait NamedParts: Stored {
 pub struct Numbered;
 
 impl PartNames for Numbered {
+    ghost name_of = { name_at (codes "0" ∷ codes "1" ∷ codes "2" ∷ codes "3" ∷ codes "4" ∷ codes "5" ∷ codes "6" ∷ codes "7" ∷ codes "8" ∷ codes "9" ∷ []) };
+
     fn part_name(index: usize) -> &'static str {
         match index {
             0 => "0",

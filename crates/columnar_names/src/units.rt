@@ -7,6 +7,8 @@ use std::alloc::Global;
 
 /// Units have no parts to name.
 impl<CC: Count> NamedParts for Empties<CC> {
+    ghost parts_at = { λ n. ⟦<Empties<CC> as SliceNames>⟧.names_at };
+
     fn push_parts_names<N: PartNames>(
         alloc: Global,
         path: &str,

@@ -74,4 +74,6 @@ impl<TC: Column, BC: NodeBounds> Column for Trees<TC, BC> {
     ghost format = { trees_format TC.format };
 
     ghost content = { trees_content BC.bytes TC.content };
+
+    ghost room = { λ c rs. ⊥ };
 }

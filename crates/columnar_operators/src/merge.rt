@@ -3,6 +3,7 @@ ghost use Rattle.std.specs.Prelude.{◌≡◌, ◌-◌, ◌<◌, ◌≤◌, ◌+
 ghost use Rattle.std.specs.Ordering.{is_lt};
 ghost use Rattle.columnar_base.specs.Format.{IsSound};
 ghost use Rattle.columnar_base.specs.Change.{Took, Refused};
+ghost use Rattle.columnar_base.specs.Room.{WasFull, Leaves};
 ghost use Rattle.columnar_rows.specs.RowOrder.{row_cmp};
 ghost use Rattle.columnar_operators.specs.Merged.{merged};
 ghost use Rattle.columnar_operators.specs.Partly.{Partly};
@@ -18,7 +19,8 @@ use columnar_rows::ordered::OrderedRow;
 /// If both views are in order, so are the appended rows.
 ///
 /// # Errors
-/// The error of `extend_from_self`, if the column cannot take the rows; it keeps none of them then.
+/// The error of `extend_from_self`, if the column cannot take the rows; it keeps none of them then. `Memory` only if it has
+/// no room for them.
 pub fn merge<V: Index<Ref: OrderedRow> + Len + Copy, C: ExtendFrom<V>>(
     column: &mut C,
     one: V,
@@ -29,6 +31,8 @@ pub fn merge<V: Index<Ref: OrderedRow> + Len + Copy, C: ExtendFrom<V>>(
     requires other_sound { IsSound V.format (V.content other) }
     ensures ok { OnOk result (Took C.format (C.content column.old) (C.content column.new) (merged (V.format.rows (V.content one)) (V.format.rows (V.content other)))) }
     ensures err { IfErr result (λ e. Refused C.format (C.content column.old) (C.content column.new) (merged (V.format.rows (V.content one)) (V.format.rows (V.content other))) e) }
+    ensures wanted { IfErr result (WasFull (C.room column.old) (merged (V.format.rows (V.content one)) (V.format.rows (V.content other)))) }
+    ensures left { OnOk result (Leaves (C.room column.old) (C.room column.new) (merged (V.format.rows (V.content one)) (V.format.rows (V.content other)))) }
 {
     let before = column.len();
     let taken = merge_runs(column, one, other);
@@ -48,7 +52,8 @@ fn merge_runs<V: Index<Ref: OrderedRow> + Len + Copy, C: ExtendFrom<V>>(
     requires one_sound { IsSound V.format (V.content one) }
     requires other_sound { IsSound V.format (V.content other) }
     ensures ok { OnOk result (Took C.format (C.content column.old) (C.content column.new) (merged (V.format.rows (V.content one)) (V.format.rows (V.content other)))) }
-    ensures err { IfErr result (λ e. Partly C.format (C.content column.old) (C.content column.new) (merged (V.format.rows (V.content one)) (V.format.rows (V.content other))) e) }
+    ensures err { IfErr result (λ e. Partly C.format (C.room column.old) (C.content column.old) (C.content column.new) (merged (V.format.rows (V.content one)) (V.format.rows (V.content other))) e) }
+    ensures left { OnOk result (Leaves (C.room column.old) (C.room column.new) (merged (V.format.rows (V.content one)) (V.format.rows (V.content other)))) }
 {
     let count = one.len();
     let mut i = 0;

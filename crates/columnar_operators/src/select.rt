@@ -2,6 +2,7 @@
 ghost use Rattle.std.specs.Prelude.{◌≡◌, ◌<◌, ◌↔◌, length, All, IsOk, OnOk, OnErr, IfOk, IfErr, IsNone, IfSome};
 ghost use Rattle.columnar_base.specs.Format.{IsSound};
 ghost use Rattle.columnar_base.specs.Change.{Took, Refused};
+ghost use Rattle.columnar_base.specs.Room.{WasFull, Leaves};
 ghost use Rattle.columnar_operators.specs.Picks.{rows_at, chosen, IsFirstPast};
 ghost use Rattle.columnar_operators.specs.Partly.{Partly};
 
@@ -16,7 +17,8 @@ use columnar_core::container::ExtendFrom;
 /// Each number is less than the number of rows of the view.
 ///
 /// # Errors
-/// The error of `extend_from_self`, if the column cannot take the rows; it keeps none of them then.
+/// The error of `extend_from_self`, if the column cannot take the rows; it keeps none of them then. `Memory` only if it has
+/// no room for them.
 pub fn take<V: Len + Copy, C: ExtendFrom<V>>(
     column: &mut C,
     view: V,
@@ -27,6 +29,8 @@ pub fn take<V: Len + Copy, C: ExtendFrom<V>>(
     requires in_range { All (λ i. i < length (V.format.rows (V.content view))) indices.now }
     ensures ok { OnOk result (Took C.format (C.content column.old) (C.content column.new) (rows_at (V.format.rows (V.content view)) indices.now)) }
     ensures err { IfErr result (λ e. Refused C.format (C.content column.old) (C.content column.new) (rows_at (V.format.rows (V.content view)) indices.now) e) }
+    ensures wanted { IfErr result (WasFull (C.room column.old) (rows_at (V.format.rows (V.content view)) indices.now)) }
+    ensures left { OnOk result (Leaves (C.room column.old) (C.room column.new) (rows_at (V.format.rows (V.content view)) indices.now)) }
 {
     let before = column.len();
     let taken = take_runs(column, view, indices);
@@ -52,6 +56,8 @@ pub fn take_checked<V: Len + Copy, C: ExtendFrom<V>>(
     ensures stays { OnErr result (C.content column.new ≡ C.content column.old) }
     ensures ok { IfOk result (λ r. OnOk r (Took C.format (C.content column.old) (C.content column.new) (rows_at (V.format.rows (V.content view)) indices.now))) }
     ensures err { IfOk result (λ r. IfErr r (λ e. Refused C.format (C.content column.old) (C.content column.new) (rows_at (V.format.rows (V.content view)) indices.now) e)) }
+    ensures wanted { IfOk result (λ r. IfErr r (WasFull (C.room column.old) (rows_at (V.format.rows (V.content view)) indices.now))) }
+    ensures left { IfOk result (λ r. OnOk r (Leaves (C.room column.old) (C.room column.new) (rows_at (V.format.rows (V.content view)) indices.now))) }
 {
     match first_past(indices, view.len()) {
         Some(number) => Err(number),
@@ -82,7 +88,8 @@ fn take_runs<V: Len + Copy, C: ExtendFrom<V>>(
     requires view_sound { IsSound V.format (V.content view) }
     requires in_range { All (λ i. i < length (V.format.rows (V.content view))) indices.now }
     ensures ok { OnOk result (Took C.format (C.content column.old) (C.content column.new) (rows_at (V.format.rows (V.content view)) indices.now)) }
-    ensures err { IfErr result (λ e. Partly C.format (C.content column.old) (C.content column.new) (rows_at (V.format.rows (V.content view)) indices.now) e) }
+    ensures err { IfErr result (λ e. Partly C.format (C.room column.old) (C.content column.old) (C.content column.new) (rows_at (V.format.rows (V.content view)) indices.now) e) }
+    ensures left { OnOk result (Leaves (C.room column.old) (C.room column.new) (rows_at (V.format.rows (V.content view)) indices.now)) }
 {
     // the empty run at the end of the view
     let mut start = view.len();
@@ -103,7 +110,8 @@ fn take_runs<V: Len + Copy, C: ExtendFrom<V>>(
 /// There is a bit for each row of the view.
 ///
 /// # Errors
-/// The error of `extend_from_self`, if the column cannot take the rows; it keeps none of them then.
+/// The error of `extend_from_self`, if the column cannot take the rows; it keeps none of them then. `Memory` only if it has
+/// no room for them.
 pub fn filter<V: Column + Copy, B: Index<Ref = bool> + Len, C: ExtendFrom<V>>(
     column: &mut C,
     view: V,
@@ -115,6 +123,8 @@ pub fn filter<V: Column + Copy, B: Index<Ref = bool> + Len, C: ExtendFrom<V>>(
     requires same_length { length (B.format.rows (B.content bits.now)) ≡ length (V.format.rows (V.content view)) }
     ensures ok { OnOk result (Took C.format (C.content column.old) (C.content column.new) (chosen (V.format.rows (V.content view)) (B.format.rows (B.content bits.now)))) }
     ensures err { IfErr result (λ e. Refused C.format (C.content column.old) (C.content column.new) (chosen (V.format.rows (V.content view)) (B.format.rows (B.content bits.now))) e) }
+    ensures wanted { IfErr result (WasFull (C.room column.old) (chosen (V.format.rows (V.content view)) (B.format.rows (B.content bits.now)))) }
+    ensures left { OnOk result (Leaves (C.room column.old) (C.room column.new) (chosen (V.format.rows (V.content view)) (B.format.rows (B.content bits.now)))) }
 {
     let before = column.len();
     let taken = filter_runs(column, view, bits);
@@ -142,6 +152,8 @@ pub fn filter_checked<V: Len + Copy, B: Index<Ref = bool> + Len, C: ExtendFrom<V
     ensures stays { OnErr result (C.content column.new ≡ C.content column.old) }
     ensures ok { IfOk result (λ r. OnOk r (Took C.format (C.content column.old) (C.content column.new) (chosen (V.format.rows (V.content view)) (B.format.rows (B.content bits.now))))) }
     ensures err { IfOk result (λ r. IfErr r (λ e. Refused C.format (C.content column.old) (C.content column.new) (chosen (V.format.rows (V.content view)) (B.format.rows (B.content bits.now))) e)) }
+    ensures wanted { IfOk result (λ r. IfErr r (WasFull (C.room column.old) (chosen (V.format.rows (V.content view)) (B.format.rows (B.content bits.now))))) }
+    ensures left { IfOk result (λ r. OnOk r (Leaves (C.room column.old) (C.room column.new) (chosen (V.format.rows (V.content view)) (B.format.rows (B.content bits.now))))) }
 {
     let count = bits.len();
     if count != view.len() {
@@ -161,7 +173,8 @@ fn filter_runs<V: Column + Copy, B: Index<Ref = bool> + Len, C: ExtendFrom<V>>(
     requires bits_sound { IsSound B.format (B.content bits.now) }
     requires same_length { length (B.format.rows (B.content bits.now)) ≡ length (V.format.rows (V.content view)) }
     ensures ok { OnOk result (Took C.format (C.content column.old) (C.content column.new) (chosen (V.format.rows (V.content view)) (B.format.rows (B.content bits.now)))) }
-    ensures err { IfErr result (λ e. Partly C.format (C.content column.old) (C.content column.new) (chosen (V.format.rows (V.content view)) (B.format.rows (B.content bits.now))) e) }
+    ensures err { IfErr result (λ e. Partly C.format (C.room column.old) (C.content column.old) (C.content column.new) (chosen (V.format.rows (V.content view)) (B.format.rows (B.content bits.now))) e) }
+    ensures left { OnOk result (Leaves (C.room column.old) (C.room column.new) (chosen (V.format.rows (V.content view)) (B.format.rows (B.content bits.now)))) }
 {
     let count = bits.len();
     let mut start = 0;

@@ -23,6 +23,8 @@ impl<T: Item> Item for ByRefs<T> {
     ghost meaning = { λ r. T.meaning r.0 };
 
     ghost valid = { λ r. T.valid r.0 };
+
+    ghost unbuffered = { T.unbuffered };
 }
 
 impl<'x, P: Item, A: PushRef<P>> PushInto<A> for ByRefs<&'x P> {

@@ -35,6 +35,10 @@ impl<P: Storage, K> Storage for OwnRows<P, K> {
 impl<P: Reserve, K> Reserve for OwnRows<P, K> {
     type Room = P::Room;
 
+    ghost reserves = { P.reserves };
+
+    ghost covers = { P.covers };
+
     fn no_room() -> P::Room {
         P::no_room()
     }

@@ -2,6 +2,7 @@
 ghost use Rattle.std.specs.Prelude.{◌≡◌, [], ◌∷◌, OnOk, IfErr};
 ghost use Rattle.columnar_base.specs.Format.{IsSound};
 ghost use Rattle.columnar_base.specs.Change.{Took, Refused};
+ghost use Rattle.columnar_base.specs.Room.{WasFull, Leaves};
 
 use crate::rows::{OwnRow, OwnRows};
 use columnar_base::fault::GrowError;
@@ -21,7 +22,9 @@ pub trait PushParts<P: Column, K>: Item {
         requires sound { IsSound P.format (P.content parts.old) }
         requires valid { Self.valid self.now }
         ensures ok { OnOk result (Took P.format (P.content parts.old) (P.content parts.new) (Self.meaning self.now ∷ [])) }
-        ensures err { IfErr result (λ e. Refused P.format (P.content parts.old) (P.content parts.new) (Self.meaning self.now ∷ []) e) };
+        ensures err { IfErr result (λ e. Refused P.format (P.content parts.old) (P.content parts.new) (Self.meaning self.now ∷ []) e) }
+        ensures wanted { Self.unbuffered → IfErr result (WasFull (P.room parts.old) (Self.meaning self.now ∷ [])) }
+        ensures left { OnOk result (Leaves (P.room parts.old) (P.room parts.new) (Self.meaning self.now ∷ [])) };
 }
 
 /// A value that lends its fields as a row.
@@ -52,6 +55,8 @@ pub trait LendRow<'x>: Item {
         requires valid { Self.valid self.now }
         ensures ok { OnOk result (Took P.format (P.content parts.old) (P.content parts.new) (Self.meaning self.now ∷ [])) }
         ensures err { IfErr result (λ e. Refused P.format (P.content parts.old) (P.content parts.new) (Self.meaning self.now ∷ []) e) }
+        ensures wanted { Self.Lent.unbuffered → IfErr result (WasFull (P.room parts.old) (Self.meaning self.now ∷ [])) }
+        ensures left { OnOk result (Leaves (P.room parts.old) (P.room parts.new) (Self.meaning self.now ∷ [])) }
     {
         self.lend_row().push_parts(parts)
     }

@@ -63,6 +63,8 @@ impl<R: Item, K> Item for OwnRow<R, K> {
     ghost meaning = { λ r. R.meaning r.parts };
 
     ghost valid = { λ r. R.valid r.parts };
+
+    ghost unbuffered = { R.unbuffered };
 }
 
 /// Rows compare as their parts do. The row of a struct is the tuple of its fields, so the first field that differs decides.
@@ -116,6 +118,8 @@ impl<P: Column, K> Column for OwnRows<P, K> {
     ghost format = { P.format };
 
     ghost content = { λ c. P.content c.parts };
+
+    ghost room = { λ c. P.room c.parts };
 }
 
 impl<P: Len, K> Len for OwnRows<P, K> {

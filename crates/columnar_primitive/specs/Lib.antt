@@ -7,6 +7,7 @@ pub mod MappedLaws
 pub mod Characters
 pub mod Durations
 pub mod DurationLaws
+pub mod MappedRoomLaws
 pub mod Larges
 pub mod LargeLaws
 pub mod Reals

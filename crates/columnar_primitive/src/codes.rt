@@ -6,7 +6,7 @@ ghost use Rattle.columnar_core.specs.Store.{slices_in};
 ghost use Rattle.columnar_primitive.specs.Mapped.{all_pass, mapped_format};
 ghost use Rattle.columnar_primitive.specs.MappedLaws.{mapped_lawful, mapped_storable, same_mapped};
 
-use crate::flat::Flat;
+use crate::flat::{CountedRoom, Flat, ReserveCounted};
 use crate::rule::{Rule, all_fit, all_fit_in};
 use columnar_core::byte_slice::ByteSlice;
 use columnar_core::bytes::{AsBytes, Check, FromBytes, Stored};
@@ -27,7 +27,7 @@ pub trait Coded: Copy + Item + Rule {
     // the row of a value, from the row of its code
     ghost row_of: { Row → Row };
 
-    /// Returns the code of the value.
+    /// Returns the code of the value, which is pushed without a buffer.
     ///
     /// # Requires
     /// A valid value.
@@ -35,7 +35,8 @@ pub trait Coded: Copy + Item + Rule {
         requires { Self.valid self }
         ensures row { row_of (Self.Code.meaning result) ≡ Self.meaning self }
         ensures fits { Self.is_code (Self.Code.meaning result) ≡ true }
-        ensures valid { Self.Code.valid result };
+        ensures valid { Self.Code.valid result }
+        ensures unbuffered { Self.Code.unbuffered };
 
     /// Returns the value of the code.
     ///
@@ -65,6 +66,8 @@ impl<CV: Column, T: Coded> Column for Codes<CV, T> {
     ghost format = { mapped_format CV.format T.row_of T.is_code };
 
     ghost content = { λ c. CV.content c.values };
+
+    ghost room = { λ c. CV.room c.values };
 }
 
 impl<CV: Len, T: Coded> Len for Codes<CV, T> {
@@ -90,31 +93,31 @@ impl<'a, CV: Index<Ref = T::Code>, T: Coded> Index for &'a Codes<CV, T> {
     }
 }
 
-impl<CV: Clear, T: Coded> Clear for Codes<CV, T> {
+impl<CV: Clear + CountedRoom, T: Coded> Clear for Codes<CV, T> {
     fn clear(&mut self) {
         self.values.clear();
     }
 }
 
-impl<T: Coded, CV: Flat + Push<T::Code>> Push<T> for Codes<CV, T> {
+impl<T: Coded, CV: Flat + CountedRoom + Push<T::Code>> Push<T> for Codes<CV, T> {
     fn push(&mut self, item: T) -> Result<(), GrowError> {
         self.values.push(item.code())
     }
 }
 
-impl<'x, T: Coded, CV: Flat + Push<T::Code>> Push<&'x T> for Codes<CV, T> {
+impl<'x, T: Coded, CV: Flat + CountedRoom + Push<T::Code>> Push<&'x T> for Codes<CV, T> {
     fn push(&mut self, item: &'x T) -> Result<(), GrowError> {
         self.push_ref(item)
     }
 }
 
-impl<T: Coded, CV: Flat + Push<T::Code>> PushRef<T> for Codes<CV, T> {
+impl<T: Coded, CV: Flat + CountedRoom + Push<T::Code>> PushRef<T> for Codes<CV, T> {
     fn push_ref(&mut self, item: &T) -> Result<(), GrowError> {
         Push::<T>::push(self, *item)
     }
 }
 
-impl<CV: Truncate, T: Coded> Truncate for Codes<CV, T> {
+impl<CV: Truncate + CountedRoom, T: Coded> Truncate for Codes<CV, T> {
     ghost lawful = { mapped_lawful CV.format T.row_of T.is_code CV.lawful };
 
     fn truncate(&mut self, n: usize) {
@@ -122,7 +125,7 @@ impl<CV: Truncate, T: Coded> Truncate for Codes<CV, T> {
     }
 }
 
-impl<CV: Storage, T: Coded> Storage for Codes<CV, T> {
+impl<CV: Storage + CountedRoom, T: Coded> Storage for Codes<CV, T> {
     fn empty(alloc: Global) -> Self {
         let values = CV::empty(alloc);
         Codes {
@@ -143,6 +146,10 @@ impl<CV: Storage, T: Coded> Storage for Codes<CV, T> {
 impl<CV: Reserve, T: Coded> Reserve for Codes<CV, T> {
     type Room = CV::Room;
 
+    ghost reserves = { CV.reserves };
+
+    ghost covers = { CV.covers };
+
     fn no_room() -> CV::Room {
         CV::no_room()
     }
@@ -152,8 +159,11 @@ impl<CV: Reserve, T: Coded> Reserve for Codes<CV, T> {
     }
 }
 
-impl<T: Coded, V: Column + Copy, CV: Flat + ExtendFrom<V>> ExtendFrom<Codes<V, T>>
-    for Codes<CV, T> {
+impl<
+    T: Coded,
+    V: Column + Copy,
+    CV: Flat + CountedRoom + ReserveCounted + ExtendFrom<V>,
+> ExtendFrom<Codes<V, T>> for Codes<CV, T> {
     fn add_room(room: CV::Room, view: Codes<V, T>) -> CV::Room {
         CV::add_room(room, view.values)
     }
@@ -184,7 +194,11 @@ impl<'a, T: Coded, CV: Borrow<'a, Ref = T::Code>> Borrow<'a> for Codes<CV, T> {
     }
 }
 
-impl<'a, T: Coded, CV: Flat + Container<'a, Ref = T::Code>> Container<'a> for Codes<CV, T> {}
+impl<
+    'a,
+    T: Coded,
+    CV: Flat + CountedRoom + ReserveCounted + Container<'a, Ref = T::Code>,
+> Container<'a> for Codes<CV, T> {}
 
 impl<'b, T: Coded, V: Reborrow<'b>> Reborrow<'b> for Codes<V, T> {
     type Short = Codes<V::Short, T>;

@@ -4,11 +4,12 @@ ghost use Rattle.std.specs.Duration.{as_nanos};
 ghost use Rattle.columnar_base.specs.Row.{duration};
 ghost use Rattle.columnar_base.specs.Format.{both, IsSound, slices_of};
 ghost use Rattle.columnar_base.specs.Change.{Refused, Took};
+ghost use Rattle.columnar_core.specs.Room.{WasFull, Leaves};
 ghost use Rattle.columnar_base.specs.TwoPartsLaws.{two_counted};
 ghost use Rattle.columnar_primitive.specs.Durations.{durations_format, is_part_second};
 ghost use Rattle.columnar_primitive.specs.DurationLaws.{durations_lawful, durations_storable, same_durations};
 
-use crate::flat::Flat;
+use crate::flat::{CountedRoom, Flat, ReserveCounted};
 use crate::rule::{Rule, all_fit, all_fit_in};
 use columnar_core::byte_slice::ByteSlice;
 use columnar_core::bytes::{AsBytes, Check, FromBytes, Stored};
@@ -53,6 +54,8 @@ impl<SC: Column, NC: Column> Column for Durations<SC, NC> {
     ghost format = { durations_format SC.format NC.format };
 
     ghost content = { λ c. both (SC.content c.seconds) (NC.content c.nanoseconds) };
+
+    ghost room = { λ c rs. SC.room c.seconds rs × NC.room c.nanoseconds rs };
 }
 
 impl<SC: Len, NC: Len> Len for Durations<SC, NC> {
@@ -89,14 +92,14 @@ fn duration_of(seconds: u64, nanoseconds: u32) -> Duration
     Duration::new(seconds, nanoseconds)
 }
 
-impl<SC: Clear, NC: Clear> Clear for Durations<SC, NC> {
+impl<SC: Clear + CountedRoom, NC: Clear + CountedRoom> Clear for Durations<SC, NC> {
     fn clear(&mut self) {
         self.seconds.clear();
         self.nanoseconds.clear();
     }
 }
 
-impl<SC: Truncate, NC: Truncate> Truncate for Durations<SC, NC> {
+impl<SC: Truncate + CountedRoom, NC: Truncate + CountedRoom> Truncate for Durations<SC, NC> {
     ghost lawful = { durations_lawful SC.format NC.format SC.lawful NC.lawful };
 
     fn truncate(&mut self, n: usize) {
@@ -105,7 +108,7 @@ impl<SC: Truncate, NC: Truncate> Truncate for Durations<SC, NC> {
     }
 }
 
-impl<SC: Storage, NC: Storage> Storage for Durations<SC, NC> {
+impl<SC: Storage + CountedRoom, NC: Storage + CountedRoom> Storage for Durations<SC, NC> {
     fn empty(alloc: Global) -> Self {
         let seconds = SC::empty(alloc);
         let nanoseconds = NC::empty(alloc);
@@ -128,6 +131,10 @@ impl<SC: Storage, NC: Storage> Storage for Durations<SC, NC> {
 impl<SC: Reserve, NC: Reserve> Reserve for Durations<SC, NC> {
     type Room = (SC::Room, NC::Room);
 
+    ghost reserves = { SC.reserves × NC.reserves };
+
+    ghost covers = { λ r rs. SC.covers r.0 rs × NC.covers r.1 rs };
+
     fn no_room() -> (SC::Room, NC::Room) {
         (SC::no_room(), NC::no_room())
     }
@@ -138,7 +145,10 @@ impl<SC: Reserve, NC: Reserve> Reserve for Durations<SC, NC> {
     }
 }
 
-impl<SC: Flat + Truncate + Push<u64>, NC: Flat + Push<u32>> Durations<SC, NC> {
+impl<SC: Flat + CountedRoom + Truncate + Push<u64>, NC: Flat + CountedRoom + Push<u32>> Durations<
+    SC,
+    NC,
+> {
     /// Appends the duration of the seconds and nanoseconds.
     ///
     /// # Requires
@@ -151,6 +161,8 @@ impl<SC: Flat + Truncate + Push<u64>, NC: Flat + Push<u32>> Durations<SC, NC> {
         requires short { nanoseconds < 1000000000 }
         ensures ok { OnOk result (Took (durations_format SC.format NC.format) (both (SC.content self.old.seconds) (NC.content self.old.nanoseconds)) (both (SC.content self.new.seconds) (NC.content self.new.nanoseconds)) (duration seconds nanoseconds ∷ [])) }
         ensures err { IfErr result (λ e. Refused (durations_format SC.format NC.format) (both (SC.content self.old.seconds) (NC.content self.old.nanoseconds)) (both (SC.content self.new.seconds) (NC.content self.new.nanoseconds)) (duration seconds nanoseconds ∷ []) e) }
+        ensures wanted { IfErr result (WasFull (λ rs. SC.room self.old.seconds rs × NC.room self.old.nanoseconds rs) (duration seconds nanoseconds ∷ [])) }
+        ensures left { OnOk result (Leaves (λ rs. SC.room self.old.seconds rs × NC.room self.old.nanoseconds rs) (λ rs. SC.room self.new.seconds rs × NC.room self.new.nanoseconds rs) (duration seconds nanoseconds ∷ [])) }
     {
         let before = self.seconds.len();
         self.seconds.push(seconds)?;
@@ -164,21 +176,25 @@ impl<SC: Flat + Truncate + Push<u64>, NC: Flat + Push<u32>> Durations<SC, NC> {
     }
 }
 
-impl<SC: Flat + Truncate + Push<u64>, NC: Flat + Push<u32>> Push<Duration> for Durations<SC, NC> {
+impl<SC: Flat + CountedRoom + Truncate + Push<u64>, NC: Flat + CountedRoom + Push<u32>> Push<
+    Duration,
+> for Durations<SC, NC> {
     fn push(&mut self, item: Duration) -> Result<(), GrowError> {
         self.push_parts(item.as_secs(), item.subsec_nanos())
     }
 }
 
-impl<'x, SC: Flat + Truncate + Push<u64>, NC: Flat + Push<u32>> Push<&'x Duration>
-    for Durations<SC, NC> {
+impl<'x, SC: Flat + CountedRoom + Truncate + Push<u64>, NC: Flat + CountedRoom + Push<u32>> Push<
+    &'x Duration,
+> for Durations<SC, NC> {
     fn push(&mut self, item: &'x Duration) -> Result<(), GrowError> {
         self.push_ref(item)
     }
 }
 
-impl<SC: Flat + Truncate + Push<u64>, NC: Flat + Push<u32>> PushRef<Duration>
-    for Durations<SC, NC> {
+impl<SC: Flat + CountedRoom + Truncate + Push<u64>, NC: Flat + CountedRoom + Push<u32>> PushRef<
+    Duration,
+> for Durations<SC, NC> {
     fn push_ref(&mut self, item: &Duration) -> Result<(), GrowError> {
         Push::<Duration>::push(self, *item)
     }
@@ -187,8 +203,8 @@ impl<SC: Flat + Truncate + Push<u64>, NC: Flat + Push<u32>> PushRef<Duration>
 impl<
     V: Column + Copy,
     W: Column + Copy,
-    SC: Flat + ExtendFrom<V>,
-    NC: Flat + ExtendFrom<W>,
+    SC: Flat + CountedRoom + ReserveCounted + ExtendFrom<V>,
+    NC: Flat + CountedRoom + ReserveCounted + ExtendFrom<W>,
 > ExtendFrom<Durations<V, W>> for Durations<SC, NC> {
     fn add_room(room: (SC::Room, NC::Room), view: Durations<V, W>) -> (SC::Room, NC::Room) {
         (
@@ -238,8 +254,11 @@ impl<'a, SC: Borrow<'a, Ref = u64>, NC: Borrow<'a, Ref = u32>> Borrow<'a> for Du
     }
 }
 
-impl<'a, SC: Flat + Container<'a, Ref = u64>, NC: Flat + Container<'a, Ref = u32>> Container<'a>
-    for Durations<SC, NC> {}
+impl<
+    'a,
+    SC: Flat + CountedRoom + ReserveCounted + Container<'a, Ref = u64>,
+    NC: Flat + CountedRoom + ReserveCounted + Container<'a, Ref = u32>,
+> Container<'a> for Durations<SC, NC> {}
 
 impl<'b, V: Reborrow<'b>, W: Reborrow<'b>> Reborrow<'b> for Durations<V, W> {
     type Short = Durations<V::Short, W::Short>;

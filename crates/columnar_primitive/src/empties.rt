@@ -3,6 +3,7 @@ ghost use Rattle.std.specs.Prelude.{◌≡◌, ℕ, ◌+◌, ◌-◌, ◌^◌, �
 ghost use Rattle.columnar_base.specs.Row.{unit};
 ghost use Rattle.columnar_base.specs.Format.{IsSound, slice, slices_of};
 ghost use Rattle.columnar_base.specs.Change.{Copied, Refused, Took};
+ghost use Rattle.columnar_core.specs.Room.{WasFull, Leaves};
 ghost use Rattle.columnar_primitive.specs.Counts.{number_in, word_of};
 ghost use Rattle.columnar_primitive.specs.Units.{units, units_format};
 ghost use Rattle.columnar_primitive.specs.UnitLaws.{units_lawful, units_storable};
@@ -37,6 +38,8 @@ impl<CC: Count> Column for Empties<CC> {
     ghost format = { units_format };
 
     ghost content = { λ c. CC.held c.count };
+
+    ghost room = { λ c rs. Unit {0} };
 }
 
 impl<CC: Count> Len for Empties<CC> {
@@ -93,6 +96,8 @@ impl Push<()> for Empties<u64> {
     fn push(&mut self, item: ()) -> Result<(), GrowError>
         ensures ok { OnOk result (Took units_format (word_of self.old.count) (word_of self.new.count) (unit ∷ [])) }
         ensures err { IfErr result (λ e. Refused units_format (word_of self.old.count) (word_of self.new.count) (unit ∷ []) e) }
+        ensures wanted { IfErr result (WasFull (⟦<Empties<u64> as Column>⟧.room self.old) (unit ∷ [])) }
+        ensures left { OnOk result (Leaves (⟦<Empties<u64> as Column>⟧.room self.old) (⟦<Empties<u64> as Column>⟧.room self.new) (unit ∷ [])) }
         ensures length { IfErr result (λ e. e ≡ GrowError.Length) }
     {
         self.add(1)
@@ -104,6 +109,8 @@ impl<'x> Push<&'x ()> for Empties<u64> {
     fn push(&mut self, item: &'x ()) -> Result<(), GrowError>
         ensures ok { OnOk result (Took units_format (word_of self.old.count) (word_of self.new.count) (unit ∷ [])) }
         ensures err { IfErr result (λ e. Refused units_format (word_of self.old.count) (word_of self.new.count) (unit ∷ []) e) }
+        ensures wanted { IfErr result (WasFull (⟦<Empties<u64> as Column>⟧.room self.old) (unit ∷ [])) }
+        ensures left { OnOk result (Leaves (⟦<Empties<u64> as Column>⟧.room self.old) (⟦<Empties<u64> as Column>⟧.room self.new) (unit ∷ [])) }
         ensures length { IfErr result (λ e. e ≡ GrowError.Length) }
     {
         self.push_ref(item)
@@ -115,6 +122,8 @@ impl PushRef<()> for Empties<u64> {
     fn push_ref(&mut self, item: &()) -> Result<(), GrowError>
         ensures ok { OnOk result (Took units_format (word_of self.old.count) (word_of self.new.count) (unit ∷ [])) }
         ensures err { IfErr result (λ e. Refused units_format (word_of self.old.count) (word_of self.new.count) (unit ∷ []) e) }
+        ensures wanted { IfErr result (WasFull (⟦<Empties<u64> as Column>⟧.room self.old) (unit ∷ [])) }
+        ensures left { OnOk result (Leaves (⟦<Empties<u64> as Column>⟧.room self.old) (⟦<Empties<u64> as Column>⟧.room self.new) (unit ∷ [])) }
         ensures length { IfErr result (λ e. e ≡ GrowError.Length) }
     {
         Push::<()>::push(self, *item)
@@ -145,6 +154,10 @@ impl Storage for Empties<u64> {
 impl Reserve for Empties<u64> {
     type Room = ();
 
+    ghost reserves = { Unit {0} };
+
+    ghost covers = { λ r rs. Unit {0} };
+
     fn no_room() {}
 
     fn reserve_room(&mut self, _room: ()) -> Result<(), GrowError> {
@@ -169,6 +182,8 @@ impl<V: Count + Copy> ExtendFrom<Empties<V>> for Empties<u64> {
         requires in_range { range.«end» ≤ length (units (number_in (V.held _view.count))) }
         ensures ok { OnOk result (Copied units_format (word_of self.old.count) (word_of self.new.count) range.start (take (range.«end» - range.start) (drop range.start (units (number_in (V.held _view.count)))))) }
         ensures err { IfErr result (λ e. Refused units_format (word_of self.old.count) (word_of self.new.count) (take (range.«end» - range.start) (drop range.start (units (number_in (V.held _view.count))))) e) }
+        ensures wanted { IfErr result (WasFull (⟦<Empties<u64> as Column>⟧.room self.old) (take (range.«end» - range.start) (drop range.start (units (number_in (V.held _view.count)))))) }
+        ensures left { OnOk result (Leaves (⟦<Empties<u64> as Column>⟧.room self.old) (⟦<Empties<u64> as Column>⟧.room self.new) (take (range.«end» - range.start) (drop range.start (units (number_in (V.held _view.count)))))) }
         ensures length { IfErr result (λ e. (e ≡ GrowError.Length) × (2 ^ 64 - 1 < self.old.count + (range.«end» - range.start))) }
         ensures full { 2 ^ 64 - 1 < self.old.count + (range.«end» - range.start) → result ≡ Err GrowError.Length }
     {

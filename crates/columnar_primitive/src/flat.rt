@@ -1,14 +1,16 @@
 //! Columns that store each row in bytes of its own, in one slice.
 ghost use Rattle.std.specs.Prelude.{◌≡◌, ◌+◌, ◌<◌, length, drop, slice_get, Some, IsTrue, refl};
 ghost use Rattle.columnar_base.specs.Format.{Fits, representable};
+ghost use Rattle.columnar_base.specs.RoomLaws.{Counted};
 ghost use Rattle.columnar_core.specs.Store.{slices_in};
 ghost use Rattle.columnar_primitive.specs.Mapped.{IsFlat};
 ghost use Rattle.columnar_primitive.specs.MappedLaws.{elements_flat};
 
 use columnar_core::bytes::Stored;
+use columnar_core::container::Reserve;
 use columnar_core::element::Element;
 use columnar_core::store::DecodedStore;
-use columnar_core::traits::Index;
+use columnar_core::traits::{Column, Index};
 use columnar_core::view::{View, element_in};
 
 /// A column that stores each row in bytes of its own, in one slice: a `Vec` of elements, or a view of one.
@@ -28,6 +30,28 @@ pub trait Flat: Index + Stored {
 
     // its validation takes no steps
     ghost still: { Self.format.turns ≡ 0 };
+}
+
+/// A column whose room depends only on the number of rows.
+pub trait CountedRoom: Column {
+    ghost counted_room: { (column : Self) → Counted (Self.room column) };
+}
+
+impl<T: Element> CountedRoom for Vec<T> {
+    ghost counted_room = { λ v rs ss e h. rw e at h };
+}
+
+impl<'v, T: Element> CountedRoom for View<'v, T> {
+    ghost counted_room = { λ v rs ss e h. h };
+}
+
+/// A column that reserves capacity for a number of rows.
+pub trait ReserveCounted: Reserve {
+    ghost counted_covers: { (room : Self.Room) → Counted (Self.covers room) };
+}
+
+impl<T: Element> ReserveCounted for Vec<T> {
+    ghost counted_covers = { λ room rs ss e h. rw e at h };
 }
 
 impl<T: Element> Flat for Vec<T> {

@@ -128,6 +128,8 @@ impl<S: Column> Column for Slice<S> {
     ghost format = { part_format S.format };
 
     ghost content = { λ s. part s.lower s.upper (S.content s.slice) };
+
+    ghost room = { λ c rs. ⊥ };
 }
 
 /// Its row is the list of its rows.

@@ -1,4 +1,4 @@
--- Composition of the texts of enums.
+-- Composition of the tokens of enums.
 use Rattle.std.proofs.Common.{◌≡◌, ℕ, ◌+◌, ◌≤◌, Bool, true, false, List, [], ◌∷◌, ◌++◌, length, drop, sym, ◌∙◌, ap, subst, append_assoc}
 use Rattle.std.specs.Prelude.{codes, Vec}
 use Rattle.std.specs.Global.{Global}
@@ -8,21 +8,22 @@ use Rattle.columnar_schema.specs.declared.schema.Brackets.TheVariants.{Square, C
 use Rattle.columnar_schema.specs.declared.schema.Schema.{Schema, Tuple', Beside', Sum', Named, Case'}
 use Rattle.columnar_schema.specs.Distinct.{AreApart}
 use Rattle.columnar_schema.specs.Gathered.{IsValue, is_beside, of_field, of_fields}
-use Rattle.columnar_schema.specs.NameLaws.{never, no_beside, two_stand}
-use Rattle.columnar_schema.specs.Names.{Names, GoesOn, Reads, a_case, a_type, all_cases, all_fields, case_value, is_name, last, last_case, last_comma, last_field, more, more_cases, more_fields, more_named, more_values, named, one_named, one_value, other_types, sum, unspaced, valued, with_comma}
+use Rattle.columnar_schema.specs.NameLaws.{two_stand}
+use Rattle.columnar_schema.specs.Names.{Names, GoesOn, Reads, a_case, a_type, all_cases, all_fields, bare_value, case_value, is_name, last_case, last_comma, more_cases, named, named_value, other_types, sum, valued, with_comma}
+use Rattle.columnar_schema.specs.Tokens.{marks, tokens}
 
 -- the parts in boxes have their names
-pub sum_named : (a b : Schema) {p : _} → b ≡ a → (lists : Bounds) (n t : List ℕ) (c : Bool) → is_name n ≡ true → Names lists all_cases t a → Names lists a_type (codes "enum" ++ (n ++ (codes "{" ++ (t ++ (last_comma c ++ codes "}"))))) (Sum' p b)
+pub sum_named : (a b : Schema) {p : _} → b ≡ a → (lists : Bounds) (n : List ℕ) (t : List (List ℕ)) (c : Bool) → is_name n ≡ true → Names lists all_cases t a → Names lists a_type (codes "enum" ∷ (n ∷ (marks (codes "{") ++ (t ++ (last_comma c ++ marks (codes "}")))))) (Sum' p b)
 sum_named a b e lists n t c h k = rw e (sum n c h k)
 
-pub cases_named : (a b c d : Schema) {p q : _} → b ≡ a → d ≡ c → (lists : Bounds) (t u : List ℕ) → Names lists a_case t a → Names lists all_cases u c → AreApart a c → Names lists all_cases (with_comma t u) (Beside' p b q d)
+pub cases_named : (a b c d : Schema) {p q : _} → b ≡ a → d ≡ c → (lists : Bounds) (t u : List (List ℕ)) → Names lists a_case t a → Names lists all_cases u c → AreApart a c → Names lists all_cases (with_comma t u) (Beside' p b q d)
 cases_named a b c d e f lists t u n m g = rw (e, f) (more_cases n m g)
 
-pub named_named : (name : List ℕ) {v : Vec ℕ Global} → v.items ≡ name → (lists : Bounds) → is_name name ≡ true → Names lists a_case name (Named v)
-named_named name {v} e lists h = subst (λ (n : List ℕ). Names lists a_case n (Named v)) e (named {v = v} (rw e h))
+pub named_named : (name : List ℕ) {v : Vec ℕ Global} → v.items ≡ name → (lists : Bounds) → is_name name ≡ true → Names lists a_case (name ∷ []) (Named v)
+named_named name {v} e lists h = subst (λ (n : List ℕ). Names lists a_case (n ∷ []) (Named v)) e (named {v = v} (rw e h))
 
-pub valued_named : (a b : Schema) (name : List ℕ) (k : Brackets) {v : Vec ℕ Global} {p : _} → v.items ≡ name → b ≡ a → (lists : Bounds) (t : List ℕ) → is_name name ≡ true → Names lists (case_value k) t a → Names lists a_case (name ++ t) (Case' v k p b)
-valued_named a b name k {v} {p} e f lists t h n = subst (λ (z : List ℕ). Names lists a_case (z ++ t) (Case' v k p b)) e (valued {v = v} (rw e h) (rw f n))
+pub valued_named : (a b : Schema) (name : List ℕ) (k : Brackets) {v : Vec ℕ Global} {p : _} → v.items ≡ name → b ≡ a → (lists : Bounds) (t : List (List ℕ)) → is_name name ≡ true → Names lists (case_value k) t a → Names lists a_case (name ∷ t) (Case' v k p b)
+valued_named a b name k {v} {p} e f lists t h n = subst (λ (z : List ℕ). Names lists a_case (z ∷ t) (Case' v k p b)) e (valued {v = v} (rw e h) (rw f n))
 
 -- the value of a variant, by its fields
 pub value_one : (k : Brackets) (a : Schema) → is_beside a ≡ false → IsValue k a a
@@ -31,49 +32,37 @@ value_one k a h = of_field h
 pub value_several : (k : Brackets) (all : Schema) {p : _} {a : Schema} {q : _} {r : Schema} → all ≡ Beside' p a q r → IsValue k all (Tuple' k p a q r)
 value_several k all e = rw e of_fields
 
-bare_value : {l : Bounds} {t : List ℕ} {a s : Schema} → IsValue Square a s → Names l other_types t a → Names l (case_value Bare) (codes "(" ++ (t ++ codes ")")) s
-bare_value (of_field h) (last n) = one_value n
-bare_value (of_field h) (more n m) = never h
-bare_value of_fields (last n) = never (no_beside n)
-bare_value of_fields (more n m) = more_values n m
-
-named_value : {l : Bounds} {t : List ℕ} {a s : Schema} (c : Bool) → IsValue Bare a s → Names l all_fields t a → Names l (case_value Curly) (codes "{" ++ (t ++ (last_comma c ++ codes "}"))) s
-named_value c (of_field h) (last_field n) = one_named c n
-named_value c (of_field h) (more_fields n m d) = never h
-named_value c of_fields (last_field n) = elim n [ ]
-named_value c of_fields (more_fields n m d) = more_named c n m d
-
 -- the fields of a variant after its `(`
-pub bare_goes_on : (lists : Bounds) (text name : List ℕ) (at n m : ℕ) (a v s : Schema) → is_name name ≡ true → Reads lists other_types text at a n → unspaced (drop n text) ≡ 41 ∷ unspaced (drop m text) → m ≤ length text → IsValue Square a v → ((l : Bounds) (t : List ℕ) → is_name name ≡ true → Names l (case_value Bare) t v → Names l a_case (name ++ t) s) → GoesOn lists a_case (name ++ codes "(") text at s m
+pub bare_goes_on : (lists : Bounds) (text name : List ℕ) (at n m : ℕ) (a v s : Schema) → is_name name ≡ true → Reads lists other_types text at a n → tokens (drop n text) ≡ (41 ∷ []) ∷ tokens (drop m text) → m ≤ length text → IsValue Square a v → ((l : Bounds) (t : List (List ℕ)) → is_name name ≡ true → Names l (case_value Bare) t v → Names l a_case (name ∷ t) s) → GoesOn lists a_case (name ∷ marks (codes "(")) text at s m
 bare_goes_on lists text name at n m a v s h r e w g f = record {
-  words = r.words ++ codes ")";
-  names = subst (λ (z : List ℕ). Names lists a_case z s) (sym (append_assoc name (codes "(") (r.words ++ codes ")"))) (f lists (codes "(" ++ (r.words ++ codes ")")) h (bare_value g r.names));
-  stands = r.stands ∙ (ap (λ z. r.words ++ z) e ∙ sym (append_assoc r.words (codes ")") (unspaced (drop m text))));
+  words = r.words ++ marks (codes ")");
+  names = f lists (marks (codes "(") ++ (r.words ++ marks (codes ")"))) h (bare_value r.names g);
+  stands = r.stands ∙ (ap (λ z. r.words ++ z) e ∙ sym (append_assoc r.words (marks (codes ")")) (tokens (drop m text))));
   within = w;
 }
 
 -- the fields with names of a variant after its `{`
-pub named_goes_on : (lists : Bounds) (text name : List ℕ) (at n m : ℕ) (a v s : Schema) (c : Bool) → is_name name ≡ true → Reads lists all_fields text at a n → unspaced (drop n text) ≡ last_comma c ++ (125 ∷ unspaced (drop m text)) → m ≤ length text → IsValue Bare a v → ((l : Bounds) (t : List ℕ) → is_name name ≡ true → Names l (case_value Curly) t v → Names l a_case (name ++ t) s) → GoesOn lists a_case (name ++ codes "{") text at s m
+pub named_goes_on : (lists : Bounds) (text name : List ℕ) (at n m : ℕ) (a v s : Schema) (c : Bool) → is_name name ≡ true → Reads lists all_fields text at a n → tokens (drop n text) ≡ last_comma c ++ ((125 ∷ []) ∷ tokens (drop m text)) → m ≤ length text → IsValue Bare a v → ((l : Bounds) (t : List (List ℕ)) → is_name name ≡ true → Names l (case_value Curly) t v → Names l a_case (name ∷ t) s) → GoesOn lists a_case (name ∷ marks (codes "{")) text at s m
 named_goes_on lists text name at n m a v s c h r e w g f = record {
-  words = r.words ++ (last_comma c ++ codes "}");
-  names = subst (λ (z : List ℕ). Names lists a_case z s) (sym (append_assoc name (codes "{") (r.words ++ (last_comma c ++ codes "}")))) (f lists (codes "{" ++ (r.words ++ (last_comma c ++ codes "}"))) h (named_value c g r.names));
-  stands = r.stands ∙ (ap (λ z. r.words ++ z) (e ∙ sym (append_assoc (last_comma c) (125 ∷ []) (unspaced (drop m text)))) ∙ sym (append_assoc r.words (last_comma c ++ codes "}") (unspaced (drop m text))));
+  words = r.words ++ (last_comma c ++ marks (codes "}"));
+  names = f lists (marks (codes "{") ++ (r.words ++ (last_comma c ++ marks (codes "}")))) h (named_value c r.names g);
+  stands = r.stands ∙ (ap (λ z. r.words ++ z) (e ∙ sym (append_assoc (last_comma c) (marks (codes "}")) (tokens (drop m text)))) ∙ sym (append_assoc r.words (last_comma c ++ marks (codes "}")) (tokens (drop m text))));
   within = w;
 }
 
--- the name of a variant, and what continues it after a first byte
-pub case_begun : (lists : Bounds) (k : ℕ) (text name : List ℕ) (at end n m : ℕ) (s : Schema) → unspaced (drop at text) ≡ name ++ unspaced (drop end text) → unspaced (drop end text) ≡ k ∷ unspaced (drop n text) → GoesOn lists a_case (name ++ (k ∷ [])) text n s m → Reads lists a_case text at s m
+-- the name of a variant, and what continues it after a first mark
+pub case_begun : (lists : Bounds) (k : ℕ) (text name : List ℕ) (at end n m : ℕ) (s : Schema) → tokens (drop at text) ≡ name ∷ tokens (drop end text) → tokens (drop end text) ≡ (k ∷ []) ∷ tokens (drop n text) → GoesOn lists a_case (name ∷ ((k ∷ []) ∷ [])) text n s m → Reads lists a_case text at s m
 case_begun lists k text name at end n m s e f g = record {
-  words = name ++ (k ∷ g.words);
-  names = subst (λ (z : List ℕ). Names lists a_case z s) (append_assoc name (k ∷ []) g.words) g.names;
-  stands = e ∙ (ap (λ z. name ++ z) (f ∙ ap (λ z. k ∷ z) g.stands) ∙ sym (append_assoc name (k ∷ g.words) (unspaced (drop m text))));
+  words = name ∷ ((k ∷ []) ∷ g.words);
+  names = g.names;
+  stands = e ∙ ap (λ z. name ∷ z) (f ∙ ap (λ z. (k ∷ []) ∷ z) g.stands);
   within = g.within;
 }
 
 -- the name alone
-pub case_bare : (lists : Bounds) (text name : List ℕ) (at end : ℕ) (s : Schema) → is_name name ≡ true → unspaced (drop at text) ≡ name ++ unspaced (drop end text) → end ≤ length text → ((l : Bounds) → is_name name ≡ true → Names l a_case name s) → Reads lists a_case text at s end
+pub case_bare : (lists : Bounds) (text name : List ℕ) (at end : ℕ) (s : Schema) → is_name name ≡ true → tokens (drop at text) ≡ name ∷ tokens (drop end text) → end ≤ length text → ((l : Bounds) → is_name name ≡ true → Names l a_case (name ∷ []) s) → Reads lists a_case text at s end
 case_bare lists text name at end s h e w f = record {
-  words = name;
+  words = name ∷ [];
   names = f lists h;
   stands = e;
   within = w;
@@ -88,22 +77,22 @@ last_case_reads lists text at s n r = record {
   within = r.within;
 }
 
-pub more_cases_read : (lists : Bounds) (text : List ℕ) (at n m k : ℕ) (a b s : Schema) → Reads lists a_case text at a n → unspaced (drop n text) ≡ 44 ∷ unspaced (drop m text) → Reads lists all_cases text m b k → AreApart a b → ((l : Bounds) (t u : List ℕ) → Names l a_case t a → Names l all_cases u b → AreApart a b → Names l all_cases (with_comma t u) s) → Reads lists all_cases text at s k
+pub more_cases_read : (lists : Bounds) (text : List ℕ) (at n m k : ℕ) (a b s : Schema) → Reads lists a_case text at a n → tokens (drop n text) ≡ (44 ∷ []) ∷ tokens (drop m text) → Reads lists all_cases text m b k → AreApart a b → ((l : Bounds) (t u : List (List ℕ)) → Names l a_case t a → Names l all_cases u b → AreApart a b → Names l all_cases (with_comma t u) s) → Reads lists all_cases text at s k
 more_cases_read lists text at n m k a b s p e q d f = record {
   words = with_comma p.words q.words;
   names = f lists p.words q.words p.names q.names d;
-  stands = two_stand p.words q.words 44 [] (unspaced (drop at text)) (unspaced (drop n text)) (unspaced (drop m text)) (unspaced (drop k text)) p.stands e q.stands;
+  stands = two_stand p.words q.words (44 ∷ []) (tokens (drop at text)) (tokens (drop n text)) (tokens (drop m text)) (tokens (drop k text)) p.stands e q.stands;
   within = q.within;
 }
 
 -- the name of an enum, and its variants
-pub enum_goes_on : (lists : Bounds) (text name : List ℕ) (at end n m k : ℕ) (a s : Schema) (c : Bool) → is_name name ≡ true → unspaced (drop at text) ≡ name ++ unspaced (drop end text) → unspaced (drop end text) ≡ 123 ∷ unspaced (drop n text) → Reads lists all_cases text n a m → unspaced (drop m text) ≡ last_comma c ++ (125 ∷ unspaced (drop k text)) → k ≤ length text → ((l : Bounds) (n t : List ℕ) (c : Bool) → is_name n ≡ true → Names l all_cases t a → Names l a_type (codes "enum" ++ (n ++ (codes "{" ++ (t ++ (last_comma c ++ codes "}"))))) s) → GoesOn lists a_type (codes "enum") text at s k
+pub enum_goes_on : (lists : Bounds) (text name : List ℕ) (at end n m k : ℕ) (a s : Schema) (c : Bool) → is_name name ≡ true → tokens (drop at text) ≡ name ∷ tokens (drop end text) → tokens (drop end text) ≡ (123 ∷ []) ∷ tokens (drop n text) → Reads lists all_cases text n a m → tokens (drop m text) ≡ last_comma c ++ ((125 ∷ []) ∷ tokens (drop k text)) → k ≤ length text → ((l : Bounds) (n : List ℕ) (t : List (List ℕ)) (c : Bool) → is_name n ≡ true → Names l all_cases t a → Names l a_type (codes "enum" ∷ (n ∷ (marks (codes "{") ++ (t ++ (last_comma c ++ marks (codes "}")))))) s) → GoesOn lists a_type (codes "enum" ∷ []) text at s k
 enum_goes_on lists text name at end n m k a s c h e g r w l f =
-    let rest = unspaced (drop k text) in
-    let closing : unspaced (drop n text) ≡ (r.words ++ (last_comma c ++ codes "}")) ++ rest = r.stands ∙ (ap (λ z. r.words ++ z) (w ∙ sym (append_assoc (last_comma c) (125 ∷ []) rest)) ∙ sym (append_assoc r.words (last_comma c ++ codes "}") rest)) in
+    let rest = tokens (drop k text) in
+    let closing : tokens (drop n text) ≡ (r.words ++ (last_comma c ++ marks (codes "}"))) ++ rest = r.stands ∙ (ap (λ z. r.words ++ z) (w ∙ sym (append_assoc (last_comma c) (marks (codes "}")) rest)) ∙ sym (append_assoc r.words (last_comma c ++ marks (codes "}")) rest)) in
     record {
-      words = name ++ (codes "{" ++ (r.words ++ (last_comma c ++ codes "}")));
+      words = name ∷ (marks (codes "{") ++ (r.words ++ (last_comma c ++ marks (codes "}"))));
       names = f lists name r.words c h r.names;
-      stands = e ∙ (ap (λ z. name ++ z) (g ∙ ap (λ z. 123 ∷ z) closing) ∙ sym (append_assoc name (codes "{" ++ (r.words ++ (last_comma c ++ codes "}"))) rest));
+      stands = e ∙ ap (λ z. name ∷ z) (g ∙ ap (λ z. (123 ∷ []) ∷ z) closing);
       within = l;
     }

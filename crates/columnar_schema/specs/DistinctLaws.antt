@@ -1,5 +1,5 @@
 -- The names of fields and variants, part by part.
-use Rattle.std.proofs.Common.{◌≡◌, ℕ, List, Bool, true, false, inl, inr}
+use Rattle.std.proofs.Common.{◌≡◌, ℕ, List, Bool, true, false, inl, inr, refl}
 use Rattle.std.specs.Prelude.{◌↔◌, ◌⊎◌, Vec}
 use Rattle.std.specs.Global.{Global}
 use Rattle.columnar_schema.specs.declared.schema.Brackets.{Brackets}
@@ -47,3 +47,24 @@ either_apart a u later name f g (inr n) l = g name n l
 -- two parts, each of which is apart
 pub others_apart : (s : Schema) {p : _} {a : Schema} {q : _} {u : Schema} (later : Schema) → s ≡ Beside' p a q u → AreApart a later → AreApart u later → AreApart s later
 others_apart s {p} {a} {q} {u} later e f g = rw e (λ name n l. either_apart a u later name f g n l)
+
+-- ---- a name that both have
+
+abbrev pub Shared : Schema → Schema → Type 0
+Shared first later = (n : List ℕ) × (Holds first n × Holds later n)
+
+pub field_shared : (s : Schema) {v : Vec ℕ Global} {p : _} {t : Schema} (later : Schema) (b : Bool) → s ≡ Field' v p t → (b ≡ true) ↔ (Holds later v.items) → b ≡ true → Shared s later
+field_shared s {v} later b e h k = (v.items, (rw e refl, h.0 k))
+
+pub named_shared : (s : Schema) {v : Vec ℕ Global} (later : Schema) (b : Bool) → s ≡ Named v → (b ≡ true) ↔ (Holds later v.items) → b ≡ true → Shared s later
+named_shared s {v} later b e h k = (v.items, (rw e refl, h.0 k))
+
+pub case_shared : (s : Schema) {v : Vec ℕ Global} {k : Brackets} {p : _} {t : Schema} (later : Schema) (b : Bool) → s ≡ Case' v k p t → (b ≡ true) ↔ (Holds later v.items) → b ≡ true → Shared s later
+case_shared s {v} later b e h k = (v.items, (rw e refl, h.0 k))
+
+-- one of two parts has it
+pub first_shared : (s : Schema) {p : _} {a : Schema} {q : _} {u : Schema} (later : Schema) → s ≡ Beside' p a q u → Shared a later → Shared s later
+first_shared s later e h = (h.0, (rw e (inl h.1.0), h.1.1))
+
+pub later_shared : (s : Schema) {p : _} {a : Schema} {q : _} {u : Schema} (later : Schema) → s ≡ Beside' p a q u → Shared u later → Shared s later
+later_shared s later e h = (h.0, (rw e (inr h.1.0), h.1.1))

@@ -9,9 +9,11 @@ pub mod TurnLaws
 pub mod WholeLaws
 pub mod Distinct
 pub mod DistinctLaws
+pub mod Tokens
 pub mod Names
 pub mod Gathered
 pub mod Reading
+pub mod Unnamed
 pub mod NameLaws
 pub mod ReadingLaws
 pub mod ParsingLaws

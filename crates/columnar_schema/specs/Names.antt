@@ -1,7 +1,7 @@
--- The text of a type. Blanks do not count.
-use Rattle.std.specs.Prelude.{ℕ, Bool, true, false, List, [], ◌∷◌, ◌++◌, ◌≡◌, ◌≤◌, ◌||◌, ◌&&◌, cond, not, length, drop, codes, nat_eq, Vec}
+-- The tokens of a type.
+use Rattle.std.specs.Prelude.{ℕ, Bool, true, false, List, [], ◌∷◌, ◌++◌, ◌≡◌, ◌≤◌, ◌&&◌, not, length, drop, codes, Vec}
 use Rattle.std.specs.Global.{Global}
-use Rattle.std.specs.Char.{is_ascii_alphanumeric, is_ascii_digit}
+use Rattle.std.specs.Char.{is_ascii_digit}
 use Rattle.std.specs.List.{list_all}
 use Rattle.std.specs.Str.Parse.{IsNumeral, digits_value}
 use Rattle.columnar_schema.specs.declared.schema.Brackets.{Brackets}
@@ -11,21 +11,11 @@ use Rattle.columnar_schema.specs.declared.schema.Bounds.TheVariants.{Words, Stri
 use Rattle.columnar_schema.specs.declared.schema.Leaf.{Leaf}
 use Rattle.columnar_schema.specs.declared.schema.Leaf.TheVariants.{U8, U16, U32, U64, U128, Usize, I8, I16, I32, I64, I128, Isize, F32, F64, Bool as BoolLeaf, Char, Unit, Duration, Text}
 use Rattle.columnar_schema.specs.Distinct.{AreApart}
+use Rattle.columnar_schema.specs.Gathered.{IsGathered, IsValue}
+use Rattle.columnar_schema.specs.Tokens.{is_word_byte, marks, tokens}
 use Rattle.columnar_schema.specs.declared.text.Head.{Head}
 use Rattle.columnar_schema.specs.declared.text.Head.TheVariants.{Boxed, Optional, Vector, Small, Repeats}
 use Rattle.columnar_schema.specs.declared.schema.Schema.{Schema, Simple, Optional', Fallible', Lists', Solo', Tuple', Beside', Field', Array', Repeated', Recalled', Sum', Named, Case'}
-
--- a space, a tab, or an end of a line
-abbrev pub is_blank : ℕ → Bool
-is_blank n = nat_eq n 32 || (nat_eq n 9 || (nat_eq n 10 || nat_eq n 13))
-
-abbrev pub unspaced : List ℕ → List ℕ
-unspaced [] = []
-unspaced (n ∷ ns) = cond (is_blank n) (unspaced ns) (n ∷ unspaced ns)
-
--- a letter, a digit or `_`
-abbrev pub is_word_byte : ℕ → Bool
-is_word_byte n = is_ascii_alphanumeric n || nat_eq n 95
 
 -- the bytes do not begin with a digit
 abbrev pub starts_name : List ℕ → Bool
@@ -60,33 +50,33 @@ leaf_name (Text Words) = codes "String"
 leaf_name (Text Strides) = codes "Strings<Strides>"
 leaf_name (Text Unaries) = codes "Strings<Unaries>"
 
--- `name<text>`
-abbrev pub inside : List ℕ → List ℕ → List ℕ
-inside name t = name ++ (codes "<" ++ (t ++ codes ">"))
+-- `name<t>`
+abbrev pub inside : List ℕ → List (List ℕ) → List (List ℕ)
+inside name t = name ∷ (marks (codes "<") ++ (t ++ marks (codes ">")))
 
--- two texts with a comma between them
-abbrev pub with_comma : List ℕ → List ℕ → List ℕ
-with_comma t u = t ++ (codes "," ++ u)
+-- two lists of tokens with a comma between them
+abbrev pub with_comma : List (List ℕ) → List (List ℕ) → List (List ℕ)
+with_comma t u = t ++ (marks (codes ",") ++ u)
 
 -- a comma, or nothing
-abbrev pub last_comma : Bool → List ℕ
-last_comma true = codes ","
+abbrev pub last_comma : Bool → List (List ℕ)
+last_comma true = marks (codes ",")
 last_comma false = []
 
 -- the digits write the number
 abbrev pub Writes : List ℕ → ℕ → Type 0
 Writes ds n = IsNumeral 10 ds × (digits_value 10 ds ≡ n)
 
--- `[type; length]`, without a blank
-abbrev pub array_text : List ℕ → List ℕ → List ℕ
-array_text t d = codes "[" ++ (t ++ (codes ";" ++ (d ++ codes "]")))
+-- `[t; d]`
+abbrev pub array_of : List (List ℕ) → List ℕ → List (List ℕ)
+array_of t d = marks (codes "[") ++ (t ++ (marks (codes ";") ++ (d ∷ marks (codes "]"))))
 
 -- nothing, or a comma and a number of at most 255: how many values a column of lookbacks looks back. Its bytes are the same.
-pub data IsLimit : List ℕ → Type 0 where
+pub data IsLimit : List (List ℕ) → Type 0 where
   unlimited : IsLimit []
-  limited : {n : ℕ} (d : List ℕ) → Writes d n → n ≤ 255 → IsLimit (44 ∷ d)
+  limited : {n : ℕ} (d : List ℕ) → Writes d n → n ≤ 255 → IsLimit (marks (codes ",") ++ (d ∷ []))
 
--- What a text stands for: one type; the rest of the fields of a tuple, from the second on; what follows the name of a
+-- What tokens stand for: one type; the rest of the fields of a tuple, from the second on; what follows the name of a
 -- struct; a field with its name; such fields; a variant; variants; the value of a variant, which JSON writes between these
 -- brackets.
 pub data Part : Type 0 where
@@ -99,47 +89,43 @@ pub data Part : Type 0 where
   all_cases : Part
   case_value : Brackets → Part
 
--- A text names a type, or a part of one. `lists` chooses the bounds of lists. A struct has the columns of the tuple of its
+-- Tokens name a type, or a part of one. `lists` chooses the bounds of lists. A struct has the columns of the tuple of its
 -- fields, an enum a column for the values of each variant: that of its one field, the tuple of several, or that of `()`.
 -- The fields of a struct, of a variant, and the variants of an enum have different names.
-pub data Names (lists : Bounds) : Part → List ℕ → Schema → Type 0 where
-  leaf : (l : Leaf) → Names lists a_type (leaf_name l) (Simple l)
-  boxed : {t : List ℕ} {s : Schema} → Names lists a_type t s → Names lists a_type (inside (codes "Box") t) s
-  optional : {t : List ℕ} {s : Schema} {p : _} → Names lists a_type t s → Names lists a_type (inside (codes "Option") t) (Optional' p s)
-  listed : {t : List ℕ} {s : Schema} {p : _} → Names lists a_type t s → Names lists a_type (inside (codes "Vec") t) (Lists' lists p s)
-  numbered : {t : List ℕ} {s : Schema} {p : _} → Names lists a_type t s → Names lists a_type (inside (codes "SmallVec") t) (Lists' Words p s)
-  fallible : {t u : List ℕ} {s e : Schema} {p q : _} → Names lists a_type t s → Names lists a_type u e → Names lists a_type (inside (codes "Result") (with_comma t u)) (Fallible' p s q e)
-  solo : {t : List ℕ} {s : Schema} {p : _} → Names lists a_type t s → Names lists a_type (codes "(" ++ (t ++ codes ",)")) (Solo' Square p s)
-  tuple : {t u : List ℕ} {s r : Schema} {p q : _} → Names lists a_type t s → Names lists other_types u r → Names lists a_type (codes "(" ++ (with_comma t u ++ codes ")")) (Tuple' Square p s q r)
-  structure : (n : List ℕ) {t : List ℕ} {s : Schema} → is_name n ≡ true → Names lists struct_body t s → Names lists a_type (codes "struct" ++ (n ++ t)) s
-  last : {t : List ℕ} {s : Schema} → Names lists a_type t s → Names lists other_types t s
-  more : {t u : List ℕ} {s r : Schema} {p q : _} → Names lists a_type t s → Names lists other_types u r → Names lists other_types (with_comma t u) (Beside' p s q r)
-  nothing : Names lists struct_body (codes ";") (Simple Unit)
-  wrapped : {t : List ℕ} {s : Schema} {p : _} → Names lists a_type t s → Names lists struct_body (codes "(" ++ (t ++ codes ");")) (Solo' Bare p s)
-  placed : {t u : List ℕ} {s r : Schema} {p q : _} → Names lists a_type t s → Names lists other_types u r → Names lists struct_body (codes "(" ++ (with_comma t u ++ codes ");")) (Tuple' Square p s q r)
-  single : {t : List ℕ} {s : Schema} {p : _} (c : Bool) → Names lists a_field t s → Names lists struct_body (codes "{" ++ (t ++ (last_comma c ++ codes "}"))) (Solo' Curly p s)
-  several : {t u : List ℕ} {s r : Schema} {p q : _} (c : Bool) → Names lists a_field t s → Names lists all_fields u r → AreApart s r → Names lists struct_body (codes "{" ++ (with_comma t u ++ (last_comma c ++ codes "}"))) (Tuple' Curly p s q r)
-  labelled : {t : List ℕ} {s : Schema} {v : Vec ℕ Global} {p : _} → is_name v.items ≡ true → Names lists a_type t s → Names lists a_field (v.items ++ (codes ":" ++ t)) (Field' v p s)
-  last_field : {t : List ℕ} {s : Schema} → Names lists a_field t s → Names lists all_fields t s
-  more_fields : {t u : List ℕ} {s r : Schema} {p q : _} → Names lists a_field t s → Names lists all_fields u r → AreApart s r → Names lists all_fields (with_comma t u) (Beside' p s q r)
-  array : {n : ℕ} {t : List ℕ} {s : Schema} {p : _} (d : List ℕ) → Writes d n → Names lists a_type t s → Names lists a_type (array_text t d) (Array' n p s)
-  repeated : {t : List ℕ} {s : Schema} {p : _} → Names lists a_type t s → Names lists a_type (inside (codes "Repeats") t) (Repeated' p s)
-  recalled : {t : List ℕ} {s : Schema} {p : _} (w : List ℕ) → IsLimit w → Names lists a_type t s → Names lists a_type (inside (codes "Lookbacks") (t ++ w)) (Recalled' p s)
-  sum : (n : List ℕ) {t : List ℕ} {s : Schema} {p : _} (c : Bool) → is_name n ≡ true → Names lists all_cases t s → Names lists a_type (codes "enum" ++ (n ++ (codes "{" ++ (t ++ (last_comma c ++ codes "}"))))) (Sum' p s)
-  last_case : {t : List ℕ} {s : Schema} → Names lists a_case t s → Names lists all_cases t s
-  more_cases : {t u : List ℕ} {s r : Schema} {p q : _} → Names lists a_case t s → Names lists all_cases u r → AreApart s r → Names lists all_cases (with_comma t u) (Beside' p s q r)
-  named : {v : Vec ℕ Global} → is_name v.items ≡ true → Names lists a_case v.items (Named v)
-  valued : {t : List ℕ} {s : Schema} {v : Vec ℕ Global} {k : Brackets} {p : _} → is_name v.items ≡ true → Names lists (case_value k) t s → Names lists a_case (v.items ++ t) (Case' v k p s)
-  one_value : {t : List ℕ} {s : Schema} → Names lists a_type t s → Names lists (case_value Bare) (codes "(" ++ (t ++ codes ")")) s
-  more_values : {t u : List ℕ} {s r : Schema} {p q : _} → Names lists a_type t s → Names lists other_types u r → Names lists (case_value Bare) (codes "(" ++ (with_comma t u ++ codes ")")) (Tuple' Square p s q r)
-  one_named : {t : List ℕ} {s : Schema} (c : Bool) → Names lists a_field t s → Names lists (case_value Curly) (codes "{" ++ (t ++ (last_comma c ++ codes "}"))) s
-  more_named : {t u : List ℕ} {s r : Schema} {p q : _} (c : Bool) → Names lists a_field t s → Names lists all_fields u r → AreApart s r → Names lists (case_value Curly) (codes "{" ++ (with_comma t u ++ (last_comma c ++ codes "}"))) (Tuple' Bare p s q r)
+pub data Names (lists : Bounds) : Part → List (List ℕ) → Schema → Type 0 where
+  leaf : (l : Leaf) → Names lists a_type (tokens (leaf_name l)) (Simple l)
+  boxed : {t : List (List ℕ)} {s : Schema} → Names lists a_type t s → Names lists a_type (inside (codes "Box") t) s
+  optional : {t : List (List ℕ)} {s : Schema} {p : _} → Names lists a_type t s → Names lists a_type (inside (codes "Option") t) (Optional' p s)
+  listed : {t : List (List ℕ)} {s : Schema} {p : _} → Names lists a_type t s → Names lists a_type (inside (codes "Vec") t) (Lists' lists p s)
+  numbered : {t : List (List ℕ)} {s : Schema} {p : _} → Names lists a_type t s → Names lists a_type (inside (codes "SmallVec") t) (Lists' Words p s)
+  fallible : {t u : List (List ℕ)} {s e : Schema} {p q : _} → Names lists a_type t s → Names lists a_type u e → Names lists a_type (inside (codes "Result") (with_comma t u)) (Fallible' p s q e)
+  solo : {t : List (List ℕ)} {s : Schema} {p : _} → Names lists a_type t s → Names lists a_type (marks (codes "(") ++ (t ++ marks (codes ",)"))) (Solo' Square p s)
+  tuple : {t u : List (List ℕ)} {s r : Schema} {p q : _} → Names lists a_type t s → Names lists other_types u r → Names lists a_type (marks (codes "(") ++ (with_comma t u ++ marks (codes ")"))) (Tuple' Square p s q r)
+  last : {t : List (List ℕ)} {s : Schema} → Names lists a_type t s → Names lists other_types t s
+  more : {t u : List (List ℕ)} {s r : Schema} {p q : _} → Names lists a_type t s → Names lists other_types u r → Names lists other_types (with_comma t u) (Beside' p s q r)
+  array : {n : ℕ} {t : List (List ℕ)} {s : Schema} {p : _} (d : List ℕ) → Writes d n → Names lists a_type t s → Names lists a_type (array_of t d) (Array' n p s)
+  repeated : {t : List (List ℕ)} {s : Schema} {p : _} → Names lists a_type t s → Names lists a_type (inside (codes "Repeats") t) (Repeated' p s)
+  recalled : {t : List (List ℕ)} {s : Schema} {p : _} (w : List (List ℕ)) → IsLimit w → Names lists a_type t s → Names lists a_type (inside (codes "Lookbacks") (t ++ w)) (Recalled' p s)
+  structure : (n : List ℕ) {t : List (List ℕ)} {s : Schema} → is_name n ≡ true → Names lists struct_body t s → Names lists a_type (codes "struct" ∷ (n ∷ t)) s
+  nothing : Names lists struct_body (marks (codes ";")) (Simple Unit)
+  places : {t : List (List ℕ)} {a s : Schema} → Names lists other_types t a → IsGathered Bare Square a s → Names lists struct_body (marks (codes "(") ++ (t ++ marks (codes ");"))) s
+  object : {t : List (List ℕ)} {a s : Schema} (c : Bool) → Names lists all_fields t a → IsGathered Curly Curly a s → Names lists struct_body (marks (codes "{") ++ (t ++ (last_comma c ++ marks (codes "}")))) s
+  labelled : {t : List (List ℕ)} {s : Schema} {v : Vec ℕ Global} {p : _} → is_name v.items ≡ true → Names lists a_type t s → Names lists a_field (v.items ∷ (marks (codes ":") ++ t)) (Field' v p s)
+  last_field : {t : List (List ℕ)} {s : Schema} → Names lists a_field t s → Names lists all_fields t s
+  more_fields : {t u : List (List ℕ)} {s r : Schema} {p q : _} → Names lists a_field t s → Names lists all_fields u r → AreApart s r → Names lists all_fields (with_comma t u) (Beside' p s q r)
+  sum : (n : List ℕ) {t : List (List ℕ)} {s : Schema} {p : _} (c : Bool) → is_name n ≡ true → Names lists all_cases t s → Names lists a_type (codes "enum" ∷ (n ∷ (marks (codes "{") ++ (t ++ (last_comma c ++ marks (codes "}")))))) (Sum' p s)
+  last_case : {t : List (List ℕ)} {s : Schema} → Names lists a_case t s → Names lists all_cases t s
+  more_cases : {t u : List (List ℕ)} {s r : Schema} {p q : _} → Names lists a_case t s → Names lists all_cases u r → AreApart s r → Names lists all_cases (with_comma t u) (Beside' p s q r)
+  named : {v : Vec ℕ Global} → is_name v.items ≡ true → Names lists a_case (v.items ∷ []) (Named v)
+  valued : {t : List (List ℕ)} {s : Schema} {v : Vec ℕ Global} {k : Brackets} {p : _} → is_name v.items ≡ true → Names lists (case_value k) t s → Names lists a_case (v.items ∷ t) (Case' v k p s)
+  bare_value : {t : List (List ℕ)} {a s : Schema} → Names lists other_types t a → IsValue Square a s → Names lists (case_value Bare) (marks (codes "(") ++ (t ++ marks (codes ")"))) s
+  named_value : {t : List (List ℕ)} {a s : Schema} (c : Bool) → Names lists all_fields t a → IsValue Bare a s → Names lists (case_value Curly) (marks (codes "{") ++ (t ++ (last_comma c ++ marks (codes "}")))) s
 
 -- From one position to the other, the text continues `begun` so that it stands for the type or the part.
-pub record GoesOn (lists : Bounds) (part : Part) (begun text : List ℕ) (from : ℕ) (s : Schema) (to : ℕ) : Type 0 where
-  pub words : List ℕ
+pub record GoesOn (lists : Bounds) (part : Part) (begun : List (List ℕ)) (text : List ℕ) (from : ℕ) (s : Schema) (to : ℕ) : Type 0 where
+  pub words : List (List ℕ)
   pub names : Names lists part (begun ++ words) s
-  pub stands : unspaced (drop from text) ≡ words ++ unspaced (drop to text)
+  pub stands : tokens (drop from text) ≡ words ++ tokens (drop to text)
   pub within : to ≤ length text
 
 -- the text from one position to the other stands for it
@@ -148,11 +134,11 @@ Reads lists part text from s to = GoesOn lists part [] text from s to
 
 -- The text begins with a number, and goes on as the rest.
 abbrev pub StandsNumber : List ℕ → ℕ → List ℕ → Type 0
-StandsNumber text n rest = (d : List ℕ) × (Writes d n × (unspaced text ≡ d ++ unspaced rest))
+StandsNumber text n rest = (d : List ℕ) × (Writes d n × (tokens text ≡ d ∷ tokens rest))
 
 -- The text begins with a limit, and goes on as the rest.
 abbrev pub StandsLimit : List ℕ → List ℕ → Type 0
-StandsLimit text rest = (w : List ℕ) × (IsLimit w × (unspaced text ≡ w ++ unspaced rest))
+StandsLimit text rest = (w : List (List ℕ)) × (IsLimit w × (tokens text ≡ w ++ tokens rest))
 
 -- the names of types of one part
 abbrev pub head_name : Head → List ℕ

@@ -1,194 +1,371 @@
 -- What the parser reads, by cases of the type.
-use Rattle.std.proofs.Common.{◌≡◌, ◌≢◌, ◌⊎◌, inl, inr, ℕ, suc, ◌+◌, ◌-◌, ◌<◌, ◌≤◌, Bool, true, false, List, [], ◌∷◌, ◌++◌, length, take, drop, refl, sym, ◌∙◌, ap, subst, arith, append_assoc, append-nil, Result, Ok, Err}
-use Rattle.std.specs.Prelude.{codes, nat_eq, bytes_eq}
+use Rattle.std.proofs.Common.{◌≡◌, ◌≢◌, ◌⊎◌, inl, inr, ℕ, suc, ◌+◌, ◌-◌, ◌<◌, ◌≤◌, Bool, true, false, List, [], ◌∷◌, ◌++◌, length, take, drop, refl, sym, ◌∙◌, ap, subst, arith, append_assoc, Result, Ok, Err}
+use Rattle.std.specs.Prelude.{codes, cond, nat_eq, bytes_eq}
 use Rattle.std.specs.List.{list_any}
-use Rattle.std.proofs.lemmas.List.{drop-drop}
-use Rattle.columnar_schema.specs.Names.{Names, Part, a_type, other_types, structure, leaf, last, boxed, optional, listed, numbered, fallible, solo, tuple, more, array, repeated, recalled, IsLimit, head_name, inside, is_blank, leaf_name, with_comma, sum}
-use Rattle.columnar_schema.specs.Reading.{IsApart, NamesNone, NestsWithin, OpensNone, Reaches, ReadsFields, ReadsPart, ReadsParts, ReadsRecalled, ReadsSolo, ReadsTexts, ReadsTuple, ReadsUnit, fields_of, other_leaves, signed_leaves, unsigned_leaves, word_in, word_length}
+use Rattle.columnar_schema.specs.Distinct.{AreApart, Holds}
+use Rattle.columnar_schema.specs.Names.{Names, Part, a_type, other_types, struct_body, a_field, all_fields, a_case, all_cases, structure, nothing, places, object, labelled, last_field, more_fields, leaf, last, boxed, optional, listed, numbered, fallible, solo, tuple, more, array, array_of, repeated, recalled, sum, last_case, more_cases, named, valued, bare_value, named_value, IsLimit, head_name, inside, is_name, last_comma, leaf_name, with_comma}
+use Rattle.columnar_schema.specs.Reading.{EndsCase, NamesNone, NestsWithin, Reaches, ReachesAs, ReachesName, ReadsArray, ReadsBareValue, ReadsEnum, ReadsNamedValue, ReadsObject, ReadsPart, ReadsParts, ReadsPlaces, ReadsRecalled, ReadsSolo, ReadsStruct, ReadsTexts, ReadsTuple, ReadsUnit, first_is, first_token, parts_of, other_leaves, signed_leaves, unsigned_leaves}
+use Rattle.columnar_schema.specs.ReadingLaws.{apart_bytes, name_begins, no}
+use Rattle.columnar_schema.specs.Tokens.{begins_word, marks, tokens}
 use Rattle.columnar_schema.specs.declared.schema.Bounds.{Bounds}
 use Rattle.columnar_schema.specs.declared.schema.Bounds.TheVariants.{Words, Strides, Unaries}
 use Rattle.columnar_schema.specs.declared.schema.Leaf.{Leaf}
 use Rattle.columnar_schema.specs.declared.schema.Leaf.TheVariants.{U8, U16, U32, U64, U128, Usize, I8, I16, I32, I64, I128, Isize, F32, F64, Bool as BoolLeaf, Char, Unit, Duration, Text}
-use Rattle.columnar_schema.specs.declared.schema.Schema.{Schema}
+use Rattle.columnar_schema.specs.declared.schema.Schema.{Schema, Field', Case'}
 use Rattle.columnar_schema.specs.declared.text.Head.{Head}
 use Rattle.columnar_schema.specs.declared.text.Head.TheVariants.{Boxed, Optional, Vector, Small, Repeats}
 use Rattle.columnar_schema.specs.declared.text.Refused.{Refused}
 
-pub no : {X : Type 0} → false ≡ true → X
-no e =
-    let never : ⊥ = cc in
-    absurd never
+-- ---- the first token
 
--- ---- the first byte
-
--- a text begins with a byte that is no blank and not `)`
-pub record Begins (t : List ℕ) : Type 0 where
-  pub first : ℕ
-  pub later : List ℕ
+-- tokens begin with a word, `(` or `[`
+pub record Begins (t : List (List ℕ)) : Type 0 where
+  pub first : List ℕ
+  pub later : List (List ℕ)
   pub is : t ≡ first ∷ later
-  pub shows : is_blank first ≡ false
-  pub opens : nat_eq first 41 ≡ false
+  pub kind : (first ≡ 40 ∷ []) ⊎ ((first ≡ 91 ∷ []) ⊎ (begins_word first ≡ true))
+  pub opens : first_is 41 (first ∷ []) ≡ false
 
-begins_with : (k : ℕ) (x : List ℕ) → is_blank k ≡ false → nat_eq k 41 ≡ false → Begins (k ∷ x)
-begins_with k x s o = record { first = k; later = x; is = refl; shows = s; opens = o }
+begins_with : (w : List ℕ) (x : List (List ℕ)) → begins_word w ≡ true → first_is 41 (w ∷ []) ≡ false → Begins (w ∷ x)
+begins_with w x h o = record { first = w; later = x; is = refl; kind = inr (inr h); opens = o }
 
-leaf_begins : (l : Leaf) → Begins (leaf_name l)
-leaf_begins U8 = begins_with 117 (codes "8") refl refl
-leaf_begins U16 = begins_with 117 (codes "16") refl refl
-leaf_begins U32 = begins_with 117 (codes "32") refl refl
-leaf_begins U64 = begins_with 117 (codes "64") refl refl
-leaf_begins U128 = begins_with 117 (codes "128") refl refl
-leaf_begins Usize = begins_with 117 (codes "size") refl refl
-leaf_begins I8 = begins_with 105 (codes "8") refl refl
-leaf_begins I16 = begins_with 105 (codes "16") refl refl
-leaf_begins I32 = begins_with 105 (codes "32") refl refl
-leaf_begins I64 = begins_with 105 (codes "64") refl refl
-leaf_begins I128 = begins_with 105 (codes "128") refl refl
-leaf_begins Isize = begins_with 105 (codes "size") refl refl
-leaf_begins F32 = begins_with 102 (codes "32") refl refl
-leaf_begins F64 = begins_with 102 (codes "64") refl refl
-leaf_begins BoolLeaf = begins_with 98 (codes "ool") refl refl
-leaf_begins Char = begins_with 99 (codes "har") refl refl
-leaf_begins Duration = begins_with 68 (codes "uration") refl refl
-leaf_begins (Text Words) = begins_with 83 (codes "tring") refl refl
-leaf_begins (Text Strides) = begins_with 83 (codes "trings<Strides>") refl refl
-leaf_begins (Text Unaries) = begins_with 83 (codes "trings<Unaries>") refl refl
-leaf_begins Unit = begins_with 40 (codes ")") refl refl
+begins_open : (x : List (List ℕ)) → Begins ((40 ∷ []) ∷ x)
+begins_open x = record { first = 40 ∷ []; later = x; is = refl; kind = inl refl; opens = refl }
 
-pub begins : {lists : Bounds} {t : List ℕ} {s : Schema} → Names lists a_type t s → Begins t
+begins_square : (x : List (List ℕ)) → Begins ((91 ∷ []) ∷ x)
+begins_square x = record { first = 91 ∷ []; later = x; is = refl; kind = inr (inl refl); opens = refl }
+
+leaf_begins : (l : Leaf) → Begins (tokens (leaf_name l))
+leaf_begins Unit = begins_open _
+leaf_begins (Text Words) = begins_with _ _ refl refl
+leaf_begins (Text Strides) = begins_with _ _ refl refl
+leaf_begins (Text Unaries) = begins_with _ _ refl refl
+leaf_begins l = begins_with _ _ refl refl
+
+pub begins : {lists : Bounds} {t : List (List ℕ)} {s : Schema} → Names lists a_type t s → Begins t
 begins (leaf l) = leaf_begins l
-begins (boxed n) = begins_with 66 _ refl refl
-begins (optional n) = begins_with 79 _ refl refl
-begins (listed n) = begins_with 86 _ refl refl
-begins (numbered n) = begins_with 83 _ refl refl
-begins (fallible n m) = begins_with 82 _ refl refl
-begins (solo n) = begins_with 40 _ refl refl
-begins (tuple n m) = begins_with 40 _ refl refl
-begins (structure k h n) = begins_with 115 _ refl refl
-begins (array d w n) = begins_with 91 _ refl refl
-begins (repeated n) = begins_with 82 _ refl refl
-begins (recalled w l n) = begins_with 76 _ refl refl
-begins (sum k c h n) = begins_with 101 _ refl refl
+begins (boxed n) = begins_with _ _ refl refl
+begins (optional n) = begins_with _ _ refl refl
+begins (listed n) = begins_with _ _ refl refl
+begins (numbered n) = begins_with _ _ refl refl
+begins (fallible n m) = begins_with _ _ refl refl
+begins (solo n) = begins_open _
+begins (tuple n m) = begins_open _
+begins (structure k h n) = begins_with _ _ refl refl
+begins (array d w n) = begins_square _
+begins (repeated n) = begins_with _ _ refl refl
+begins (recalled w l n) = begins_with _ _ refl refl
+begins (sum k c h n) = begins_with _ _ refl refl
 
-pub rest_begins : {lists : Bounds} {u : List ℕ} {r : Schema} → Names lists other_types u r → Begins u
+pub rest_begins : {lists : Bounds} {u : List (List ℕ)} {r : Schema} → Names lists other_types u r → Begins u
 rest_begins (last n) = begins n
 rest_begins (more {t} {u} n m) =
     let b = begins n in
-    record { first = b.first; later = b.later ++ (44 ∷ u); is = ap (λ z. z ++ (44 ∷ u)) b.is; shows = b.shows; opens = b.opens }
+    record { first = b.first; later = b.later ++ ((44 ∷ []) ∷ u); is = ap (λ z. z ++ ((44 ∷ []) ∷ u)) b.is; kind = b.kind; opens = b.opens }
 
--- the text after its first byte
-pub begun : {t : List ℕ} (b : Begins t) (text after : List ℕ) (at : ℕ) → drop at text ≡ t ++ after → drop at text ≡ b.first ∷ (b.later ++ after)
-begun b text after at e = e ∙ ap (λ z. z ++ after) b.is
+first_no : (w : List ℕ) (x : List (List ℕ)) → first_is 41 (w ∷ []) ≡ false → first_is 41 (w ∷ x) ≡ false
+first_no [] x h = refl
+first_no (n ∷ ns) x h = h
 
--- such a text does not begin with `)`
-pub not_closed : {t : List ℕ} (b : Begins t) (text after : List ℕ) (at : ℕ) (r : Bool) → ((k : ℕ) (x : List ℕ) → drop at text ≡ k ∷ x → is_blank k ≡ false → r ≡ nat_eq k 41) → drop at text ≡ t ++ after → r ≡ false
-not_closed b text after at r h e = h b.first _ (begun b text after at e) b.shows ∙ b.opens
+-- such tokens do not begin with `)`
+pub not_closed : {X : Type 0} {t : List (List ℕ)} (b : Begins t) (from x y : List (List ℕ)) → from ≡ t ++ x → from ≡ (41 ∷ []) ∷ y → X
+not_closed b from x y e f = no (sym (first_no b.first (b.later ++ x) b.opens) ∙ ap (first_is 41) (sym (ap (λ z. z ++ x) b.is) ∙ (sym e ∙ f)))
+
+first_of : (w : List ℕ) (x from : List (List ℕ)) (k : ℕ) → from ≡ w ∷ x → w ≡ k ∷ [] → nat_eq k k ≡ true → first_is k from ≡ true
+first_of w x from k e f h = ap (first_is k) (e ∙ ap (λ z. z ∷ x) f) ∙ h
+
+no_kind : {X : Type 0} (first : List ℕ) (later from : List (List ℕ)) → (first ≡ 40 ∷ []) ⊎ ((first ≡ 91 ∷ []) ⊎ (begins_word first ≡ true)) → from ≡ first ∷ later → first_is 40 from ≡ false → first_is 91 from ≡ false → ((w : List ℕ) (x : List (List ℕ)) → from ≡ w ∷ x → begins_word w ≡ true → ⊥) → X
+no_kind first later from (inl k) e f g h = no (sym f ∙ first_of first later from 40 e k refl)
+no_kind first later from (inr (inl k)) e f g h = no (sym g ∙ first_of first later from 91 e k refl)
+no_kind first later from (inr (inr k)) e f g h = absurd (h first later e k)
+
+-- one of the three follows
+pub no_word : {X : Type 0} {t : List (List ℕ)} (b : Begins t) (from rest : List (List ℕ)) → from ≡ t ++ rest → first_is 40 from ≡ false → first_is 91 from ≡ false → ((w : List ℕ) (x : List (List ℕ)) → from ≡ w ∷ x → begins_word w ≡ true → ⊥) → X
+no_word b from rest e f g h = no_kind b.first (b.later ++ rest) from b.kind (e ∙ ap (λ z. z ++ rest) b.is) f g h
 
 -- ---- tuples
 
--- the text begins with `(`
-abbrev pub opens : List ℕ → Bool
-opens [] = false
-opens (k ∷ x) = nat_eq k 40
+unit_read : (l : Leaf) (rest : List (List ℕ)) (text : List ℕ) (next : ℕ) (r : Result (Schema × ℕ) Refused) → tokens (leaf_name l) ++ rest ≡ (40 ∷ []) ∷ tokens (drop next text) → ReadsUnit text (tokens (drop next text)) r → Reaches r text rest
+unit_read Unit rest text next r e h = h rest (ap (drop 1) (sym e))
+unit_read (Text Words) rest text next r e h = no (ap (first_is 40) e)
+unit_read (Text Strides) rest text next r e h = no (ap (first_is 40) e)
+unit_read (Text Unaries) rest text next r e h = no (ap (first_is 40) e)
+unit_read l rest text next r e h = no (ap (first_is 40) e)
 
-pub unit_read : (l : Leaf) (rest text : List ℕ) (next : ℕ) (r : Result (Schema × ℕ) Refused) → opens (leaf_name l ++ rest) ≡ true → drop next text ≡ drop 1 (leaf_name l ++ rest) → ReadsUnit text (drop next text) r → Reaches r text rest
-unit_read U8 rest text next r o e h = no o
-unit_read U16 rest text next r o e h = no o
-unit_read U32 rest text next r o e h = no o
-unit_read U64 rest text next r o e h = no o
-unit_read U128 rest text next r o e h = no o
-unit_read Usize rest text next r o e h = no o
-unit_read I8 rest text next r o e h = no o
-unit_read I16 rest text next r o e h = no o
-unit_read I32 rest text next r o e h = no o
-unit_read I64 rest text next r o e h = no o
-unit_read I128 rest text next r o e h = no o
-unit_read Isize rest text next r o e h = no o
-unit_read F32 rest text next r o e h = no o
-unit_read F64 rest text next r o e h = no o
-unit_read BoolLeaf rest text next r o e h = no o
-unit_read Char rest text next r o e h = no o
-unit_read Duration rest text next r o e h = no o
-unit_read (Text Words) rest text next r o e h = no o
-unit_read (Text Strides) rest text next r o e h = no o
-unit_read (Text Unaries) rest text next r o e h = no o
-unit_read Unit rest text next r o e h = h rest e
+-- two parts and the mark after them
+two_apart : (t u : List (List ℕ)) (k : List ℕ) (rest : List (List ℕ)) → (with_comma t u ++ (k ∷ [])) ++ rest ≡ t ++ ((44 ∷ []) ∷ (u ++ (k ∷ rest)))
+two_apart t u k rest = append_assoc (with_comma t u) (k ∷ []) rest ∙ append_assoc t ((44 ∷ []) ∷ u) (k ∷ rest)
 
--- the two texts of a tuple before its `)`
-pub two_apart : (t u : List ℕ) (k : ℕ) (rest : List ℕ) → (with_comma t u ++ (k ∷ [])) ++ rest ≡ t ++ (44 ∷ (u ++ (k ∷ rest)))
-two_apart t u k rest = append_assoc (with_comma t u) (k ∷ []) rest ∙ append_assoc t (44 ∷ u) (k ∷ rest)
+pub tuple_read : {lists : Bounds} {t : List (List ℕ)} {s : Schema} (n : Names lists a_type t s) (most : ℕ) (rest : List (List ℕ)) (text : List ℕ) (next : ℕ) (r : Result (Schema × ℕ) Refused) → t ++ rest ≡ (40 ∷ []) ∷ tokens (drop next text) → NestsWithin most n → ReadsUnit text (tokens (drop next text)) r → ReadsSolo lists (most - 1) text (tokens (drop next text)) r → ReadsTuple lists (most - 1) text (tokens (drop next text)) r → Reaches r text rest
+tuple_read (leaf l) most rest text next r e h unit one several = unit_read l rest text next r e unit
+tuple_read (solo {t} n) most rest text next r e h unit one several = one t rest _ n (ap (drop 1) (sym e) ∙ append_assoc t (marks (codes ",)")) rest) h.1
+tuple_read (tuple {t} {u} n m) most rest text next r e h unit one several = several t u rest _ _ n m (ap (drop 1) (sym e) ∙ two_apart t u (41 ∷ []) rest) h.1.1.0 h.1.1.1 h.1.0
+tuple_read n most rest text next r e h unit one several = no (ap (first_is 40) e)
 
-pub tuple_read : {lists : Bounds} {t : List ℕ} {s : Schema} (n : Names lists a_type t s) (most : ℕ) (rest text : List ℕ) (next : ℕ) (r : Result (Schema × ℕ) Refused) → opens (t ++ rest) ≡ true → NestsWithin most n → drop next text ≡ drop 1 (t ++ rest) → ReadsUnit text (drop next text) r → ReadsSolo lists (most - 1) text (drop next text) r → ReadsTuple lists (most - 1) text (drop next text) r → Reaches r text rest
-tuple_read (leaf l) most rest text next r o h e unit one several = unit_read l rest text next r o e unit
-tuple_read (boxed n) most rest text next r o h e unit one several = no o
-tuple_read (optional n) most rest text next r o h e unit one several = no o
-tuple_read (listed n) most rest text next r o h e unit one several = no o
-tuple_read (numbered n) most rest text next r o h e unit one several = no o
-tuple_read (fallible n m) most rest text next r o h e unit one several = no o
-tuple_read (structure v k n) most rest text next r o h e unit one several = no o
-tuple_read (array d w n) most rest text next r o h e unit one several = no o
-tuple_read (repeated n) most rest text next r o h e unit one several = no o
-tuple_read (recalled w l n) most rest text next r o h e unit one several = no o
-tuple_read (sum v c k n) most rest text next r o h e unit one several = no o
-tuple_read (solo {t} n) most rest text next r o h e unit one several = one t rest _ n (e ∙ append_assoc t (codes ",)") rest) h.1
-tuple_read (tuple {t} {u} n m) most rest text next r o h e unit one several = several t u rest _ _ n m (e ∙ two_apart t u 41 rest) h.1.1.0 h.1.1.1 h.1.0
+-- ---- arrays
 
--- ---- fields
+leaf_square : {X : Type 0} (l : Leaf) (rest x : List (List ℕ)) → tokens (leaf_name l) ++ rest ≡ (91 ∷ []) ∷ x → X
+leaf_square (Text Words) rest x e = no (ap (first_is 91) e)
+leaf_square (Text Strides) rest x e = no (ap (first_is 91) e)
+leaf_square (Text Unaries) rest x e = no (ap (first_is 91) e)
+leaf_square l rest x e = no (ap (first_is 91) e)
 
-pub some_fields : {lists : Bounds} {u : List ℕ} {r : Schema} (m : Names lists other_types u r) → 1 ≤ fields_of m
+pub array_read : {lists : Bounds} {t : List (List ℕ)} {s : Schema} (n : Names lists a_type t s) (most : ℕ) (rest : List (List ℕ)) (text : List ℕ) (next : ℕ) (r : Result (Schema × ℕ) Refused) → t ++ rest ≡ (91 ∷ []) ∷ tokens (drop next text) → NestsWithin most n → ReadsArray lists (most - 1) text (tokens (drop next text)) r → Reaches r text rest
+array_read (leaf l) most rest text next r e h g = leaf_square l rest _ e
+array_read (array {n} {t} d w m) most rest text next r e h g = g t rest d n _ m (ap (drop 1) (sym e) ∙ append_assoc t (marks (codes ";") ++ (d ∷ marks (codes "]"))) rest) w h.1.0 h.1.1
+array_read n most rest text next r e h g = no (ap (first_is 91) e)
+
+-- ---- the bounds of texts
+
+pub bounds_begin : (name : List ℕ) → (name ≡ codes "Strides") ⊎ (name ≡ codes "Unaries") → begins_word name ≡ true
+bounds_begin name (inl e) = ap begins_word e
+bounds_begin name (inr e) = ap begins_word e
+
+-- the name of a kind of bounds is read
+pub bounds_known : (word name : List ℕ) → (name ≡ codes "Strides") ⊎ (name ≡ codes "Unaries") → word ≡ name → (word ≢ codes "Strides") × (word ≢ codes "Unaries") → ⊥
+bounds_known word name (inl k) e h = h.0 (e ∙ k)
+bounds_known word name (inr k) e h = h.1 (e ∙ k)
+
+-- ---- fields of tuples
+
+pub some_fields : {lists : Bounds} {u : List (List ℕ)} {r : Schema} (m : Names lists other_types u r) → 1 ≤ parts_of m
 some_fields (last n) = omega arith
 some_fields (more n m) = omega arith
 
 -- the first of some fields, and what follows it
-pub record FirstField (lists : Bounds) (depth : ℕ) (text : List ℕ) : Type 0 where
-  pub words : List ℕ
-  pub rest : List ℕ
+pub record FirstField (lists : Bounds) (depth : ℕ) (from : List (List ℕ)) : Type 0 where
+  pub words : List (List ℕ)
+  pub rest : List (List ℕ)
   pub type : Schema
   pub names : Names lists a_type words type
-  pub is : text ≡ words ++ rest
+  pub is : from ≡ words ++ rest
   pub nests : NestsWithin depth names
-  pub apart : IsApart rest
 
-pub first_field : {lists : Bounds} {u : List ℕ} {r : Schema} (m : Names lists other_types u r) (depth : ℕ) (text rest : List ℕ) → text ≡ u ++ (41 ∷ rest) → NestsWithin depth m → FirstField lists depth text
-first_field (last n) depth text rest e h = record { words = _; rest = _; type = _; names = n; is = e; nests = h; apart = refl }
-first_field (more {t} {u} n m) depth text rest e h = record { words = t; rest = _; type = _; names = n; is = e ∙ append_assoc t (44 ∷ u) (41 ∷ rest); nests = h.0; apart = refl }
+pub first_field : {lists : Bounds} {u : List (List ℕ)} {r : Schema} (m : Names lists other_types u r) (depth : ℕ) (from rest : List (List ℕ)) → from ≡ u ++ ((41 ∷ []) ∷ rest) → NestsWithin depth m → FirstField lists depth from
+first_field (last n) depth from rest e h = record { words = _; rest = _; type = _; names = n; is = e; nests = h }
+first_field (more {t} {u} n m) depth from rest e h = record { words = t; rest = _; type = _; names = n; is = e ∙ append_assoc t ((44 ∷ []) ∷ u) ((41 ∷ []) ∷ rest); nests = h.0 }
+
+-- a type was read, and `there` follows it
+abbrev pub TypeRead : Bounds → ℕ → List (List ℕ) → List (List ℕ) → Type 0
+TypeRead lists depth from there = (t rest : List (List ℕ)) (s : Schema) (n : Names lists a_type t s) → from ≡ t ++ rest → NestsWithin depth n → there ≡ rest
 
 -- without a comma after the first field, `)` follows it
-pub fields_end : {lists : Bounds} {u : List ℕ} {r : Schema} (m : Names lists other_types u r) (depth : ℕ) (text rest : List ℕ) (at next : ℕ) → drop at text ≡ u ++ (41 ∷ rest) → NestsWithin depth m → ((t after : List ℕ) (s : Schema) (n : Names lists a_type t s) → drop at text ≡ t ++ after → NestsWithin depth n → IsApart after → drop next text ≡ after) → ((k : ℕ) (x : List ℕ) → drop next text ≡ k ∷ x → is_blank k ≡ false → false ≡ nat_eq k 44) → drop next text ≡ 41 ∷ rest
-fields_end (last n) depth text rest at next e h f g = f _ _ _ n e h refl
-fields_end (more {t} {u} n m) depth text rest at next e h f g = no (g 44 _ (f t _ _ n (e ∙ append_assoc t (44 ∷ u) (41 ∷ rest)) h.0 refl) refl)
+pub fields_end : {lists : Bounds} {u : List (List ℕ)} {r : Schema} (m : Names lists other_types u r) (depth : ℕ) (from there rest : List (List ℕ)) → from ≡ u ++ ((41 ∷ []) ∷ rest) → NestsWithin depth m → TypeRead lists depth from there → first_is 44 there ≡ false → there ≡ (41 ∷ []) ∷ rest
+fields_end (last n) depth from there rest e h f g = f _ _ _ n e h
+fields_end (more {t} {u} n m) depth from there rest e h f g = no (sym g ∙ ap (first_is 44) (f t _ _ n (e ∙ append_assoc t ((44 ∷ []) ∷ u) ((41 ∷ []) ∷ rest)) h.0))
 
 -- with a comma after it, the later fields follow
-pub record LaterFields (lists : Bounds) (depth most : ℕ) (text rest : List ℕ) : Type 0 where
-  pub words : List ℕ
+pub record LaterFields (lists : Bounds) (depth most : ℕ) (from rest : List (List ℕ)) : Type 0 where
+  pub words : List (List ℕ)
   pub type : Schema
   pub names : Names lists other_types words type
-  pub is : text ≡ 44 ∷ (words ++ (41 ∷ rest))
+  pub is : from ≡ words ++ ((41 ∷ []) ∷ rest)
   pub nests : NestsWithin depth names
-  pub few : fields_of names ≤ most - 1
+  pub few : parts_of names ≤ most - 1
 
-pub fields_go : {lists : Bounds} {u : List ℕ} {r : Schema} (m : Names lists other_types u r) (depth most : ℕ) (text rest : List ℕ) (at next : ℕ) → drop at text ≡ u ++ (41 ∷ rest) → NestsWithin depth m → fields_of m ≤ most → ((t after : List ℕ) (s : Schema) (n : Names lists a_type t s) → drop at text ≡ t ++ after → NestsWithin depth n → IsApart after → drop next text ≡ after) → ((k : ℕ) (x : List ℕ) → drop next text ≡ k ∷ x → is_blank k ≡ false → true ≡ nat_eq k 44) → LaterFields lists depth most (drop next text) rest
-fields_go (last n) depth most text rest at next e h l f g = no (sym (g 41 _ (f _ _ _ n e h refl) refl))
-fields_go (more {t} {u} n m) depth most text rest at next e h l f g = record {
+pub fields_go : {lists : Bounds} {u : List (List ℕ)} {r : Schema} (m : Names lists other_types u r) (depth most : ℕ) (from there later rest : List (List ℕ)) → from ≡ u ++ ((41 ∷ []) ∷ rest) → NestsWithin depth m → parts_of m ≤ most → TypeRead lists depth from there → there ≡ (44 ∷ []) ∷ later → LaterFields lists depth most later rest
+fields_go (last n) depth most from there later rest e h l f g = no (ap (first_is 44) (sym (f _ _ _ n e h) ∙ g))
+fields_go (more {t} {u} n m) depth most from there later rest e h l f g = record {
   words = u;
   type = _;
   names = m;
-  is = f t _ _ n (e ∙ append_assoc t (44 ∷ u) (41 ∷ rest)) h.0 refl;
+  is = ap (drop 1) (sym g ∙ f t _ _ n (e ∙ append_assoc t ((44 ∷ []) ∷ u) ((41 ∷ []) ∷ rest)) h.0);
   nests = h.1;
   few = omega (arith, l);
 }
 
+-- ---- fields with names, and variants
+
+-- a field or a variant was read, and `there` follows it
+abbrev pub ItemRead : Bounds → Part → ℕ → List (List ℕ) → List (List ℕ) → Schema → Type 0
+ItemRead lists part depth from there item = (t rest : List (List ℕ)) (s : Schema) (n : Names lists part t s) → from ≡ t ++ rest → EndsCase rest → NestsWithin depth n → (there ≡ rest) × ((k : List ℕ) → Holds item k → Holds s k)
+
+-- a field was
+abbrev pub FieldRead : Bounds → ℕ → List (List ℕ) → List (List ℕ) → Schema → Type 0
+FieldRead lists depth from there item = (name : List ℕ) (t rest : List (List ℕ)) (s : Schema) (n : Names lists a_type t s) → from ≡ name ∷ ((58 ∷ []) ∷ (t ++ rest)) → is_name name ≡ true → NestsWithin depth n → (there ≡ rest) × ((k : List ℕ) → Holds item k → name ≡ k)
+
+field_item : {lists : Bounds} {t : List (List ℕ)} {s : Schema} (n : Names lists a_field t s) (depth : ℕ) (from there rest : List (List ℕ)) (item : Schema) → FieldRead lists depth from there item → from ≡ t ++ rest → NestsWithin depth n → (there ≡ rest) × ((k : List ℕ) → Holds item k → Holds s k)
+field_item (labelled {t} {s} {v} h n) depth from there rest item f e d = f v.items t rest s n e h d
+
+pub field_as_item : (lists : Bounds) (depth : ℕ) (from there : List (List ℕ)) (item : Schema) → FieldRead lists depth from there item → ItemRead lists a_field depth from there item
+field_as_item lists depth from there item f t rest s n e a d = field_item n depth from there rest item f e d
+
+field_fails : {X : Type 0} {lists : Bounds} {t : List (List ℕ)} {s : Schema} (n : Names lists a_field t s) (depth : ℕ) (from rest : List (List ℕ)) → ((name : List ℕ) (t rest : List (List ℕ)) (s : Schema) (n : Names lists a_type t s) → from ≡ name ∷ ((58 ∷ []) ∷ (t ++ rest)) → is_name name ≡ true → NestsWithin depth n → X) → from ≡ t ++ rest → NestsWithin depth n → X
+field_fails (labelled {t} {s} {v} h n) depth from rest f e d = f v.items t rest s n e h d
+
+-- the first field or variant, and the later ones, before `}` or a comma and `}`
+pub data Items (lists : Bounds) (part all : Part) (depth most : ℕ) (c : Bool) (rest from : List (List ℕ)) (r : Schema) : Type 0 where
+  final : {t : List (List ℕ)} (n : Names lists part t r) → NestsWithin depth n → from ≡ t ++ (last_comma c ++ ((125 ∷ []) ∷ rest)) → Items lists part all depth most c rest from r
+  further : {t u : List (List ℕ)} {a b : Schema} (n : Names lists part t a) (m : Names lists all u b) → NestsWithin depth n → NestsWithin depth m → parts_of m ≤ most - 1 → AreApart a b → ((x : List (List ℕ)) → first_is 125 (u ++ x) ≡ false) → from ≡ t ++ ((44 ∷ []) ∷ (u ++ (last_comma c ++ ((125 ∷ []) ∷ rest)))) → ((k : List ℕ) → Holds a k ⊎ Holds b k → Holds r k) → Items lists part all depth most c rest from r
+
+name_open : (name : List ℕ) (x : List (List ℕ)) → is_name name ≡ true → first_is 125 (name ∷ x) ≡ false
+name_open [] x h = no h
+name_open (n ∷ ns) x h = apart_bytes n 125 (name_begins (n ∷ ns) h) refl
+
+field_open : {lists : Bounds} {t : List (List ℕ)} {s : Schema} (n : Names lists a_field t s) (x : List (List ℕ)) → first_is 125 (t ++ x) ≡ false
+field_open (labelled {t} {s} {v} h n) x = name_open v.items _ h
+
+case_open : {lists : Bounds} {t : List (List ℕ)} {s : Schema} (n : Names lists a_case t s) (x : List (List ℕ)) → first_is 125 (t ++ x) ≡ false
+case_open (named {v} h) x = name_open v.items _ h
+case_open (valued {t} {s} {v} h n) x = name_open v.items _ h
+
+fields_open : {lists : Bounds} {t : List (List ℕ)} {s : Schema} (n : Names lists all_fields t s) (x : List (List ℕ)) → first_is 125 (t ++ x) ≡ false
+fields_open (last_field n) x = field_open n x
+fields_open (more_fields {t} {u} n m d) x = ap (first_is 125) (append_assoc t ((44 ∷ []) ∷ u) x) ∙ field_open n _
+
+cases_open : {lists : Bounds} {t : List (List ℕ)} {s : Schema} (n : Names lists all_cases t s) (x : List (List ℕ)) → first_is 125 (t ++ x) ≡ false
+cases_open (last_case n) x = case_open n x
+cases_open (more_cases {t} {u} n m d) x = ap (first_is 125) (append_assoc t ((44 ∷ []) ∷ u) x) ∙ case_open n _
+
+pub fields_items : {lists : Bounds} {u : List (List ℕ)} {r : Schema} (m : Names lists all_fields u r) (depth most : ℕ) (c : Bool) (from rest : List (List ℕ)) → from ≡ u ++ (last_comma c ++ ((125 ∷ []) ∷ rest)) → NestsWithin depth m → parts_of m ≤ most → Items lists a_field all_fields depth most c rest from r
+fields_items (last_field n) depth most c from rest e h l = final n h e
+fields_items (more_fields {t} {u} n m d) depth most c from rest e h l = further n m h.0 h.1 (omega (arith, l)) d (fields_open m) (e ∙ append_assoc t ((44 ∷ []) ∷ u) (last_comma c ++ ((125 ∷ []) ∷ rest))) (λ k z. z)
+
+pub cases_items : {lists : Bounds} {u : List (List ℕ)} {r : Schema} (m : Names lists all_cases u r) (depth most : ℕ) (c : Bool) (from rest : List (List ℕ)) → from ≡ u ++ (last_comma c ++ ((125 ∷ []) ∷ rest)) → NestsWithin depth m → parts_of m ≤ most → Items lists a_case all_cases depth most c rest from r
+cases_items (last_case n) depth most c from rest e h l = final n h e
+cases_items (more_cases {t} {u} n m d) depth most c from rest e h l = further n m h.0 h.1 (omega (arith, l)) d (cases_open m) (e ∙ append_assoc t ((44 ∷ []) ∷ u) (last_comma c ++ ((125 ∷ []) ∷ rest))) (λ k z. z)
+
+pub some_named : {lists : Bounds} {u : List (List ℕ)} {r : Schema} (m : Names lists all_fields u r) → 1 ≤ parts_of m
+some_named (last_field n) = omega arith
+some_named (more_fields n m d) = omega arith
+
+pub some_cases : {lists : Bounds} {u : List (List ℕ)} {r : Schema} (m : Names lists all_cases u r) → 1 ≤ parts_of m
+some_cases (last_case n) = omega arith
+some_cases (more_cases n m d) = omega arith
+
+last_ends : (c : Bool) (rest : List (List ℕ)) → EndsCase (last_comma c ++ ((125 ∷ []) ∷ rest))
+last_ends true rest = (refl, refl)
+last_ends false rest = (refl, refl)
+
+-- the first is not read
+pub item_fails : {X : Type 0} {lists : Bounds} {part all : Part} {depth most : ℕ} {c : Bool} {rest from : List (List ℕ)} {r : Schema} → Items lists part all depth most c rest from r → ((t after : List (List ℕ)) (s : Schema) (n : Names lists part t s) → from ≡ t ++ after → EndsCase after → NestsWithin depth n → X) → X
+item_fails {c = c} {rest = rest} (final n h e) f = f _ _ _ n e (last_ends c rest) h
+item_fails (further n m h k l d o e z) f = f _ _ _ n e (refl, refl) h
+
+pub field_unread : {X : Type 0} {lists : Bounds} {all : Part} {depth most : ℕ} {c : Bool} {rest from : List (List ℕ)} {r : Schema} → Items lists a_field all depth most c rest from r → ((name : List ℕ) (t rest : List (List ℕ)) (s : Schema) (n : Names lists a_type t s) → from ≡ name ∷ ((58 ∷ []) ∷ (t ++ rest)) → is_name name ≡ true → NestsWithin depth n → X) → X
+field_unread {depth = depth} {from = from} i f = item_fails i (λ t after s n e a d. field_fails n depth from after f e d)
+
+-- without a comma after the first, it is the last
+pub items_end : {lists : Bounds} {part all : Part} {depth most : ℕ} {c : Bool} {rest from : List (List ℕ)} {r : Schema} → Items lists part all depth most c rest from r → (there : List (List ℕ)) (item : Schema) → ItemRead lists part depth from there item → first_is 44 there ≡ false → (there ≡ last_comma c ++ ((125 ∷ []) ∷ rest)) × ((k : List ℕ) → Holds item k → Holds r k)
+items_end {c = c} {rest = rest} (final n h e) there item f g = f _ _ _ n e (last_ends c rest) h
+items_end (further n m h k l d o e z) there item f g = no (sym g ∙ ap (first_is 44) (f _ _ _ n e (refl, refl) h).0)
+
+-- so it is if `}` follows the comma
+pub items_close : {lists : Bounds} {part all : Part} {depth most : ℕ} {c : Bool} {rest from : List (List ℕ)} {r : Schema} → Items lists part all depth most c rest from r → (there later : List (List ℕ)) (item : Schema) → ItemRead lists part depth from there item → there ≡ (44 ∷ []) ∷ later → first_is 125 later ≡ true → (there ≡ last_comma c ++ ((125 ∷ []) ∷ rest)) × ((k : List ℕ) → Holds item k → Holds r k)
+items_close {c = c} {rest = rest} (final n h e) there later item f g y = f _ _ _ n e (last_ends c rest) h
+items_close (further n m h k l d o e z) there later item f g y = no (sym (o _) ∙ (ap (first_is 125) (ap (drop 1) (sym (f _ _ _ n e (refl, refl) h).0 ∙ g)) ∙ y))
+
+-- with a comma, and without `}`, the later ones follow
+pub record LaterItems (lists : Bounds) (all : Part) (depth most : ℕ) (c : Bool) (later rest : List (List ℕ)) (item r : Schema) : Type 0 where
+  pub words : List (List ℕ)
+  pub first : Schema
+  pub type : Schema
+  pub names : Names lists all words type
+  pub is : later ≡ words ++ (last_comma c ++ ((125 ∷ []) ∷ rest))
+  pub nests : NestsWithin depth names
+  pub few : parts_of names ≤ most - 1
+  pub apart : AreApart first type
+  pub held : (k : List ℕ) → Holds item k → Holds first k
+  pub holds : (k : List ℕ) → Holds first k ⊎ Holds type k → Holds r k
+
+not_final : {X : Type 0} (c : Bool) (there later rest : List (List ℕ)) → there ≡ last_comma c ++ ((125 ∷ []) ∷ rest) → there ≡ (44 ∷ []) ∷ later → first_is 125 later ≡ false → X
+not_final true there later rest e g y = no (sym y ∙ ap (first_is 125) (ap (drop 1) (sym g ∙ e)))
+not_final false there later rest e g y = no (ap (first_is 44) (sym e ∙ g))
+
+pub items_go : {lists : Bounds} {part all : Part} {depth most : ℕ} {c : Bool} {rest from : List (List ℕ)} {r : Schema} → Items lists part all depth most c rest from r → (there later : List (List ℕ)) (item : Schema) → ItemRead lists part depth from there item → there ≡ (44 ∷ []) ∷ later → first_is 125 later ≡ false → LaterItems lists all depth most c later rest item r
+items_go {c = c} {rest = rest} (final n h e) there later item f g y = not_final c there later rest (f _ _ _ n e (last_ends c rest) h).0 g y
+items_go (further n m h k l d o e z) there later item f g y =
+    let read = f _ _ _ n e (refl, refl) h in
+    record {
+      words = _;
+      first = _;
+      type = _;
+      names = m;
+      is = ap (drop 1) (sym g ∙ read.0);
+      nests = k;
+      few = l;
+      apart = d;
+      held = read.1;
+      holds = z;
+    }
+
+either_held : {lists : Bounds} {all : Part} {depth most : ℕ} {c : Bool} {x rest : List (List ℕ)} {item r : Schema} (i : LaterItems lists all depth most c x rest item r) (later : Schema) → ((k : List ℕ) → Holds later k → Holds i.type k) → (k : List ℕ) → Holds item k ⊎ Holds later k → Holds r k
+either_held i later f k (inl h) = i.holds k (inl (i.held k h))
+either_held i later f k (inr h) = i.holds k (inr (f k h))
+
+pub items_held : {lists : Bounds} {all : Part} {depth most : ℕ} {c : Bool} {x rest : List (List ℕ)} {item r : Schema} (i : LaterItems lists all depth most c x rest item r) (later both : Schema) → ((k : List ℕ) → Holds later k → Holds i.type k) → ((k : List ℕ) → Holds both k → Holds item k ⊎ Holds later k) → (k : List ℕ) → Holds both k → Holds r k
+items_held i later both f g k h = either_held i later f k (g k h)
+
+-- no name stands twice
+pub never_twice : {X : Type 0} {lists : Bounds} {all : Part} {depth most : ℕ} {c : Bool} {x rest : List (List ℕ)} {item r : Schema} (i : LaterItems lists all depth most c x rest item r) (later : Schema) → ((k : List ℕ) → Holds later k → Holds i.type k) → (k : List ℕ) × (Holds item k × Holds later k) → X
+never_twice i later f h = absurd (i.apart h.0 (i.held h.0 h.1.0) (f h.0 h.1.1))
+
+-- ---- structs
+
+closed_apart : (t : List (List ℕ)) (c : Bool) (rest : List (List ℕ)) → (t ++ (last_comma c ++ marks (codes "}"))) ++ rest ≡ t ++ (last_comma c ++ ((125 ∷ []) ∷ rest))
+closed_apart t c rest = append_assoc t (last_comma c ++ marks (codes "}")) rest ∙ ap (λ z. t ++ z) (append_assoc (last_comma c) (marks (codes "}")) rest)
+
+pub body_object : {lists : Bounds} {t : List (List ℕ)} {s : Schema} (n : Names lists struct_body t s) (depth : ℕ) (rest : List (List ℕ)) (text : List ℕ) (next : ℕ) (r : Result (Schema × ℕ) Refused) → t ++ rest ≡ (123 ∷ []) ∷ tokens (drop next text) → NestsWithin depth n → ReadsObject lists depth text (tokens (drop next text)) r → Reaches r text rest
+body_object nothing depth rest text next r e h f = no (ap (first_is 123) e)
+body_object (places n g) depth rest text next r e h f = no (ap (first_is 123) e)
+body_object (object {t} c n g) depth rest text next r e h f = f t rest c _ n (ap (drop 1) (sym e) ∙ closed_apart t c rest) h.1 h.0
+
+pub body_places : {lists : Bounds} {t : List (List ℕ)} {s : Schema} (n : Names lists struct_body t s) (depth : ℕ) (rest : List (List ℕ)) (text : List ℕ) (next : ℕ) (r : Result (Schema × ℕ) Refused) → t ++ rest ≡ (40 ∷ []) ∷ tokens (drop next text) → NestsWithin depth n → ReadsPlaces lists depth text (tokens (drop next text)) r → Reaches r text rest
+body_places nothing depth rest text next r e h f = no (ap (first_is 40) e)
+body_places (places {t} n g) depth rest text next r e h f = f t rest _ n (ap (drop 1) (sym e) ∙ append_assoc t (marks (codes ");")) rest) h.1 h.0
+body_places (object c n g) depth rest text next r e h f = no (ap (first_is 40) e)
+
+pub body_nothing : {lists : Bounds} {t : List (List ℕ)} {s : Schema} (n : Names lists struct_body t s) (from rest : List (List ℕ)) → from ≡ t ++ rest → first_is 123 from ≡ false → first_is 40 from ≡ false → from ≡ (59 ∷ []) ∷ rest
+body_nothing nothing from rest e f g = e
+body_nothing (places n k) from rest e f g = no (sym g ∙ ap (first_is 40) e)
+body_nothing (object c n k) from rest e f g = no (sym f ∙ ap (first_is 123) e)
+
+-- ---- variants
+
+-- a name was read, and `there` follows it
+abbrev pub NameRead : List (List ℕ) → List ℕ → List (List ℕ) → Type 0
+NameRead from word there = (w : List ℕ) (x : List (List ℕ)) → from ≡ w ∷ x → is_name w ≡ true → (word ≡ w) × (there ≡ x)
+
+name_reaches : (r : Result (Schema × ℕ) Refused) (text : List ℕ) (rest : List (List ℕ)) (word name : List ℕ) (s : Schema) → word ≡ name → ((k : List ℕ) → name ≡ k → Holds s k) → ReachesName r text rest word → ReachesAs r text rest s
+name_reaches (Ok read) text rest word name s e f h = (h.0, λ k z. f k (sym e ∙ h.1 k z))
+name_reaches (Err why) text rest word name s e f h = h
+
+pub case_fails : {X : Type 0} {lists : Bounds} {t : List (List ℕ)} {s : Schema} (n : Names lists a_case t s) (from rest : List (List ℕ)) → from ≡ t ++ rest → ((w : List ℕ) (x : List (List ℕ)) → from ≡ w ∷ x → is_name w ≡ true → ⊥) → X
+case_fails (named {v} h) from rest e f = absurd (f v.items rest e h)
+case_fails (valued {t} {s} {v} h n) from rest e f = absurd (f v.items (t ++ rest) e h)
+
+pub case_opens : {lists : Bounds} {t : List (List ℕ)} {s : Schema} (n : Names lists a_case t s) (depth : ℕ) (from there inner rest : List (List ℕ)) (word text : List ℕ) (r : Result (Schema × ℕ) Refused) → from ≡ t ++ rest → EndsCase rest → NestsWithin depth n → NameRead from word there → there ≡ (40 ∷ []) ∷ inner → ReadsBareValue lists depth text word inner r → ReachesAs r text rest s
+case_opens (named {v} h) depth from there inner rest word text r e a d p g f = no (sym a.0 ∙ ap (first_is 40) (sym (p v.items rest e h).1 ∙ g))
+case_opens (valued {t} {s} {v} h (bare_value {t = u} n k)) depth from there inner rest word text r e a d p g f =
+    let read = p v.items _ e h in
+    name_reaches r text rest word v.items _ read.0 (λ i z. z) (f u rest _ n (ap (drop 1) (sym g ∙ read.1) ∙ append_assoc u (marks (codes ")")) rest) d.1 d.0)
+case_opens (valued {t} {s} {v} h (named_value c n k)) depth from there inner rest word text r e a d p g f = no (ap (first_is 40) (sym (p v.items _ e h).1 ∙ g))
+
+pub case_braces : {lists : Bounds} {t : List (List ℕ)} {s : Schema} (n : Names lists a_case t s) (depth : ℕ) (from there inner rest : List (List ℕ)) (word text : List ℕ) (r : Result (Schema × ℕ) Refused) → from ≡ t ++ rest → EndsCase rest → NestsWithin depth n → NameRead from word there → there ≡ (123 ∷ []) ∷ inner → ReadsNamedValue lists depth text word inner r → ReachesAs r text rest s
+case_braces (named {v} h) depth from there inner rest word text r e a d p g f = no (sym a.1 ∙ ap (first_is 123) (sym (p v.items rest e h).1 ∙ g))
+case_braces (valued {t} {s} {v} h (bare_value n k)) depth from there inner rest word text r e a d p g f = no (ap (first_is 123) (sym (p v.items _ e h).1 ∙ g))
+case_braces (valued {t} {s} {v} h (named_value {t = u} c n k)) depth from there inner rest word text r e a d p g f =
+    let read = p v.items _ e h in
+    name_reaches r text rest word v.items _ read.0 (λ i z. z) (f u rest c _ n (ap (drop 1) (sym g ∙ read.1) ∙ closed_apart u c rest) d.1 d.0)
+
+pub case_plain : {lists : Bounds} {t : List (List ℕ)} {s : Schema} (n : Names lists a_case t s) (from there rest : List (List ℕ)) (word : List ℕ) (item : Schema) → from ≡ t ++ rest → NameRead from word there → first_is 40 there ≡ false → first_is 123 there ≡ false → ((k : List ℕ) → Holds item k → word ≡ k) → (there ≡ rest) × ((k : List ℕ) → Holds item k → Holds s k)
+case_plain (named {v} h) from there rest word item e p f g k =
+    let read = p v.items rest e h in
+    (read.1, λ i z. sym read.0 ∙ k i z)
+case_plain (valued {t} {s} {v} h (bare_value n j)) from there rest word item e p f g k = no (sym f ∙ ap (first_is 40) (p v.items _ e h).1)
+case_plain (valued {t} {s} {v} h (named_value c n j)) from there rest word item e p f g k = no (sym g ∙ ap (first_is 123) (p v.items _ e h).1)
+
 -- ---- types that begin with a word
 
-pub nests_some : {lists : Bounds} {t : List ℕ} {s : Schema} (n : Names lists a_type t s) (depth : ℕ) → NestsWithin depth n → 1 ≤ depth
+pub nests_some : {lists : Bounds} {t : List (List ℕ)} {s : Schema} (n : Names lists a_type t s) (depth : ℕ) → NestsWithin depth n → 1 ≤ depth
 nests_some (leaf l) depth h = h
 nests_some (boxed n) depth h = h.0
 nests_some (optional n) depth h = h.0
 nests_some (listed n) depth h = h.0
 nests_some (numbered n) depth h = h.0
 nests_some (fallible n m) depth h = h.0
-nests_some (structure v k n) depth h = absurd h
-nests_some (sum v c k n) depth h = absurd h
+nests_some (structure v k n) depth h = h.0
+nests_some (sum v c k n) depth h = h.0
 nests_some (solo n) depth h = h.0
 nests_some (tuple n m) depth h = h.0
 nests_some (array d w n) depth h = h.0
@@ -196,54 +373,62 @@ nests_some (repeated n) depth h = h.0
 nests_some (recalled w l n) depth h = h.0
 
 -- the same depth
-nests : {lists : Bounds} {part : Part} {t : List ℕ} {s : Schema} (n : Names lists part t s) {one other : ℕ} → one ≡ other → NestsWithin one n → NestsWithin other n
+nests : {lists : Bounds} {part : Part} {t : List (List ℕ)} {s : Schema} (n : Names lists part t s) {one other : ℕ} → one ≡ other → NestsWithin one n → NestsWithin other n
 nests n e h = subst (λ d. NestsWithin d n) e h
 
 -- the word that begins a type, and what follows the word
-pub data Shape (lists : Bounds) (depth : ℕ) (rest : List ℕ) : List ℕ → List ℕ → Type 0 where
+pub data Shape (lists : Bounds) (depth : ℕ) (rest : List (List ℕ)) : List ℕ → List (List ℕ) → Type 0 where
   plain : (l : Leaf) → ((w : List ℕ) → NamesNone w unsigned_leaves × (NamesNone w signed_leaves × NamesNone w other_leaves) → w ≢ leaf_name l) → Shape lists depth rest (leaf_name l) rest
-  texts : (name : List ℕ) → (name ≡ codes "Strides") ⊎ (name ≡ codes "Unaries") → Shape lists depth rest (codes "Strings") (60 ∷ (name ++ (62 ∷ rest)))
-  part : (h : Head) {t : List ℕ} {s : Schema} (n : Names lists a_type t s) → NestsWithin depth n → Shape lists depth rest (head_name h) (60 ∷ (t ++ (62 ∷ rest)))
-  parts : {t u : List ℕ} {s e : Schema} (n : Names lists a_type t s) (m : Names lists a_type u e) → NestsWithin depth n → NestsWithin depth m → Shape lists depth rest (codes "Result") (60 ∷ (t ++ (44 ∷ (u ++ (62 ∷ rest)))))
-  lookbacks : {t : List ℕ} {s : Schema} (n : Names lists a_type t s) (w : List ℕ) → IsLimit w → NestsWithin depth n → Shape lists depth rest (codes "Lookbacks") (60 ∷ (t ++ (w ++ (62 ∷ rest))))
+  texts : (name : List ℕ) → (name ≡ codes "Strides") ⊎ (name ≡ codes "Unaries") → Shape lists depth rest (codes "Strings") ((60 ∷ []) ∷ (name ∷ ((62 ∷ []) ∷ rest)))
+  part : (h : Head) {t : List (List ℕ)} {s : Schema} (n : Names lists a_type t s) → NestsWithin depth n → Shape lists depth rest (head_name h) ((60 ∷ []) ∷ (t ++ ((62 ∷ []) ∷ rest)))
+  parts : {t u : List (List ℕ)} {s e : Schema} (n : Names lists a_type t s) (m : Names lists a_type u e) → NestsWithin depth n → NestsWithin depth m → Shape lists depth rest (codes "Result") ((60 ∷ []) ∷ (t ++ ((44 ∷ []) ∷ (u ++ ((62 ∷ []) ∷ rest)))))
+  lookbacks : {t : List (List ℕ)} {s : Schema} (n : Names lists a_type t s) (w : List (List ℕ)) → IsLimit w → NestsWithin depth n → Shape lists depth rest (codes "Lookbacks") ((60 ∷ []) ∷ (t ++ (w ++ ((62 ∷ []) ∷ rest))))
+  body : (name : List ℕ) {t : List (List ℕ)} {s : Schema} (n : Names lists struct_body t s) → is_name name ≡ true → NestsWithin depth n → Shape lists depth rest (codes "struct") (name ∷ (t ++ rest))
+  variants : (name : List ℕ) {t : List (List ℕ)} {s : Schema} (c : Bool) (n : Names lists all_cases t s) → is_name name ≡ true → NestsWithin (depth - 3) n → parts_of n ≤ 256 → Shape lists depth rest (codes "enum") (name ∷ ((123 ∷ []) ∷ (t ++ (last_comma c ++ ((125 ∷ []) ∷ rest)))))
 
-leaf_shape : (lists : Bounds) (depth : ℕ) (l : Leaf) (rest : List ℕ) → IsApart rest → ((x : List ℕ) → leaf_name l ≢ 40 ∷ x) → Shape lists depth rest (word_in (leaf_name l ++ rest)) (drop (word_length (leaf_name l ++ rest)) (leaf_name l ++ rest))
-leaf_shape lists depth U8 rest a o = rw a (plain U8 (λ w h. h.0 0 U8 (omega arith)))
-leaf_shape lists depth U16 rest a o = rw a (plain U16 (λ w h. h.0 1 U16 (omega arith)))
-leaf_shape lists depth U32 rest a o = rw a (plain U32 (λ w h. h.0 2 U32 (omega arith)))
-leaf_shape lists depth U64 rest a o = rw a (plain U64 (λ w h. h.0 3 U64 (omega arith)))
-leaf_shape lists depth U128 rest a o = rw a (plain U128 (λ w h. h.0 4 U128 (omega arith)))
-leaf_shape lists depth Usize rest a o = rw a (plain Usize (λ w h. h.0 5 Usize (omega arith)))
-leaf_shape lists depth I8 rest a o = rw a (plain I8 (λ w h. h.1.0 0 I8 (omega arith)))
-leaf_shape lists depth I16 rest a o = rw a (plain I16 (λ w h. h.1.0 1 I16 (omega arith)))
-leaf_shape lists depth I32 rest a o = rw a (plain I32 (λ w h. h.1.0 2 I32 (omega arith)))
-leaf_shape lists depth I64 rest a o = rw a (plain I64 (λ w h. h.1.0 3 I64 (omega arith)))
-leaf_shape lists depth I128 rest a o = rw a (plain I128 (λ w h. h.1.0 4 I128 (omega arith)))
-leaf_shape lists depth Isize rest a o = rw a (plain Isize (λ w h. h.1.0 5 Isize (omega arith)))
-leaf_shape lists depth F32 rest a o = rw a (plain F32 (λ w h. h.1.1 0 F32 (omega arith)))
-leaf_shape lists depth F64 rest a o = rw a (plain F64 (λ w h. h.1.1 1 F64 (omega arith)))
-leaf_shape lists depth BoolLeaf rest a o = rw a (plain BoolLeaf (λ w h. h.1.1 2 BoolLeaf (omega arith)))
-leaf_shape lists depth Char rest a o = rw a (plain Char (λ w h. h.1.1 3 Char (omega arith)))
-leaf_shape lists depth Duration rest a o = rw a (plain Duration (λ w h. h.1.1 4 Duration (omega arith)))
-leaf_shape lists depth (Text Words) rest a o = rw a (plain (Text Words) (λ w h. h.1.1 5 (Text Words) (omega arith)))
-leaf_shape lists depth (Text Strides) rest a o = texts (codes "Strides") (inl refl)
-leaf_shape lists depth (Text Unaries) rest a o = texts (codes "Unaries") (inr refl)
-leaf_shape lists depth Unit rest a o = absurd (o (41 ∷ []) refl)
+leaf_shape : (lists : Bounds) (depth : ℕ) (l : Leaf) (rest : List (List ℕ)) → begins_word (first_token (tokens (leaf_name l) ++ rest)) ≡ true → Shape lists depth rest (first_token (tokens (leaf_name l) ++ rest)) (drop 1 (tokens (leaf_name l) ++ rest))
+leaf_shape lists depth U8 rest o = plain U8 (λ w h. h.0 0 U8 (omega arith))
+leaf_shape lists depth U16 rest o = plain U16 (λ w h. h.0 1 U16 (omega arith))
+leaf_shape lists depth U32 rest o = plain U32 (λ w h. h.0 2 U32 (omega arith))
+leaf_shape lists depth U64 rest o = plain U64 (λ w h. h.0 3 U64 (omega arith))
+leaf_shape lists depth U128 rest o = plain U128 (λ w h. h.0 4 U128 (omega arith))
+leaf_shape lists depth Usize rest o = plain Usize (λ w h. h.0 5 Usize (omega arith))
+leaf_shape lists depth I8 rest o = plain I8 (λ w h. h.1.0 0 I8 (omega arith))
+leaf_shape lists depth I16 rest o = plain I16 (λ w h. h.1.0 1 I16 (omega arith))
+leaf_shape lists depth I32 rest o = plain I32 (λ w h. h.1.0 2 I32 (omega arith))
+leaf_shape lists depth I64 rest o = plain I64 (λ w h. h.1.0 3 I64 (omega arith))
+leaf_shape lists depth I128 rest o = plain I128 (λ w h. h.1.0 4 I128 (omega arith))
+leaf_shape lists depth Isize rest o = plain Isize (λ w h. h.1.0 5 Isize (omega arith))
+leaf_shape lists depth F32 rest o = plain F32 (λ w h. h.1.1 0 F32 (omega arith))
+leaf_shape lists depth F64 rest o = plain F64 (λ w h. h.1.1 1 F64 (omega arith))
+leaf_shape lists depth BoolLeaf rest o = plain BoolLeaf (λ w h. h.1.1 2 BoolLeaf (omega arith))
+leaf_shape lists depth Char rest o = plain Char (λ w h. h.1.1 3 Char (omega arith))
+leaf_shape lists depth Duration rest o = plain Duration (λ w h. h.1.1 4 Duration (omega arith))
+leaf_shape lists depth (Text Words) rest o = plain (Text Words) (λ w h. h.1.1 5 (Text Words) (omega arith))
+leaf_shape lists depth (Text Strides) rest o = texts (codes "Strides") (inl refl)
+leaf_shape lists depth (Text Unaries) rest o = texts (codes "Unaries") (inr refl)
+leaf_shape lists depth Unit rest o = no o
 
-pub shape_of : {lists : Bounds} {t : List ℕ} {s : Schema} (n : Names lists a_type t s) (most depth : ℕ) (rest : List ℕ) → most - 1 ≡ depth → NestsWithin most n → IsApart rest → OpensNone t → Shape lists depth rest (word_in (t ++ rest)) (drop (word_length (t ++ rest)) (t ++ rest))
-shape_of {lists} (leaf l) most depth rest d h a o = leaf_shape lists depth l rest a o.0
-shape_of (boxed {t} n) most depth rest d h a o = rw (append_assoc t (62 ∷ []) rest) (part Boxed n (nests n d h.1))
-shape_of (optional {t} n) most depth rest d h a o = rw (append_assoc t (62 ∷ []) rest) (part Optional n (nests n d h.1))
-shape_of (listed {t} n) most depth rest d h a o = rw (append_assoc t (62 ∷ []) rest) (part Vector n (nests n d h.1))
-shape_of (numbered {t} n) most depth rest d h a o = rw (append_assoc t (62 ∷ []) rest) (part Small n (nests n d h.1))
-shape_of (fallible {t} {u} n m) most depth rest d h a o = rw (two_apart t u 62 rest) (parts n m (nests n d h.1.0) (nests m d h.1.1))
-shape_of (structure v k n) most depth rest d h a o = absurd h
-shape_of (sum v c k n) most depth rest d h a o = absurd h
-shape_of (solo n) most depth rest d h a o = absurd (o.0 _ refl)
-shape_of (tuple n m) most depth rest d h a o = absurd (o.0 _ refl)
-shape_of (array v w n) most depth rest d h a o = absurd (o.1 _ refl)
-shape_of (repeated {t} n) most depth rest d h a o = rw (append_assoc t (62 ∷ []) rest) (part Repeats n (nests n d h.1))
-shape_of (recalled {t} w l n) most depth rest d h a o = rw (append_assoc (t ++ w) (62 ∷ []) rest, append_assoc t w (62 ∷ rest)) (lookbacks n w l (nests n d h.1))
+pub shape_of : {lists : Bounds} {t : List (List ℕ)} {s : Schema} (n : Names lists a_type t s) (most depth : ℕ) (rest : List (List ℕ)) → most - 1 ≡ depth → NestsWithin most n → begins_word (first_token (t ++ rest)) ≡ true → Shape lists depth rest (first_token (t ++ rest)) (drop 1 (t ++ rest))
+shape_of {lists} (leaf l) most depth rest d h o = leaf_shape lists depth l rest o
+shape_of (boxed {t} n) most depth rest d h o = rw (append_assoc t ((62 ∷ []) ∷ []) rest) (part Boxed n (nests n d h.1))
+shape_of (optional {t} n) most depth rest d h o = rw (append_assoc t ((62 ∷ []) ∷ []) rest) (part Optional n (nests n d h.1))
+shape_of (listed {t} n) most depth rest d h o = rw (append_assoc t ((62 ∷ []) ∷ []) rest) (part Vector n (nests n d h.1))
+shape_of (numbered {t} n) most depth rest d h o = rw (append_assoc t ((62 ∷ []) ∷ []) rest) (part Small n (nests n d h.1))
+shape_of (fallible {t} {u} n m) most depth rest d h o = rw (two_apart t u (62 ∷ []) rest) (parts n m (nests n d h.1.0) (nests m d h.1.1))
+shape_of (structure v k n) most depth rest d h o = body v n k (nests n d h.1)
+shape_of (sum v {t} c k n) most depth rest d h o = rw (closed_apart t c rest) (variants v c n k (nests n (omega (arith, d)) h.1.1) h.1.0)
+shape_of (solo n) most depth rest d h o = no o
+shape_of (tuple n m) most depth rest d h o = no o
+shape_of (array v w n) most depth rest d h o = no o
+shape_of (repeated {t} n) most depth rest d h o = rw (append_assoc t ((62 ∷ []) ∷ []) rest) (part Repeats n (nests n d h.1))
+shape_of (recalled {t} w l n) most depth rest d h o = rw (append_assoc (t ++ w) ((62 ∷ []) ∷ []) rest, append_assoc t w ((62 ∷ []) ∷ rest)) (lookbacks n w l (nests n d h.1))
+
+-- the shape of what was read
+pub shape_read : {lists : Bounds} {t : List (List ℕ)} {s : Schema} (n : Names lists a_type t s) (most depth : ℕ) (rest from : List (List ℕ)) (word : List ℕ) → word ≡ first_token (t ++ rest) → from ≡ drop 1 (t ++ rest) → begins_word word ≡ true → most - 1 ≡ depth → NestsWithin most n → Shape lists depth rest word from
+shape_read {lists} {t} n most depth rest from word e f b d h = subst (λ (z : List ℕ). Shape lists depth rest z from) (sym e) (subst (λ (z : List (List ℕ)). Shape lists depth rest (first_token (t ++ rest)) z) (sym f) (shape_of n most depth rest d h (ap begins_word (sym e) ∙ b)))
+
+-- ---- the words that are known
 
 abbrev is_leaf_word : List ℕ → Bool
 is_leaf_word w = list_any (λ l. bytes_eq w (leaf_name l)) (U8 ∷ U16 ∷ U32 ∷ U64 ∷ U128 ∷ Usize ∷ I8 ∷ I16 ∷ I32 ∷ I64 ∷ I128 ∷ Isize ∷ F32 ∷ F64 ∷ BoolLeaf ∷ Char ∷ Duration ∷ Text Words ∷ Text Strides ∷ Text Unaries ∷ Unit ∷ [])
@@ -251,94 +436,78 @@ is_leaf_word w = list_any (λ l. bytes_eq w (leaf_name l)) (U8 ∷ U16 ∷ U32 �
 abbrev is_head_word : List ℕ → Bool
 is_head_word w = list_any (λ h. bytes_eq w (head_name h)) (Boxed ∷ Optional ∷ Vector ∷ Small ∷ Repeats ∷ [])
 
-leaf_word : (l : Leaf) → is_leaf_word (leaf_name l) ≡ true
-leaf_word U8 = refl
-leaf_word U16 = refl
-leaf_word U32 = refl
-leaf_word U64 = refl
-leaf_word U128 = refl
-leaf_word Usize = refl
-leaf_word I8 = refl
-leaf_word I16 = refl
-leaf_word I32 = refl
-leaf_word I64 = refl
-leaf_word I128 = refl
-leaf_word Isize = refl
-leaf_word F32 = refl
-leaf_word F64 = refl
-leaf_word BoolLeaf = refl
-leaf_word Char = refl
-leaf_word Duration = refl
-leaf_word (Text Words) = refl
-leaf_word (Text Strides) = refl
-leaf_word (Text Unaries) = refl
-leaf_word Unit = refl
+-- their kinds
+abbrev kind_of : List ℕ → ℕ
+kind_of w = cond (is_leaf_word w) 0 (cond (is_head_word w) 1 (cond (bytes_eq w (codes "Result")) 2 (cond (bytes_eq w (codes "Strings")) 3 (cond (bytes_eq w (codes "Lookbacks")) 4 (cond (bytes_eq w (codes "struct")) 5 6)))))
 
-head_word : (h : Head) → is_head_word (head_name h) ≡ true
-head_word Boxed = refl
-head_word Optional = refl
-head_word Vector = refl
-head_word Small = refl
-head_word Repeats = refl
+leaf_kind : (l : Leaf) → kind_of (leaf_name l) ≡ 0
+leaf_kind (Text Words) = refl
+leaf_kind (Text Strides) = refl
+leaf_kind (Text Unaries) = refl
+leaf_kind l = refl
 
-head_no_leaf : (h : Head) → is_leaf_word (head_name h) ≡ false
-head_no_leaf Boxed = refl
-head_no_leaf Optional = refl
-head_no_leaf Vector = refl
-head_no_leaf Small = refl
-head_no_leaf Repeats = refl
+head_kind : (h : Head) → kind_of (head_name h) ≡ 1
+head_kind Boxed = refl
+head_kind Optional = refl
+head_kind Vector = refl
+head_kind Small = refl
+head_kind Repeats = refl
 
--- a name of one kind is none of another
-apart_words : {X : Type 0} (f : List ℕ → Bool) (w v : List ℕ) → f w ≡ true → f v ≡ false → w ≡ v → X
-apart_words f w v p q e = no (sym q ∙ (ap f (sym e) ∙ p))
+abbrev kind : {lists : Bounds} {depth : ℕ} {rest from : List (List ℕ)} {word : List ℕ} → Shape lists depth rest word from → ℕ
+kind (plain l f) = 0
+kind (part h n k) = 1
+kind (parts n m k j) = 2
+kind (texts name k) = 3
+kind (lookbacks n w l k) = 4
+kind (body name n h k) = 5
+kind (variants name c n h k l) = 6
 
-pub leaf_done : {lists : Bounds} {depth : ℕ} {rest word from : List ℕ} → Shape lists depth rest word from → (l : Leaf) → word ≡ leaf_name l → from ≡ rest
+kind_is : {lists : Bounds} {depth : ℕ} {rest from : List (List ℕ)} {word : List ℕ} (s : Shape lists depth rest word from) → kind_of word ≡ kind s
+kind_is (plain l f) = leaf_kind l
+kind_is (part h n k) = head_kind h
+kind_is (parts n m k j) = refl
+kind_is (texts name k) = refl
+kind_is (lookbacks n w l k) = refl
+kind_is (body name n h k) = refl
+kind_is (variants name c n h k l) = refl
+
+other_kind : {lists : Bounds} {depth : ℕ} {rest from : List (List ℕ)} {word : List ℕ} (s : Shape lists depth rest word from) (name : List ℕ) (k : ℕ) → word ≡ name → kind_of name ≡ k → nat_eq (kind s) k ≡ nat_eq k k
+other_kind s name k e f = ap (λ z. nat_eq z k) (sym (kind_is s) ∙ (ap kind_of e ∙ f))
+
+pub leaf_done : {lists : Bounds} {depth : ℕ} {rest from : List (List ℕ)} {word : List ℕ} (s : Shape lists depth rest word from) (l : Leaf) → word ≡ leaf_name l → from ≡ rest
 leaf_done (plain k f) l e = refl
-leaf_done (texts name k) l e = apart_words is_leaf_word (leaf_name l) (codes "Strings") (leaf_word l) refl (sym e)
-leaf_done (part h n k) l e = apart_words is_leaf_word (leaf_name l) (head_name h) (leaf_word l) (head_no_leaf h) (sym e)
-leaf_done (parts n m k j) l e = apart_words is_leaf_word (leaf_name l) (codes "Result") (leaf_word l) refl (sym e)
-leaf_done (lookbacks n w k j) l e = apart_words is_leaf_word (leaf_name l) (codes "Lookbacks") (leaf_word l) refl (sym e)
+leaf_done s l e = no (other_kind s (leaf_name l) 0 e (leaf_kind l))
 
-pub part_done : {lists : Bounds} {depth : ℕ} {rest word from : List ℕ} → Shape lists depth rest word from → (h : Head) → word ≡ head_name h → (text : List ℕ) (r : Result (Schema × ℕ) Refused) → ReadsPart lists depth text from r → Reaches r text rest
-part_done (plain k f) h e text r g = apart_words is_leaf_word (leaf_name k) (head_name h) (leaf_word k) (head_no_leaf h) e
-part_done (texts name k) h e text r g = apart_words is_head_word (head_name h) (codes "Strings") (head_word h) refl (sym e)
+pub part_done : {lists : Bounds} {depth : ℕ} {rest from : List (List ℕ)} {word : List ℕ} (s : Shape lists depth rest word from) (h : Head) → word ≡ head_name h → (text : List ℕ) (r : Result (Schema × ℕ) Refused) → ReadsPart lists depth text from r → Reaches r text rest
 part_done (part i {t} n k) h e text r g = g t _ _ n refl k
-part_done (parts n m k j) h e text r g = apart_words is_head_word (head_name h) (codes "Result") (head_word h) refl (sym e)
-part_done (lookbacks n w k j) h e text r g = apart_words is_head_word (head_name h) (codes "Lookbacks") (head_word h) refl (sym e)
+part_done s h e text r g = no (other_kind s (head_name h) 1 e (head_kind h))
 
-pub parts_done : {lists : Bounds} {depth : ℕ} {rest word from : List ℕ} → Shape lists depth rest word from → word ≡ codes "Result" → (text : List ℕ) (r : Result (Schema × ℕ) Refused) → ReadsParts lists depth text from r → Reaches r text rest
-parts_done (plain k f) e text r g = apart_words is_leaf_word (leaf_name k) (codes "Result") (leaf_word k) refl e
-parts_done (texts name k) e text r g = no (ap (λ w. bytes_eq w (codes "Result")) e)
-parts_done (part i n k) e text r g = apart_words is_head_word (head_name i) (codes "Result") (head_word i) refl e
+pub parts_done : {lists : Bounds} {depth : ℕ} {rest from : List (List ℕ)} {word : List ℕ} (s : Shape lists depth rest word from) → word ≡ codes "Result" → (text : List ℕ) (r : Result (Schema × ℕ) Refused) → ReadsParts lists depth text from r → Reaches r text rest
 parts_done (parts {t} {u} n m k j) e text r g = g t u _ _ _ n m refl k j
-parts_done (lookbacks n w k j) e text r g = no (ap (λ v. bytes_eq v (codes "Result")) e)
+parts_done s e text r g = no (other_kind s (codes "Result") 2 e refl)
 
-pub texts_done : {lists : Bounds} {depth : ℕ} {rest word from : List ℕ} → Shape lists depth rest word from → word ≡ codes "Strings" → (text : List ℕ) (r : Result (Schema × ℕ) Refused) → ReadsTexts text from r → Reaches r text rest
-texts_done (plain k f) e text r g = apart_words is_leaf_word (leaf_name k) (codes "Strings") (leaf_word k) refl e
+pub texts_done : {lists : Bounds} {depth : ℕ} {rest from : List (List ℕ)} {word : List ℕ} (s : Shape lists depth rest word from) → word ≡ codes "Strings" → (text : List ℕ) (r : Result (Schema × ℕ) Refused) → ReadsTexts text from r → Reaches r text rest
 texts_done (texts name k) e text r g = g name _ k refl
-texts_done (part i n k) e text r g = apart_words is_head_word (head_name i) (codes "Strings") (head_word i) refl e
-texts_done (parts n m k j) e text r g = no (ap (λ w. bytes_eq w (codes "Strings")) e)
-texts_done (lookbacks n w k j) e text r g = no (ap (λ v. bytes_eq v (codes "Strings")) e)
+texts_done s e text r g = no (other_kind s (codes "Strings") 3 e refl)
+
+pub lookbacks_done : {lists : Bounds} {depth : ℕ} {rest from : List (List ℕ)} {word : List ℕ} (s : Shape lists depth rest word from) → word ≡ codes "Lookbacks" → (text : List ℕ) (r : Result (Schema × ℕ) Refused) → ReadsRecalled lists depth text from r → Reaches r text rest
+lookbacks_done (lookbacks {t} n w k j) e text r g = g t w _ _ n refl k j
+lookbacks_done s e text r g = no (other_kind s (codes "Lookbacks") 4 e refl)
+
+pub struct_done : {lists : Bounds} {depth : ℕ} {rest from : List (List ℕ)} {word : List ℕ} (s : Shape lists depth rest word from) → word ≡ codes "struct" → (text : List ℕ) (r : Result (Schema × ℕ) Refused) → ReadsStruct lists depth text from r → Reaches r text rest
+struct_done (body name {t} n h k) e text r g = g name t _ _ n refl h k
+struct_done s e text r g = no (other_kind s (codes "struct") 5 e refl)
+
+pub enum_done : {lists : Bounds} {depth : ℕ} {rest from : List (List ℕ)} {word : List ℕ} (s : Shape lists depth rest word from) → word ≡ codes "enum" → (text : List ℕ) (r : Result (Schema × ℕ) Refused) (inner : ℕ) → inner ≡ depth - 3 → ReadsEnum lists inner text from r → Reaches r text rest
+enum_done (variants name {t} c n h k l) e text r inner d g = g name t _ c _ n refl h (nests n (sym d) k) l
+enum_done s e text r inner d g = no (other_kind s (codes "enum") 6 e refl)
 
 -- a type begins with a word that is known
-pub none_left : {lists : Bounds} {depth : ℕ} {rest word from : List ℕ} → Shape lists depth rest word from → (given : List ℕ) → given ≡ word → NamesNone given unsigned_leaves × (NamesNone given signed_leaves × NamesNone given other_leaves) → ((h : Head) → given ≢ head_name h) → given ≢ codes "Result" → given ≢ codes "Strings" → given ≢ codes "Lookbacks" → ⊥
-none_left (plain k f) given w l h p t u = f given l w
-none_left (texts name k) given w l h p t u = t w
-none_left (part i n k) given w l h p t u = h i w
-none_left (parts n m k j) given w l h p t u = p w
-none_left (lookbacks n v k j) given w l h p t u = u w
-
-pub lookbacks_done : {lists : Bounds} {depth : ℕ} {rest word from : List ℕ} → Shape lists depth rest word from → word ≡ codes "Lookbacks" → (text : List ℕ) (r : Result (Schema × ℕ) Refused) → ReadsRecalled lists depth text from r → Reaches r text rest
-lookbacks_done (plain k f) e text r g = apart_words is_leaf_word (leaf_name k) (codes "Lookbacks") (leaf_word k) refl e
-lookbacks_done (texts name k) e text r g = no (ap (λ w. bytes_eq w (codes "Lookbacks")) e)
-lookbacks_done (part i n k) e text r g = apart_words is_head_word (head_name i) (codes "Lookbacks") (head_word i) refl e
-lookbacks_done (parts n m k j) e text r g = no (ap (λ w. bytes_eq w (codes "Lookbacks")) e)
-lookbacks_done (lookbacks {t} n w k j) e text r g = g t w _ _ n refl k j
-
--- the word that begins a text, and what follows it
-pub word_at : (text : List ℕ) (m e : ℕ) (x : List ℕ) → drop m text ≡ x → e ≡ m + word_length (drop m text) → (take (e - m) (drop m text) ≡ word_in x) × (drop e text ≡ drop (word_length x) x)
-word_at text m e x d n =
-    let k : word_length (drop m text) ≡ word_length x = ap (λ z. word_length z) d in
-    let j : e ≡ m + word_length x = omega (arith, n, k) in
-    let i : e - m ≡ word_length x = omega (arith, j) in
-    (rw (i, d) refl, rw j (sym (drop-drop (word_length x) m text) ∙ ap (λ z. drop (word_length x) z) d))
+pub none_left : {lists : Bounds} {depth : ℕ} {rest from : List (List ℕ)} {word : List ℕ} → Shape lists depth rest word from → NamesNone word unsigned_leaves × (NamesNone word signed_leaves × NamesNone word other_leaves) → ((h : Head) → word ≢ head_name h) → word ≢ codes "Result" → word ≢ codes "Strings" → word ≢ codes "struct" → word ≢ codes "Lookbacks" → word ≢ codes "enum" → ⊥
+none_left (plain k f) l h p t b u v = f _ l refl
+none_left (texts name k) l h p t b u v = t refl
+none_left (part i n k) l h p t b u v = h i refl
+none_left (parts n m k j) l h p t b u v = p refl
+none_left (lookbacks n w k j) l h p t b u v = u refl
+none_left (body name n k j) l h p t b u v = b refl
+none_left (variants name c n k j i) l h p t b u v = v refl

@@ -19,9 +19,10 @@ use Rattle.columnar_schema.specs.declared.schema.Leaf.TheVariants.{U8}
 use Rattle.columnar_schema.specs.declared.schema.Schema.{Schema, Simple, Fallible', Recalled'}
 use Rattle.columnar_schema.specs.Formats.{format_of}
 use Rattle.columnar_schema.specs.JudgeLaws.{errors_fit, errors_refused, first_fits, left_refused, values_fit, values_refused}
-use Rattle.columnar_schema.specs.Names.{GoesOn, IsLimit, Names, Reads, StandsLimit, StandsNumber, Writes, a_type, inside, is_blank, limited, recalled, unlimited, unspaced}
-use Rattle.columnar_schema.specs.ParsingLaws.{no}
-use Rattle.columnar_schema.specs.Reading.{IsApart}
+use Rattle.columnar_schema.specs.Names.{GoesOn, IsLimit, Names, Reads, StandsLimit, StandsNumber, Writes, a_type, inside, limited, recalled, unlimited}
+use Rattle.columnar_schema.specs.Reading.{first_is}
+use Rattle.columnar_schema.specs.ReadingLaws.{no}
+use Rattle.columnar_schema.specs.Tokens.{marks, tokens}
 use Rattle.columnar_schema.specs.TurnLaws.{errors_turns, values_turns}
 use Rattle.columnar_schema.specs.TypeLaws.{fallible_rows}
 
@@ -102,47 +103,42 @@ recalled_turns s {p} {t} o ss old mid later last new e f u v w z =
 
 -- ---- the text
 
-pub recalled_named : (a b : Schema) {p : _} → b ≡ a → (lists : Bounds) (t w : List ℕ) → IsLimit w → Names lists a_type t a → Names lists a_type (inside (codes "Lookbacks") (t ++ w)) (Recalled' p b)
+pub recalled_named : (a b : Schema) {p : _} → b ≡ a → (lists : Bounds) (t w : List (List ℕ)) → IsLimit w → Names lists a_type t a → Names lists a_type (inside (codes "Lookbacks") (t ++ w)) (Recalled' p b)
 recalled_named a b e lists t w l n = rw e (recalled w l n)
 
 -- the type and the limit after `Lookbacks`
-pub lookbacks_go_on : (lists : Bounds) (text : List ℕ) (at n m k o : ℕ) (a s : Schema) → unspaced (drop at text) ≡ 60 ∷ unspaced (drop n text) → Reads lists a_type text n a m → StandsLimit (drop m text) (drop k text) → unspaced (drop k text) ≡ 62 ∷ unspaced (drop o text) → o ≤ length text → ((l : Bounds) (t w : List ℕ) → IsLimit w → Names l a_type t a → Names l a_type (inside (codes "Lookbacks") (t ++ w)) s) → GoesOn lists a_type (codes "Lookbacks") text at s o
+pub lookbacks_go_on : (lists : Bounds) (text : List ℕ) (at n m k o : ℕ) (a s : Schema) → tokens (drop at text) ≡ (60 ∷ []) ∷ tokens (drop n text) → Reads lists a_type text n a m → StandsLimit (drop m text) (drop k text) → tokens (drop k text) ≡ (62 ∷ []) ∷ tokens (drop o text) → o ≤ length text → ((l : Bounds) (t w : List (List ℕ)) → IsLimit w → Names l a_type t a → Names l a_type (inside (codes "Lookbacks") (t ++ w)) s) → GoesOn lists a_type (codes "Lookbacks" ∷ []) text at s o
 lookbacks_go_on lists text at n m k o a s e p q g h f =
     let w = q.0 in
-    let rest = unspaced (drop o text) in
+    let rest = tokens (drop o text) in
     record {
-      words = codes "<" ++ ((p.words ++ w) ++ codes ">");
+      words = marks (codes "<") ++ ((p.words ++ w) ++ marks (codes ">"));
       names = f lists p.words w q.1.0 p.names;
-      stands = e ∙ ap (λ z. 60 ∷ z) (p.stands ∙ (ap (λ z. p.words ++ z) (q.1.1 ∙ ap (λ z. w ++ z) g) ∙ sym (append_assoc (p.words ++ w) (62 ∷ []) rest ∙ append_assoc p.words w (62 ∷ rest))));
+      stands = e ∙ ap (λ z. (60 ∷ []) ∷ z) (p.stands ∙ (ap (λ z. p.words ++ z) (q.1.1 ∙ ap (λ z. w ++ z) g) ∙ sym (append_assoc (p.words ++ w) (marks (codes ">")) rest ∙ append_assoc p.words w ((62 ∷ []) ∷ rest))));
       within = h;
     }
 
 -- a comma and a number
-pub limit_stands : (text : List ℕ) (at m k n : ℕ) → unspaced (drop at text) ≡ 44 ∷ unspaced (drop m text) → StandsNumber (drop m text) n (drop k text) → n ≤ 255 → StandsLimit (drop at text) (drop k text)
-limit_stands text at m k n e q l = (44 ∷ q.0, (limited q.0 q.1.0 l, e ∙ ap (λ z. 44 ∷ z) q.1.1))
+pub limit_stands : (text : List ℕ) (at m k n : ℕ) → tokens (drop at text) ≡ (44 ∷ []) ∷ tokens (drop m text) → StandsNumber (drop m text) n (drop k text) → n ≤ 255 → StandsLimit (drop at text) (drop k text)
+limit_stands text at m k n e q l = ((44 ∷ []) ∷ (q.0 ∷ []), (limited q.0 q.1.0 l, e ∙ ap (λ z. (44 ∷ []) ∷ z) q.1.1))
 
 -- neither
 pub no_limit : (text : List ℕ) (at : ℕ) → StandsLimit (drop at text) (drop at text)
 no_limit text at = ([], (unlimited, refl))
 
 -- without a comma `>` follows
-pub limit_absent : {w : List ℕ} (text rest : List ℕ) (at : ℕ) → IsLimit w → drop at text ≡ w ++ (62 ∷ rest) → ((k : ℕ) (x : List ℕ) → drop at text ≡ k ∷ x → is_blank k ≡ false → false ≡ nat_eq k 44) → drop at text ≡ 62 ∷ rest
-limit_absent text rest at unlimited e g = e
-limit_absent text rest at (limited d v l) e g = no (g 44 (d ++ (62 ∷ rest)) e refl)
+pub limit_absent : {w : List (List ℕ)} (from rest : List (List ℕ)) → IsLimit w → from ≡ w ++ ((62 ∷ []) ∷ rest) → first_is 44 from ≡ false → from ≡ (62 ∷ []) ∷ rest
+limit_absent from rest unlimited e g = e
+limit_absent from rest (limited d v l) e g = no (sym g ∙ ap (first_is 44) e)
 
 -- with a comma a number follows
-pub record LimitRead (text rest : List ℕ) : Type 0 where
+pub record LimitRead (from rest : List (List ℕ)) : Type 0 where
   pub digits : List ℕ
   pub number : ℕ
   pub writes : Writes digits number
   pub small : number ≤ 255
-  pub is : text ≡ 44 ∷ (digits ++ (62 ∷ rest))
+  pub is : from ≡ digits ∷ ((62 ∷ []) ∷ rest)
 
-pub limit_follows : {w : List ℕ} (text rest : List ℕ) (at : ℕ) → IsLimit w → drop at text ≡ w ++ (62 ∷ rest) → ((k : ℕ) (x : List ℕ) → drop at text ≡ k ∷ x → is_blank k ≡ false → true ≡ nat_eq k 44) → LimitRead (drop at text) rest
-limit_follows text rest at unlimited e g = no (sym (g 62 rest e refl))
-limit_follows text rest at (limited {n} d v l) e g = record { digits = d; number = n; writes = v; small = l; is = e }
-
--- no word follows the type
-pub limit_apart : {w : List ℕ} (rest : List ℕ) → IsLimit w → IsApart (w ++ (62 ∷ rest))
-limit_apart rest unlimited = refl
-limit_apart rest (limited d v l) = refl
+pub limit_follows : {w : List (List ℕ)} (from next rest : List (List ℕ)) → IsLimit w → from ≡ w ++ ((62 ∷ []) ∷ rest) → from ≡ (44 ∷ []) ∷ next → LimitRead next rest
+limit_follows from next rest unlimited e g = no (ap (first_is 44) (sym e ∙ g))
+limit_follows from next rest (limited {n} d v l) e g = record { digits = d; number = n; writes = v; small = l; is = ap (drop 1) (sym g ∙ e) }

@@ -1,5 +1,5 @@
 //! Fields of a struct, and variants of an enum, with the same name.
-ghost use Rattle.std.specs.Prelude.{◌≡◌, ◌↔◌, true, false};
+ghost use Rattle.std.specs.Prelude.{◌≡◌, ◌↔◌, List, ℕ, true, false};
 ghost use Rattle.columnar_schema.specs.Distinct.{AreApart, Holds};
 
 use crate::schema::Schema;
@@ -25,9 +25,10 @@ fn has_name(schema: &Schema, name: &[u8]) -> bool
 }
 
 /// Returns whether a field or a variant has a name that is among those of the later ones.
-#[tactic(auto, using(crate::specs::DistinctLaws::field_apart, crate::specs::DistinctLaws::named_apart, crate::specs::DistinctLaws::case_apart, crate::specs::DistinctLaws::others_apart))]
+#[tactic(auto, using(crate::specs::DistinctLaws::field_apart, crate::specs::DistinctLaws::named_apart, crate::specs::DistinctLaws::case_apart, crate::specs::DistinctLaws::others_apart, crate::specs::DistinctLaws::field_shared, crate::specs::DistinctLaws::named_shared, crate::specs::DistinctLaws::case_shared, crate::specs::DistinctLaws::first_shared, crate::specs::DistinctLaws::later_shared))]
 pub(crate) fn shares_name(first: &Schema, later: &Schema) -> bool
-    ensures { result ≡ false → AreApart first.now later.now }
+    ensures apart { result ≡ false → AreApart first.now later.now }
+    ensures shared { result ≡ true → (n : List ℕ) × (Holds first.now n × Holds later.now n) }
 {
     match first {
         Schema::Field(name, _) => has_name(later, name.as_slice()),

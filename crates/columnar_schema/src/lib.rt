@@ -9,6 +9,7 @@ pub mod leaf;
 pub mod names;
 mod number;
 mod parts;
+mod scan;
 pub mod schema;
 pub mod text;
 pub mod typed;

@@ -1,9 +1,11 @@
 //! Numbers in the text of a type.
-ghost use Rattle.std.specs.Prelude.{◌≡◌, ◌<◌, ◌≤◌, ◌^◌, ◌∷◌, ◌++◌, List, ℕ, length, drop, IfOk, IfSome, IfNone};
+ghost use Rattle.std.specs.Prelude.{◌≡◌, ◌<◌, ◌≤◌, ◌^◌, ◌∷◌, ◌++◌, List, [], ℕ, length, drop, IfOk, IfSome, IfNone};
 ghost use Rattle.columnar_schema.specs.Names.{IsLimit, StandsLimit, StandsNumber, Writes};
-ghost use Rattle.columnar_schema.specs.Reading.{IsApart, Passes, PassesNumber};
+ghost use Rattle.columnar_schema.specs.Reading.{Passes, PassesNumber};
+ghost use Rattle.columnar_schema.specs.Tokens.{tokens};
 
-use crate::text::{Mistake, Refused, after, after_blanks, stands_at, word_end};
+use crate::scan::{past, word_span};
+use crate::text::{Mistake, Refused};
 use columnar_strings::string::as_text;
 
 // Returns the number that a word writes in decimal digits; `None` if it writes none below 2^64.
@@ -36,10 +38,9 @@ pub(crate) fn number_at(text: &[u8], at: usize, most: usize) -> Result<(usize, u
     ensures most { IfOk result (λ p. p.0 ≤ most) }
     ensures within { IfOk result (λ p. p.1 ≤ length text.now) }
     ensures stands { IfOk result (λ p. StandsNumber (drop at text.now) p.0 (drop p.1 text.now)) }
-    ensures passes { (d rest : List ℕ) (n : ℕ) → drop at text.now ≡ d ++ rest → Writes d n → n ≤ most → IsApart rest → PassesNumber result text.now rest }
+    ensures passes { (d : List ℕ) (rest : List (List ℕ)) (n : ℕ) → tokens (drop at text.now) ≡ d ∷ rest → Writes d n → n ≤ most → PassesNumber result text.now rest }
 {
-    let start = after_blanks(text, at);
-    let end = word_end(text, start);
+    let (start, end) = word_span(text, at);
     match number_of(&text[start..end]) {
         Some(number) if number <= most => Ok((number, end)),
         _ => Err(Refused {
@@ -60,12 +61,11 @@ pub(crate) fn after_limit(text: &[u8], at: usize) -> Result<usize, Refused>
     requires { at ≤ length text.now }
     ensures within { IfOk result (λ n. n ≤ length text.now) }
     ensures stands { IfOk result (λ n. StandsLimit (drop at text.now) (drop n text.now)) }
-    ensures passes { (w rest : List ℕ) → drop at text.now ≡ w ++ (62 ∷ rest) → IsLimit w → Passes result text.now (62 ∷ rest) }
+    ensures passes { (w rest : List (List ℕ)) → tokens (drop at text.now) ≡ w ++ ((62 ∷ []) ∷ rest) → IsLimit w → Passes result text.now ((62 ∷ []) ∷ rest) }
 {
-    if !stands_at(text, at, b',') {
+    let Some(next) = past(text, at, b',') else {
         return Ok(at);
-    }
-    let next = after(text, at, b',')?;
+    };
     let (_limit, next) = number_at(text, next, 255)?;
     Ok(next)
 }

@@ -1,8 +1,9 @@
 //! Parts of types, moved into boxes.
-ghost use Rattle.std.specs.Prelude.{◌≡◌, ◌++◌, Bool, List, ℕ, codes, IfOk, IfErr, true};
-ghost use Rattle.columnar_schema.specs.Distinct.{AreApart};
+ghost use Rattle.std.specs.Prelude.{◌≡◌, ◌⊎◌, ◌∷◌, ◌++◌, Bool, List, [], ℕ, codes, IfOk, IfErr, true};
+ghost use Rattle.columnar_schema.specs.Distinct.{AreApart, Holds};
 ghost use Rattle.columnar_schema.specs.Gathered.{IsGathered, IsValue};
-ghost use Rattle.columnar_schema.specs.Names.{IsLimit, Names, Writes, a_case, a_field, a_type, all_cases, all_fields, array_text, case_value, inside, is_name, last_comma, other_types, with_comma};
+ghost use Rattle.columnar_schema.specs.Names.{IsLimit, Names, Writes, a_case, a_field, a_type, all_cases, all_fields, array_of, case_value, inside, is_name, last_comma, other_types, with_comma};
+ghost use Rattle.columnar_schema.specs.Tokens.{marks};
 ghost use Rattle.columnar_schema.specs.declared.schema.Bounds.{Bounds};
 ghost use Rattle.columnar_schema.specs.declared.text.Mistake.TheVariants.{Memory};
 
@@ -35,7 +36,7 @@ pub(crate) fn boxed(alloc: Global, part: Schema) -> Result<Box<Schema>, Refused>
 #[tactic(auto, using(crate::specs::NameLaws::fallible_named))]
 pub(crate) fn fallible(alloc: Global, values: Schema, errors: Schema) -> Result<Schema, Refused>
     ensures err { IfErr result (λ e. e.mistake ≡ Memory) }
-    ensures ok { IfOk result (λ s. (lists : Bounds) (t u : List ℕ) → Names lists a_type t values → Names lists a_type u errors → Names lists a_type (inside (codes "Result") (with_comma t u)) s) }
+    ensures ok { IfOk result (λ s. (lists : Bounds) (t u : List (List ℕ)) → Names lists a_type t values → Names lists a_type u errors → Names lists a_type (inside (codes "Result") (with_comma t u)) s) }
 {
     let values = boxed(alloc, values)?;
     let errors = boxed(alloc, errors)?;
@@ -46,7 +47,7 @@ pub(crate) fn fallible(alloc: Global, values: Schema, errors: Schema) -> Result<
 #[tactic(auto, using(crate::specs::NameLaws::solo_named))]
 pub(crate) fn solo(alloc: Global, field: Schema) -> Result<Schema, Refused>
     ensures err { IfErr result (λ e. e.mistake ≡ Memory) }
-    ensures ok { IfOk result (λ s. (lists : Bounds) (t : List ℕ) → Names lists a_type t field → Names lists a_type (codes "(" ++ (t ++ codes ",)")) s) }
+    ensures ok { IfOk result (λ s. (lists : Bounds) (t : List (List ℕ)) → Names lists a_type t field → Names lists a_type (marks (codes "(") ++ (t ++ marks (codes ",)"))) s) }
 {
     Ok(Schema::Solo(Brackets::Square, boxed(alloc, field)?))
 }
@@ -55,7 +56,7 @@ pub(crate) fn solo(alloc: Global, field: Schema) -> Result<Schema, Refused>
 #[tactic(auto, using(crate::specs::NameLaws::tuple_named))]
 pub(crate) fn tuple(alloc: Global, first: Schema, others: Schema) -> Result<Schema, Refused>
     ensures err { IfErr result (λ e. e.mistake ≡ Memory) }
-    ensures ok { IfOk result (λ s. (lists : Bounds) (t u : List ℕ) → Names lists a_type t first → Names lists other_types u others → Names lists a_type (codes "(" ++ (with_comma t u ++ codes ")")) s) }
+    ensures ok { IfOk result (λ s. (lists : Bounds) (t u : List (List ℕ)) → Names lists a_type t first → Names lists other_types u others → Names lists a_type (marks (codes "(") ++ (with_comma t u ++ marks (codes ")"))) s) }
 {
     let first = boxed(alloc, first)?;
     let others = boxed(alloc, others)?;
@@ -66,7 +67,7 @@ pub(crate) fn tuple(alloc: Global, first: Schema, others: Schema) -> Result<Sche
 #[tactic(auto, using(crate::specs::NameLaws::beside_named))]
 pub(crate) fn beside(alloc: Global, field: Schema, later: Schema) -> Result<Schema, Refused>
     ensures err { IfErr result (λ e. e.mistake ≡ Memory) }
-    ensures ok { IfOk result (λ s. (lists : Bounds) (t u : List ℕ) → Names lists a_type t field → Names lists other_types u later → Names lists other_types (with_comma t u) s) }
+    ensures ok { IfOk result (λ s. (lists : Bounds) (t u : List (List ℕ)) → Names lists a_type t field → Names lists other_types u later → Names lists other_types (with_comma t u) s) }
 {
     let field = boxed(alloc, field)?;
     let later = boxed(alloc, later)?;
@@ -77,7 +78,8 @@ pub(crate) fn beside(alloc: Global, field: Schema, later: Schema) -> Result<Sche
 #[tactic(auto, using(crate::specs::NameLaws::labelled_named))]
 pub(crate) fn labelled(alloc: Global, name: &[u8], field: Schema) -> Result<Schema, Refused>
     ensures err { IfErr result (λ e. e.mistake ≡ Memory) }
-    ensures ok { IfOk result (λ s. (lists : Bounds) (t : List ℕ) → is_name name.now ≡ true → Names lists a_type t field → Names lists a_field (name.now ++ (codes ":" ++ t)) s) }
+    ensures ok { IfOk result (λ s. (lists : Bounds) (t : List (List ℕ)) → is_name name.now ≡ true → Names lists a_type t field → Names lists a_field (name.now ∷ (marks (codes ":") ++ t)) s) }
+    ensures holds { IfOk result (λ s. (n : List ℕ) → Holds s n → name.now ≡ n) }
 {
     let Ok(name) = Vec::from_slice(alloc, name) else {
         return Err(unallocated());
@@ -89,7 +91,8 @@ pub(crate) fn labelled(alloc: Global, name: &[u8], field: Schema) -> Result<Sche
 #[tactic(auto, using(crate::specs::NameLaws::fields_named))]
 pub(crate) fn beside_named(alloc: Global, field: Schema, later: Schema) -> Result<Schema, Refused>
     ensures err { IfErr result (λ e. e.mistake ≡ Memory) }
-    ensures ok { IfOk result (λ s. (lists : Bounds) (t u : List ℕ) → Names lists a_field t field → Names lists all_fields u later → AreApart field later → Names lists all_fields (with_comma t u) s) }
+    ensures ok { IfOk result (λ s. (lists : Bounds) (t u : List (List ℕ)) → Names lists a_field t field → Names lists all_fields u later → AreApart field later → Names lists all_fields (with_comma t u) s) }
+    ensures holds { IfOk result (λ s. (n : List ℕ) → Holds s n → Holds field n ⊎ Holds later n) }
 {
     let field = boxed(alloc, field)?;
     let later = boxed(alloc, later)?;
@@ -117,7 +120,7 @@ pub(crate) fn gathered(
 #[tactic(auto, using(crate::specs::CaseNameLaws::sum_named))]
 pub(crate) fn sum(alloc: Global, cases: Schema) -> Result<Schema, Refused>
     ensures err { IfErr result (λ e. e.mistake ≡ Memory) }
-    ensures ok { IfOk result (λ s. (lists : Bounds) (n t : List ℕ) (c : Bool) → is_name n ≡ true → Names lists all_cases t cases → Names lists a_type (codes "enum" ++ (n ++ (codes "{" ++ (t ++ (last_comma c ++ codes "}"))))) s) }
+    ensures ok { IfOk result (λ s. (lists : Bounds) (n : List ℕ) (t : List (List ℕ)) (c : Bool) → is_name n ≡ true → Names lists all_cases t cases → Names lists a_type (codes "enum" ∷ (n ∷ (marks (codes "{") ++ (t ++ (last_comma c ++ marks (codes "}")))))) s) }
 {
     Ok(Schema::Sum(boxed(alloc, cases)?))
 }
@@ -126,7 +129,8 @@ pub(crate) fn sum(alloc: Global, cases: Schema) -> Result<Schema, Refused>
 #[tactic(auto, using(crate::specs::CaseNameLaws::cases_named))]
 pub(crate) fn beside_case(alloc: Global, case: Schema, later: Schema) -> Result<Schema, Refused>
     ensures err { IfErr result (λ e. e.mistake ≡ Memory) }
-    ensures ok { IfOk result (λ s. (lists : Bounds) (t u : List ℕ) → Names lists a_case t case → Names lists all_cases u later → AreApart case later → Names lists all_cases (with_comma t u) s) }
+    ensures ok { IfOk result (λ s. (lists : Bounds) (t u : List (List ℕ)) → Names lists a_case t case → Names lists all_cases u later → AreApart case later → Names lists all_cases (with_comma t u) s) }
+    ensures holds { IfOk result (λ s. (n : List ℕ) → Holds s n → Holds case n ⊎ Holds later n) }
 {
     let case = boxed(alloc, case)?;
     let later = boxed(alloc, later)?;
@@ -137,7 +141,8 @@ pub(crate) fn beside_case(alloc: Global, case: Schema, later: Schema) -> Result<
 #[tactic(auto, using(crate::specs::CaseNameLaws::named_named))]
 pub(crate) fn unvalued(alloc: Global, name: &[u8]) -> Result<Schema, Refused>
     ensures err { IfErr result (λ e. e.mistake ≡ Memory) }
-    ensures ok { IfOk result (λ s. (lists : Bounds) → is_name name.now ≡ true → Names lists a_case name.now s) }
+    ensures ok { IfOk result (λ s. (lists : Bounds) → is_name name.now ≡ true → Names lists a_case (name.now ∷ []) s) }
+    ensures holds { IfOk result (λ s. (n : List ℕ) → Holds s n → name.now ≡ n) }
 {
     match Vec::from_slice(alloc, name) {
         Ok(name) => Ok(Schema::Named(name)),
@@ -154,7 +159,8 @@ pub(crate) fn valued(
     value: Schema,
 ) -> Result<Schema, Refused>
     ensures err { IfErr result (λ e. e.mistake ≡ Memory) }
-    ensures ok { IfOk result (λ s. (lists : Bounds) (t : List ℕ) → is_name name.now ≡ true → Names lists (case_value brackets) t value → Names lists a_case (name.now ++ t) s) }
+    ensures ok { IfOk result (λ s. (lists : Bounds) (t : List (List ℕ)) → is_name name.now ≡ true → Names lists (case_value brackets) t value → Names lists a_case (name.now ∷ t) s) }
+    ensures holds { IfOk result (λ s. (n : List ℕ) → Holds s n → name.now ≡ n) }
 {
     let Ok(name) = Vec::from_slice(alloc, name) else {
         return Err(unallocated());
@@ -177,7 +183,7 @@ pub(crate) fn value_of(all: Schema, several: Brackets) -> Schema
 #[tactic(auto, using(crate::specs::ArrayLaws::array_named))]
 pub(crate) fn array(alloc: Global, items: usize, part: Schema) -> Result<Schema, Refused>
     ensures err { IfErr result (λ e. e.mistake ≡ Memory) }
-    ensures ok { IfOk result (λ s. (lists : Bounds) (t d : List ℕ) → Writes d items → Names lists a_type t part → Names lists a_type (array_text t d) s) }
+    ensures ok { IfOk result (λ s. (lists : Bounds) (t : List (List ℕ)) (d : List ℕ) → Writes d items → Names lists a_type t part → Names lists a_type (array_of t d) s) }
 {
     Ok(Schema::Array(items, boxed(alloc, part)?))
 }
@@ -186,7 +192,7 @@ pub(crate) fn array(alloc: Global, items: usize, part: Schema) -> Result<Schema,
 #[tactic(auto, using(crate::specs::RecalledLaws::recalled_named))]
 pub(crate) fn recalled(alloc: Global, part: Schema) -> Result<Schema, Refused>
     ensures err { IfErr result (λ e. e.mistake ≡ Memory) }
-    ensures ok { IfOk result (λ s. (lists : Bounds) (t w : List ℕ) → IsLimit w → Names lists a_type t part → Names lists a_type (inside (codes "Lookbacks") (t ++ w)) s) }
+    ensures ok { IfOk result (λ s. (lists : Bounds) (t w : List (List ℕ)) → IsLimit w → Names lists a_type t part → Names lists a_type (inside (codes "Lookbacks") (t ++ w)) s) }
 {
     Ok(Schema::Recalled(boxed(alloc, part)?))
 }

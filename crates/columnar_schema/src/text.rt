@@ -1,9 +1,9 @@
 //! Parser for the text of a type, such as `(u64, String, Option<u32>)`.
-ghost use Rattle.std.specs.Prelude.{◌≡◌, ◌≢◌, ◌≤◌, ◌+◌, ◌-◌, ◌∷◌, ◌++◌, Bool, List, ℕ, length, take, drop, codes, nat_eq, IfOk, IfErr, IfSome, IfNone, true, false};
-ghost use Rattle.std.specs.List.{list_all};
+ghost use Rattle.std.specs.Prelude.{◌≡◌, ◌≢◌, ◌≤◌, ◌∷◌, ◌++◌, Bool, List, [], ℕ, length, drop, codes, IfOk, IfErr, IfSome, IfNone, true};
 ghost use Rattle.columnar_schema.specs.declared.text.Head.{Head};
-ghost use Rattle.columnar_schema.specs.Names.{GoesOn, Names, Reads, a_field, a_type, all_fields, head_name, inside, is_blank, is_name, is_word_byte, last_comma, leaf_name, other_types, struct_body, unspaced, with_comma, a_case, all_cases};
-ghost use Rattle.columnar_schema.specs.Reading.{NamesNone, NestsWithin, Passes, ReadsArray, ReadsFields, ReadsNamed, ReadsPart, ReadsParts, ReadsRecalled, ReadsSolo, ReadsTexts, ReadsTuple, ReadsType, ReadsUnit, other_leaves, signed_leaves, unsigned_leaves, word_length};
+ghost use Rattle.columnar_schema.specs.Names.{GoesOn, Names, Reads, a_case, a_field, a_type, all_cases, all_fields, head_name, inside, is_name, last_comma, leaf_name, other_types, struct_body};
+ghost use Rattle.columnar_schema.specs.Reading.{NestsWithin, Passes, ReadsArray, ReadsBareValue, ReadsBody, ReadsCase, ReadsCases, ReadsEnum, ReadsField, ReadsFields, ReadsNamed, ReadsNamedFields, ReadsNamedValue, ReadsObject, ReadsPart, ReadsParts, ReadsPlaces, ReadsRecalled, ReadsSolo, ReadsStruct, ReadsTexts, ReadsTuple, ReadsType, ReadsUnit};
+ghost use Rattle.columnar_schema.specs.Tokens.{marks, tokens};
 ghost use Rattle.columnar_schema.specs.declared.schema.Bounds.{Bounds};
 ghost use Rattle.columnar_schema.specs.declared.schema.Leaf.TheVariants.{Text};
 ghost use Rattle.columnar_schema.specs.declared.schema.Schema.{Schema};
@@ -15,6 +15,7 @@ use crate::parts::{
     array, beside, beside_case, beside_named, boxed, fallible, gathered, labelled, recalled, solo,
     sum, tuple, unvalued, value_of, valued,
 };
+use crate::scan::{after, after_blanks, name_at, past, stands_at, word_at};
 use crate::schema::{Bounds, Brackets, Leaf, Schema};
 use crate::words::leaf_of;
 use std::alloc::Global;
@@ -52,105 +53,6 @@ pub struct Refused {
     pub mistake: Mistake,
 }
 
-fn blank(byte: u8) -> bool
-    ensures { result ≡ is_blank byte }
-{
-    byte == b' ' || byte == b'\t' || byte == b'\n' || byte == b'\r'
-}
-
-// Returns the position after blanks.
-#[tactic(auto, using(crate::specs::ReadingLaws::blank_elsewhere, crate::specs::NameLaws::blank_passed))]
-pub(crate) fn after_blanks(text: &[u8], at: usize) -> usize
-    requires { at ≤ length text.now }
-    ensures within { result ≤ length text.now }
-    ensures from { at ≤ result }
-    ensures here { (n : ℕ) (x : List ℕ) → drop at text.now ≡ n ∷ x → is_blank n ≡ false → result ≡ at }
-    ensures same { unspaced (drop at text.now) ≡ unspaced (drop result text.now) }
-{
-    for i in at..text.len() {
-        if !blank(text[i]) {
-            return i;
-        }
-    }
-    text.len()
-}
-
-// Returns the position after this byte, which must follow the blanks.
-#[tactic(auto, using(crate::specs::ReadingLaws::first_byte, crate::specs::ReadingLaws::after_first, crate::specs::ReadingLaws::begins_within))]
-pub(crate) fn after(text: &[u8], at: usize, wanted: u8) -> Result<usize, Refused>
-    requires within { at ≤ length text.now }
-    requires shows { is_blank wanted ≡ false }
-    ensures within { IfOk result (λ n. n ≤ length text.now) }
-    ensures stands { IfOk result (λ n. unspaced (drop at text.now) ≡ wanted ∷ unspaced (drop n text.now)) }
-    ensures passes { (x : List ℕ) → drop at text.now ≡ wanted ∷ x → Passes result text.now x }
-{
-    let at = after_blanks(text, at);
-    if at < text.len() && text[at] == wanted {
-        Ok(at + 1)
-    } else {
-        Err(Refused {
-            at,
-            mistake: Mistake::Wanted(wanted),
-        })
-    }
-}
-
-// Tests whether this byte follows the blanks.
-#[tactic(auto, using(crate::specs::ReadingLaws::first_byte, crate::specs::ReadingLaws::begins_within))]
-pub(crate) fn stands_at(text: &[u8], at: usize, wanted: u8) -> bool
-    requires { at ≤ length text.now }
-    ensures { (n : ℕ) (x : List ℕ) → drop at text.now ≡ n ∷ x → is_blank n ≡ false → result ≡ nat_eq n wanted }
-{
-    let at = after_blanks(text, at);
-    at < text.len() && text[at] == wanted
-}
-
-fn is_of_name(byte: u8) -> bool
-    ensures value { result ≡ is_word_byte byte }
-    ensures shows { result ≡ true → is_blank byte ≡ false }
-{
-    (byte.is_ascii_alphanumeric() || byte == b'_') && !blank(byte)
-}
-
-// Returns the end of the word that starts at the position.
-#[tactic(auto, using(crate::specs::NameLaws::word_more, crate::specs::NameLaws::word_grows, crate::specs::ReadingLaws::word_goes_on, crate::specs::ReadingLaws::word_ends, crate::specs::ReadingLaws::word_ends_last))]
-pub(crate) fn word_end(text: &[u8], at: usize) -> usize
-    requires { at ≤ length text.now }
-    ensures from { at ≤ result }
-    ensures within { result ≤ length text.now }
-    ensures ends { result ≡ at + word_length (drop at text.now) }
-    ensures stands { unspaced (drop at text.now) ≡ take (result - at) (drop at text.now) ++ unspaced (drop result text.now) }
-    ensures word { list_all is_word_byte (take (result - at) (drop at text.now)) ≡ true }
-{
-    for i in at..text.len() {
-        if !is_of_name(text[i]) {
-            return i;
-        }
-    }
-    text.len()
-}
-
-// Returns where the name begins that follows the blanks, and where it ends.
-#[tactic(auto, using(crate::specs::NameLaws::name_scanned))]
-fn name_at(text: &[u8], at: usize) -> Result<(usize, usize), Refused>
-    requires { at ≤ length text.now }
-    ensures ordered { IfOk result (λ p. p.0 ≤ p.1) }
-    ensures within { IfOk result (λ p. p.1 ≤ length text.now) }
-    ensures name { IfOk result (λ p. is_name (take (p.1 - p.0) (drop p.0 text.now)) ≡ true) }
-    ensures stands { IfOk result (λ p. unspaced (drop at text.now) ≡ take (p.1 - p.0) (drop p.0 text.now) ++ unspaced (drop p.1 text.now)) }
-{
-    let start = after_blanks(text, at);
-    let end = word_end(text, start);
-    if start == end || text[start].is_ascii_digit() {
-        Err(Refused {
-            at: start,
-            mistake: Mistake::Name,
-        })
-    } else {
-        Ok((start, end))
-    }
-}
-
 // Returns the refusal of the name that follows the blanks, which stands again later.
 fn twice(text: &[u8], at: usize) -> Refused
     requires { at ≤ length text.now }
@@ -166,12 +68,12 @@ fn twice(text: &[u8], at: usize) -> Refused
 fn after_fields(text: &[u8], at: usize) -> Result<usize, Refused>
     requires { at ≤ length text.now }
     ensures within { IfOk result (λ n. n ≤ length text.now) }
-    ensures stands { IfOk result (λ n. (c : Bool) × (unspaced (drop at text.now) ≡ last_comma c ++ (125 ∷ unspaced (drop n text.now)))) }
+    ensures stands { IfOk result (λ n. (c : Bool) × (tokens (drop at text.now) ≡ last_comma c ++ ((125 ∷ []) ∷ tokens (drop n text.now)))) }
+    ensures passes { (c : Bool) (rest : List (List ℕ)) → tokens (drop at text.now) ≡ last_comma c ++ ((125 ∷ []) ∷ rest) → Passes result text.now rest }
 {
-    if stands_at(text, at, b',') {
-        after(text, after(text, at, b',')?, b'}')
-    } else {
-        after(text, at, b'}')
+    match past(text, at, b',') {
+        Some(next) => after(text, next, b'}'),
+        None => after(text, at, b'}'),
     }
 }
 
@@ -211,7 +113,7 @@ fn head_of(word: &[u8]) -> Option<Head>
 
 // Returns the bounds of texts with this name.
 fn text_bounds(word: &[u8]) -> Option<Bounds>
-    ensures some { IfSome result (λ b. inside (codes "Strings") word.now ≡ leaf_name (Text b)) }
+    ensures some { IfSome result (λ b. inside (codes "Strings") (word.now ∷ []) ≡ tokens (leaf_name (Text b))) }
     ensures none { IfNone result ((word.now ≢ codes "Strides") × (word.now ≢ codes "Unaries")) }
 {
     if word == b"Strides".as_slice() {
@@ -227,15 +129,14 @@ fn text_bounds(word: &[u8]) -> Option<Bounds>
 #[tactic(auto, using(crate::specs::NameLaws::texts_go_on))]
 fn texts_at(text: &[u8], at: usize) -> Result<(Schema, usize), Refused>
     requires { at ≤ length text.now }
-    ensures names { IfOk result (λ p. (lists : Bounds) → GoesOn lists a_type (codes "Strings") text.now at p.0 p.1) }
-    ensures whole { ReadsTexts text.now (drop at text.now) result }
+    ensures names { IfOk result (λ p. (lists : Bounds) → GoesOn lists a_type (codes "Strings" ∷ []) text.now at p.0 p.1) }
+    ensures whole { ReadsTexts text.now (tokens (drop at text.now)) result }
 {
     let next = after(text, at, b'<')?;
-    let next = after_blanks(text, next);
-    let end = word_end(text, next);
-    let Some(bounds) = text_bounds(&text[next..end]) else {
+    let (start, end) = word_at(text, next)?;
+    let Some(bounds) = text_bounds(&text[start..end]) else {
         return Err(Refused {
-            at: next,
+            at: start,
             mistake: Mistake::Name,
         });
     };
@@ -247,7 +148,7 @@ fn texts_at(text: &[u8], at: usize) -> Result<(Schema, usize), Refused>
 #[tactic(auto, using(crate::specs::NameLaws::boxed_named, crate::specs::NameLaws::optional_named, crate::specs::NameLaws::listed_named, crate::specs::NameLaws::numbered_named, crate::specs::NameLaws::repeated_named))]
 fn wrap(alloc: Global, head: Head, lists: Bounds, part: Schema) -> Result<Schema, Refused>
     ensures err { IfErr result (λ e. e.mistake ≡ Memory) }
-    ensures ok { IfOk result (λ s. (t : List ℕ) → Names lists a_type t part → Names lists a_type (inside (head_name head) t) s) }
+    ensures ok { IfOk result (λ s. (t : List (List ℕ)) → Names lists a_type t part → Names lists a_type (inside (head_name head) t) s) }
 {
     match head {
         Head::Boxed => Ok(part),
@@ -269,8 +170,8 @@ fn one_part(
     depth: usize,
 ) -> Result<(Schema, usize), Refused>
     requires { at ≤ length text.now }
-    ensures names { IfOk result (λ p. GoesOn lists a_type (head_name head) text.now at p.0 p.1) }
-    ensures whole { ReadsPart lists depth text.now (drop at text.now) result }
+    ensures names { IfOk result (λ p. GoesOn lists a_type (head_name head ∷ []) text.now at p.0 p.1) }
+    ensures whole { ReadsPart lists depth text.now (tokens (drop at text.now)) result }
 {
     let next = after(text, at, b'<')?;
     let (part, next) = type_at(alloc, text, next, lists, depth)?;
@@ -290,8 +191,8 @@ fn two_parts(
     depth: usize,
 ) -> Result<(Schema, usize), Refused>
     requires { at ≤ length text.now }
-    ensures names { IfOk result (λ p. GoesOn lists a_type (codes "Result") text.now at p.0 p.1) }
-    ensures whole { ReadsParts lists depth text.now (drop at text.now) result }
+    ensures names { IfOk result (λ p. GoesOn lists a_type (codes "Result" ∷ []) text.now at p.0 p.1) }
+    ensures whole { ReadsParts lists depth text.now (tokens (drop at text.now)) result }
 {
     let next = after(text, at, b'<')?;
     let (values, next) = type_at(alloc, text, next, lists, depth)?;
@@ -316,7 +217,7 @@ fn fields_at(
     requires within { at ≤ length text.now }
     requires most { most ≤ 100 }
     ensures names { IfOk result (λ p. Reads lists other_types text.now at p.0 p.1) }
-    ensures whole { ReadsFields lists depth most text.now (drop at text.now) result }
+    ensures whole { ReadsFields lists depth most text.now (tokens (drop at text.now)) result }
 {
     if most == 0 {
         return Err(Refused {
@@ -325,10 +226,9 @@ fn fields_at(
         });
     }
     let (field, next) = type_at(alloc, text, at, lists, depth)?;
-    if !stands_at(text, next, b',') {
+    let Some(next) = past(text, next, b',') else {
         return Ok((field, next));
-    }
-    let next = after(text, next, b',')?;
+    };
     let (later, next) = fields_at(alloc, text, next, lists, depth, most - 1)?;
     let schema = beside(alloc, field, later)?;
     Ok((schema, next))
@@ -345,19 +245,17 @@ fn tuple_at(
     depth: usize,
 ) -> Result<(Schema, usize), Refused>
     requires { at ≤ length text.now }
-    ensures names { IfOk result (λ p. GoesOn lists a_type (codes "(") text.now at p.0 p.1) }
-    ensures unit { ReadsUnit text.now (drop at text.now) result }
-    ensures solo { ReadsSolo lists depth text.now (drop at text.now) result }
-    ensures whole { ReadsTuple lists depth text.now (drop at text.now) result }
+    ensures names { IfOk result (λ p. GoesOn lists a_type (marks (codes "(")) text.now at p.0 p.1) }
+    ensures unit { ReadsUnit text.now (tokens (drop at text.now)) result }
+    ensures solo { ReadsSolo lists depth text.now (tokens (drop at text.now)) result }
+    ensures whole { ReadsTuple lists depth text.now (tokens (drop at text.now)) result }
 {
-    if stands_at(text, at, b')') {
-        let next = after(text, at, b')')?;
+    if let Some(next) = past(text, at, b')') {
         return Ok((Schema::Simple(Leaf::Unit), next));
     }
     let (first, next) = type_at(alloc, text, at, lists, depth)?;
     let next = after(text, next, b',')?;
-    if stands_at(text, next, b')') {
-        let next = after(text, next, b')')?;
+    if let Some(next) = past(text, next, b')') {
         let schema = solo(alloc, first)?;
         return Ok((schema, next));
     }
@@ -378,7 +276,8 @@ fn field_at(
     depth: usize,
 ) -> Result<(Schema, usize), Refused>
     requires { at ≤ length text.now }
-    ensures { IfOk result (λ p. Reads lists a_field text.now at p.0 p.1) }
+    ensures names { IfOk result (λ p. Reads lists a_field text.now at p.0 p.1) }
+    ensures whole { ReadsField lists depth text.now (tokens (drop at text.now)) result }
 {
     let (start, end) = name_at(text, at)?;
     let next = after(text, end, b':')?;
@@ -400,7 +299,8 @@ fn named_fields_at(
 ) -> Result<(Schema, usize), Refused>
     requires within { at ≤ length text.now }
     requires most { most ≤ 100 }
-    ensures { IfOk result (λ p. Reads lists all_fields text.now at p.0 p.1) }
+    ensures names { IfOk result (λ p. Reads lists all_fields text.now at p.0 p.1) }
+    ensures whole { ReadsNamedFields lists depth most text.now (tokens (drop at text.now)) result }
 {
     if most == 0 {
         return Err(Refused {
@@ -409,10 +309,9 @@ fn named_fields_at(
         });
     }
     let (field, next) = field_at(alloc, text, at, lists, depth)?;
-    if !stands_at(text, next, b',') {
+    let Some(more) = past(text, next, b',') else {
         return Ok((field, next));
-    }
-    let more = after(text, next, b',')?;
+    };
     if stands_at(text, more, b'}') {
         return Ok((field, next));
     }
@@ -434,7 +333,8 @@ fn object_at(
     depth: usize,
 ) -> Result<(Schema, usize), Refused>
     requires { at ≤ length text.now }
-    ensures { IfOk result (λ p. GoesOn lists struct_body (codes "{") text.now at p.0 p.1) }
+    ensures names { IfOk result (λ p. GoesOn lists struct_body (marks (codes "{")) text.now at p.0 p.1) }
+    ensures whole { ReadsObject lists depth text.now (tokens (drop at text.now)) result }
 {
     let (all, next) = named_fields_at(alloc, text, at, lists, depth, 100)?;
     let next = after_fields(text, next)?;
@@ -452,7 +352,8 @@ fn places_at(
     depth: usize,
 ) -> Result<(Schema, usize), Refused>
     requires { at ≤ length text.now }
-    ensures { IfOk result (λ p. GoesOn lists struct_body (codes "(") text.now at p.0 p.1) }
+    ensures names { IfOk result (λ p. GoesOn lists struct_body (marks (codes "(")) text.now at p.0 p.1) }
+    ensures whole { ReadsPlaces lists depth text.now (tokens (drop at text.now)) result }
 {
     let (all, next) = fields_at(alloc, text, at, lists, depth, 10)?;
     let next = after(text, next, b')')?;
@@ -472,14 +373,13 @@ fn body_at(
     depth: usize,
 ) -> Result<(Schema, usize), Refused>
     requires { at ≤ length text.now }
-    ensures { IfOk result (λ p. Reads lists struct_body text.now at p.0 p.1) }
+    ensures names { IfOk result (λ p. Reads lists struct_body text.now at p.0 p.1) }
+    ensures whole { ReadsBody lists depth text.now (tokens (drop at text.now)) result }
 {
-    if stands_at(text, at, b'{') {
-        let next = after(text, at, b'{')?;
+    if let Some(next) = past(text, at, b'{') {
         return object_at(alloc, text, next, lists, depth);
     }
-    if stands_at(text, at, b'(') {
-        let next = after(text, at, b'(')?;
+    if let Some(next) = past(text, at, b'(') {
         return places_at(alloc, text, next, lists, depth);
     }
     let next = after(text, at, b';')?;
@@ -497,7 +397,8 @@ fn struct_at(
     depth: usize,
 ) -> Result<(Schema, usize), Refused>
     requires { at ≤ length text.now }
-    ensures { IfOk result (λ p. GoesOn lists a_type (codes "struct") text.now at p.0 p.1) }
+    ensures names { IfOk result (λ p. GoesOn lists a_type (codes "struct" ∷ []) text.now at p.0 p.1) }
+    ensures whole { ReadsStruct lists depth text.now (tokens (drop at text.now)) result }
 {
     let (_start, end) = name_at(text, at)?;
     body_at(alloc, text, end, lists, depth)
@@ -515,7 +416,8 @@ fn bare_value_at(
 ) -> Result<(Schema, usize), Refused>
     requires within { at ≤ length text.now }
     requires name { is_name name.now ≡ true }
-    ensures { IfOk result (λ p. GoesOn lists a_case (name.now ++ codes "(") text.now at p.0 p.1) }
+    ensures names { IfOk result (λ p. GoesOn lists a_case (name.now ∷ marks (codes "(")) text.now at p.0 p.1) }
+    ensures whole { ReadsBareValue lists depth text.now name.now (tokens (drop at text.now)) result }
 {
     let (all, next) = fields_at(alloc, text, at, lists, depth, 10)?;
     let next = after(text, next, b')')?;
@@ -536,7 +438,8 @@ fn named_value_at(
 ) -> Result<(Schema, usize), Refused>
     requires within { at ≤ length text.now }
     requires name { is_name name.now ≡ true }
-    ensures { IfOk result (λ p. GoesOn lists a_case (name.now ++ codes "{") text.now at p.0 p.1) }
+    ensures names { IfOk result (λ p. GoesOn lists a_case (name.now ∷ marks (codes "{")) text.now at p.0 p.1) }
+    ensures whole { ReadsNamedValue lists depth text.now name.now (tokens (drop at text.now)) result }
 {
     let (all, next) = named_fields_at(alloc, text, at, lists, depth, 10)?;
     let next = after_fields(text, next)?;
@@ -556,16 +459,15 @@ fn case_at(
     depth: usize,
 ) -> Result<(Schema, usize), Refused>
     requires { at ≤ length text.now }
-    ensures { IfOk result (λ p. Reads lists a_case text.now at p.0 p.1) }
+    ensures names { IfOk result (λ p. Reads lists a_case text.now at p.0 p.1) }
+    ensures whole { ReadsCase lists depth text.now (tokens (drop at text.now)) result }
 {
     let (start, end) = name_at(text, at)?;
     let name = &text[start..end];
-    if stands_at(text, end, b'(') {
-        let next = after(text, end, b'(')?;
+    if let Some(next) = past(text, end, b'(') {
         return bare_value_at(alloc, text, name, next, lists, depth);
     }
-    if stands_at(text, end, b'{') {
-        let next = after(text, end, b'{')?;
+    if let Some(next) = past(text, end, b'{') {
         return named_value_at(alloc, text, name, next, lists, depth);
     }
     Ok((unvalued(alloc, name)?, end))
@@ -584,7 +486,8 @@ fn cases_at(
 ) -> Result<(Schema, usize), Refused>
     requires within { at ≤ length text.now }
     requires most { most ≤ 256 }
-    ensures { IfOk result (λ p. Reads lists all_cases text.now at p.0 p.1) }
+    ensures names { IfOk result (λ p. Reads lists all_cases text.now at p.0 p.1) }
+    ensures whole { ReadsCases lists depth most text.now (tokens (drop at text.now)) result }
 {
     if most == 0 {
         return Err(Refused {
@@ -593,10 +496,9 @@ fn cases_at(
         });
     }
     let (case, next) = case_at(alloc, text, at, lists, depth)?;
-    if !stands_at(text, next, b',') {
+    let Some(more) = past(text, next, b',') else {
         return Ok((case, next));
-    }
-    let more = after(text, next, b',')?;
+    };
     if stands_at(text, more, b'}') {
         return Ok((case, next));
     }
@@ -619,7 +521,8 @@ fn enum_at(
     depth: usize,
 ) -> Result<(Schema, usize), Refused>
     requires { at ≤ length text.now }
-    ensures { IfOk result (λ p. GoesOn lists a_type (codes "enum") text.now at p.0 p.1) }
+    ensures names { IfOk result (λ p. GoesOn lists a_type (codes "enum" ∷ []) text.now at p.0 p.1) }
+    ensures whole { ReadsEnum lists depth text.now (tokens (drop at text.now)) result }
 {
     let (_start, end) = name_at(text, at)?;
     let next = after(text, end, b'{')?;
@@ -639,8 +542,8 @@ fn array_at(
     depth: usize,
 ) -> Result<(Schema, usize), Refused>
     requires { at ≤ length text.now }
-    ensures names { IfOk result (λ p. GoesOn lists a_type (codes "[") text.now at p.0 p.1) }
-    ensures whole { ReadsArray lists depth text.now (drop at text.now) result }
+    ensures names { IfOk result (λ p. GoesOn lists a_type (marks (codes "[")) text.now at p.0 p.1) }
+    ensures whole { ReadsArray lists depth text.now (tokens (drop at text.now)) result }
 {
     let (part, next) = type_at(alloc, text, at, lists, depth)?;
     let next = after(text, next, b';')?;
@@ -660,8 +563,8 @@ fn lookbacks_at(
     depth: usize,
 ) -> Result<(Schema, usize), Refused>
     requires { at ≤ length text.now }
-    ensures names { IfOk result (λ p. GoesOn lists a_type (codes "Lookbacks") text.now at p.0 p.1) }
-    ensures whole { ReadsRecalled lists depth text.now (drop at text.now) result }
+    ensures names { IfOk result (λ p. GoesOn lists a_type (codes "Lookbacks" ∷ []) text.now at p.0 p.1) }
+    ensures whole { ReadsRecalled lists depth text.now (tokens (drop at text.now)) result }
 {
     let next = after(text, at, b'<')?;
     let (part, next) = type_at(alloc, text, next, lists, depth)?;
@@ -683,8 +586,8 @@ fn named(
     depth: usize,
 ) -> Result<(Schema, usize), Refused>
     requires { at ≤ length text.now }
-    ensures names { IfOk result (λ p. GoesOn lists a_type word.now text.now at p.0 p.1) }
-    ensures whole { ReadsNamed lists depth text.now word.now (drop at text.now) result }
+    ensures names { IfOk result (λ p. GoesOn lists a_type (word.now ∷ []) text.now at p.0 p.1) }
+    ensures whole { ReadsNamed lists depth text.now word.now (tokens (drop at text.now)) result }
 {
     if let Some(leaf) = leaf_of(word) {
         return Ok((Schema::Simple(leaf), at));
@@ -724,7 +627,7 @@ fn type_at(
 ) -> Result<(Schema, usize), Refused>
     requires { at ≤ length text.now }
     ensures names { IfOk result (λ p. Reads lists a_type text.now at p.0 p.1) }
-    ensures whole { ReadsType lists depth text.now (drop at text.now) result }
+    ensures whole { ReadsType lists depth text.now (tokens (drop at text.now)) result }
 {
     let at = after_blanks(text, at);
     if depth == 0 {
@@ -733,16 +636,14 @@ fn type_at(
             mistake: Mistake::Deep,
         });
     }
-    if stands_at(text, at, b'(') {
-        let next = after(text, at, b'(')?;
+    if let Some(next) = past(text, at, b'(') {
         return tuple_at(alloc, text, next, lists, depth - 1);
     }
-    if stands_at(text, at, b'[') {
-        let next = after(text, at, b'[')?;
+    if let Some(next) = past(text, at, b'[') {
         return array_at(alloc, text, next, lists, depth - 1);
     }
-    let end = word_end(text, at);
-    named(alloc, text, &text[at..end], end, lists, depth - 1)
+    let (start, end) = word_at(text, at)?;
+    named(alloc, text, &text[start..end], end, lists, depth - 1)
 }
 
 /// Parses a type. Blanks may separate its words. `lists` chooses the bounds of `Vec<T>`: `Bounds::Unaries` is this
@@ -751,8 +652,8 @@ fn type_at(
 /// # Errors
 /// The first mistake and its position.
 pub fn parse(alloc: Global, text: &[u8], lists: Bounds) -> Result<Schema, Refused>
-    ensures names { IfOk result (λ s. Names lists a_type (unspaced text.now) s) }
-    ensures whole { (s : Schema) (n : Names lists a_type text.now s) → NestsWithin 64 n → IfErr result (λ e. e.mistake ≡ Memory) }
+    ensures names { IfOk result (λ s. Names lists a_type (tokens text.now) s) }
+    ensures whole { (s : Schema) (n : Names lists a_type (tokens text.now) s) → NestsWithin 64 n → IfErr result (λ e. e.mistake ≡ Memory) }
 {
     let (schema, next) = type_at(alloc, text, 0, lists, DEPTH)?;
     let next = after_blanks(text, next);

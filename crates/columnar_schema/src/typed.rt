@@ -3,8 +3,9 @@ ghost use Rattle.std.specs.Prelude.{◌≡◌, ◌+◌, ◌^◌, ◌<◌, ◌≤
 ghost use Rattle.columnar_core.specs.Frame.{framed_slices};
 ghost use Rattle.columnar_bytes.specs.Accepted.{Accepts, IsFirstFault};
 ghost use Rattle.columnar_schema.specs.Formats.{format_of};
-ghost use Rattle.columnar_schema.specs.Names.{Names, a_type, unspaced};
+ghost use Rattle.columnar_schema.specs.Names.{Names, a_type};
 ghost use Rattle.columnar_schema.specs.Reading.{NestsWithin};
+ghost use Rattle.columnar_schema.specs.Tokens.{tokens};
 ghost use Rattle.columnar_schema.specs.declared.schema.Schema.{Schema};
 ghost use Rattle.columnar_schema.specs.declared.text.Mistake.TheVariants.{Memory};
 
@@ -71,18 +72,18 @@ impl Type {
         }
     }
 
-    /// Parses a type. `lists` chooses the bounds of `Vec<T>`. Every text without blanks that names a type is read, if
-    /// its types nest at most 64 deep, its tuples have at most ten fields, its arrays at most 2^64 - 1 items, and it has
-    /// no struct or enum. A struct has the columns of the tuple of its fields, an enum a column for the values of each
-    /// variant.
+    /// Parses a type. `lists` chooses the bounds of `Vec<T>`. Every text that names a type is read, if its types nest at
+    /// most 64 deep (an enum counts as four), its tuples and variants have at most ten fields, its structs ten, or a
+    /// hundred with names, its enums at most 256 variants, and its arrays at most 2^64 - 1 items. A struct has the columns
+    /// of the tuple of its fields, an enum a column for the values of each variant.
     ///
     /// # Errors
     /// The first mistake and its position. A type of more than 2^60 slices is `Deep`, at the end of the text; its text
     /// has more than 2^58 bytes.
     #[tactic(auto, using(crate::specs::SliceLaws::text_longer))]
     pub fn parse(alloc: Global, text: &[u8], lists: Bounds) -> Result<Type, Refused>
-        ensures names { IfOk result (λ t. Names lists a_type (unspaced text.now) t.schema) }
-        ensures whole { (s : Schema) (n : Names lists a_type text.now s) → NestsWithin 64 n → length text.now ≤ 2 ^ 58 → IfErr result (λ e. e.mistake ≡ Memory) }
+        ensures names { IfOk result (λ t. Names lists a_type (tokens text.now) t.schema) }
+        ensures whole { (s : Schema) (n : Names lists a_type (tokens text.now) s) → NestsWithin 64 n → length text.now ≤ 2 ^ 58 → IfErr result (λ e. e.mistake ≡ Memory) }
     {
         match Type::new(parse(alloc, text, lists)?) {
             Ok(it) => Ok(it),

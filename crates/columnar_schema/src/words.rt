@@ -1,6 +1,7 @@
 //! Names of types without parts.
-ghost use Rattle.std.specs.Prelude.{◌≡◌, IfSome, IfNone};
+ghost use Rattle.std.specs.Prelude.{◌≡◌, ◌∷◌, [], IfSome, IfNone};
 ghost use Rattle.columnar_schema.specs.Names.{leaf_name};
+ghost use Rattle.columnar_schema.specs.Tokens.{tokens};
 ghost use Rattle.columnar_schema.specs.Reading.{NamesNone, other_leaves, signed_leaves, unsigned_leaves};
 
 use crate::schema::{Bounds, Leaf};
@@ -8,6 +9,7 @@ use crate::schema::{Bounds, Leaf};
 // Returns the unsigned number type with this name.
 fn unsigned(word: &[u8]) -> Option<Leaf>
     ensures some { IfSome result (λ l. word.now ≡ leaf_name l) }
+    ensures token { IfSome result (λ l. tokens (leaf_name l) ≡ leaf_name l ∷ []) }
     ensures none { IfNone result (NamesNone word.now unsigned_leaves) }
 {
     if word == b"u8".as_slice() {
@@ -30,6 +32,7 @@ fn unsigned(word: &[u8]) -> Option<Leaf>
 // Returns the signed number type with this name.
 fn signed(word: &[u8]) -> Option<Leaf>
     ensures some { IfSome result (λ l. word.now ≡ leaf_name l) }
+    ensures token { IfSome result (λ l. tokens (leaf_name l) ≡ leaf_name l ∷ []) }
     ensures none { IfNone result (NamesNone word.now signed_leaves) }
 {
     if word == b"i8".as_slice() {
@@ -52,6 +55,7 @@ fn signed(word: &[u8]) -> Option<Leaf>
 // Returns the other type without parts with this name.
 fn other(word: &[u8]) -> Option<Leaf>
     ensures some { IfSome result (λ l. word.now ≡ leaf_name l) }
+    ensures token { IfSome result (λ l. tokens (leaf_name l) ≡ leaf_name l ∷ []) }
     ensures none { IfNone result (NamesNone word.now other_leaves) }
 {
     if word == b"f32".as_slice() {
@@ -74,6 +78,7 @@ fn other(word: &[u8]) -> Option<Leaf>
 /// Returns the type without parts with this name.
 pub(crate) fn leaf_of(word: &[u8]) -> Option<Leaf>
     ensures some { IfSome result (λ l. word.now ≡ leaf_name l) }
+    ensures token { IfSome result (λ l. tokens (leaf_name l) ≡ leaf_name l ∷ []) }
     ensures none { IfNone result (NamesNone word.now unsigned_leaves × (NamesNone word.now signed_leaves × NamesNone word.now other_leaves)) }
 {
     match unsigned(word) {

@@ -5,11 +5,13 @@ ghost use Rattle.std.specs.Int.{to_le_bytes, w8};
 ghost use Rattle.columnar_base.specs.Row.{Row};
 ghost use Rattle.columnar_base.specs.Format.{both, IsSound};
 ghost use Rattle.columnar_base.specs.Change.{Copied, Refused};
+ghost use Rattle.columnar_base.specs.Room.{WasFull, Leaves};
 ghost use Rattle.columnar_base.specs.Elements.{elements, bytes_format};
 ghost use Rattle.columnar_base.specs.Texts.{text_bytes, text_row};
 ghost use Rattle.columnar_base.specs.TwoPartsLaws.{two_counted};
 ghost use Rattle.columnar_lists.specs.Lists.{lists_format};
 ghost use Rattle.columnar_lists.specs.ListLaws.{same_lists, lists_lawful, lists_storable};
+ghost use Rattle.columnar_lists.specs.Rooms.{lists_room};
 ghost use Rattle.columnar_strings.specs.Strings.{strings_format};
 
 mod earlier;
@@ -27,7 +29,7 @@ use columnar_core::bytes::{AsBytes, Check, FromBytes, Stored};
 use columnar_core::container::{
     Borrow, Container, ContainerBytes, ExtendFrom, Named, Reborrow, Reserve, Storage, Truncate,
 };
-use columnar_core::offsets::{ExtendShifted, Offsets, PushAfter, StoredOffsets};
+use columnar_core::offsets::{ExtendShifted, Offsets, PushAfter, ReserveOffsets, StoredOffsets};
 use columnar_core::store::DecodedStore;
 use columnar_core::two::{byte_slice_of_two, slice_of_two};
 use columnar_core::vector::elements_between;
@@ -55,6 +57,8 @@ impl<BC: Column, VC: Column> Column for Strings<BC, VC> {
     ghost format = { lists_format BC.format VC.format };
 
     ghost content = { λ s. both (BC.content s.bounds) (VC.content s.values) };
+
+    ghost room = { λ s. lists_room (BC.room s.bounds) (VC.room s.values) (length (VC.format.rows (VC.content s.values))) };
 }
 
 impl<BC: Len, VC: Column> Len for Strings<BC, VC> {
@@ -125,7 +129,7 @@ impl<'a, BC: Offsets> Strings<BC, &'a [u8]> {
     }
 }
 
-impl<BC: Clear, VC: Clear> Clear for Strings<BC, VC> {
+impl<BC: Clear + Offsets, VC: Clear> Clear for Strings<BC, VC> {
     fn clear(&mut self) {
         self.bounds.clear();
         self.values.clear();
@@ -154,8 +158,12 @@ impl<BC: Storage + Offsets, VC: Storage> Storage for Strings<BC, VC> {
     }
 }
 
-impl<BC: Reserve, VC: Reserve> Reserve for Strings<BC, VC> {
+impl<BC: ReserveOffsets, VC: Reserve> Reserve for Strings<BC, VC> {
     type Room = (BC::Room, VC::Room);
+
+    ghost reserves = { BC.reserves × VC.reserves };
+
+    ghost covers = { λ r. lists_room (BC.covers r.0) (VC.covers r.1) 0 };
 
     fn no_room() -> (BC::Room, VC::Room) {
         (BC::no_room(), VC::no_room())
@@ -227,6 +235,8 @@ impl<BC: Offsets, VC: Column> Strings<BC, VC> {
         requires in_range { range.«end» ≤ length ((lists_format W.format V.format).rows (both (W.content view.bounds) (V.content view.values))) }
         ensures ok { OnOk result (Copied (lists_format BC.format VC.format) (both (BC.content self.old.bounds) (VC.content self.old.values)) (both (BC.content self.new.bounds) (VC.content self.new.values)) range.start (take (range.«end» - range.start) (drop range.start ((lists_format W.format V.format).rows (both (W.content view.bounds) (V.content view.values)))))) }
         ensures err { IfErr result (λ e. Refused (lists_format BC.format VC.format) (both (BC.content self.old.bounds) (VC.content self.old.values)) (both (BC.content self.new.bounds) (VC.content self.new.values)) (take (range.«end» - range.start) (drop range.start ((lists_format W.format V.format).rows (both (W.content view.bounds) (V.content view.values))))) e) }
+        ensures wanted { IfErr result (WasFull (lists_room (BC.room self.old.bounds) (VC.room self.old.values) (length (VC.format.rows (VC.content self.old.values)))) (take (range.«end» - range.start) (drop range.start ((lists_format W.format V.format).rows (both (W.content view.bounds) (V.content view.values)))))) }
+        ensures left { OnOk result (Leaves (lists_room (BC.room self.old.bounds) (VC.room self.old.values) (length (VC.format.rows (VC.content self.old.values)))) (lists_room (BC.room self.new.bounds) (VC.room self.new.values) (length (VC.format.rows (VC.content self.new.values)))) (take (range.«end» - range.start) (drop range.start ((lists_format W.format V.format).rows (both (W.content view.bounds) (V.content view.values)))))) }
         ensures turns { tally.new.turns ≤ tally.old.turns + (range.«end» - range.start) }
     {
         copy_lists_tallied(

@@ -33,3 +33,6 @@ pub mod EarlierSumLaws
 pub mod PackedLaws
 pub mod MaySums
 pub mod MaySumLaws
+pub mod Rooms
+pub mod RoomLaws
+pub mod UnaryRoomLaws

@@ -190,7 +190,7 @@ copied_exactly f {x} {y} start {rs} ex t = record {
 
 -- ---- a range of other offsets, whose bits are copied at once
 
-range_is : (p q r : List ℕ) (m n lower start from to : ℕ) → m ≤ n → n ≤ length (unaries_format.rows (three p q r)) → slice_get (0 ∷ numbers (unaries_format.rows (three p q r))) m ≡ Some lower → from ≡ lower + m → to ≡ upto (bits_in q r) n → RangeBits (bits_in q r) (slice_range (bits_in q r) from to) m n lower start
+pub range_is : (p q r : List ℕ) (m n lower start from to : ℕ) → m ≤ n → n ≤ length (unaries_format.rows (three p q r)) → slice_get (0 ∷ numbers (unaries_format.rows (three p q r))) m ≡ Some lower → from ≡ lower + m → to ≡ upto (bits_in q r) n → RangeBits (bits_in q r) (slice_range (bits_in q r) from to) m n lower start
 range_is p q r m n lower start from to l k h d e =
     let w = ends_are p q r in
     let z : length (unaries_format.rows (three p q r)) ≡ length (ends_of 0 (bits_in q r)) = sym (unaries_length p q r) ∙ ones_ends 0 (bits_in q r) in

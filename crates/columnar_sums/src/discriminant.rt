@@ -52,6 +52,8 @@ impl<CVar: Variants, COff: Words> Column for Discriminant<CVar, COff> {
     ghost format = { discriminant_format };
 
     ghost content = { forms_content CVar.bytes COff.bytes };
+
+    ghost room = { λ c rs. ⊥ };
 }
 
 // Counts the rows.

@@ -3,6 +3,7 @@ ghost use Rattle.std.specs.Prelude.{◌≡◌, ◌↔◌, ◌≤◌, ℕ, IfSome
 ghost use Rattle.columnar_core.specs.Row.{some};
 ghost use Rattle.columnar_core.specs.Format.{both, IsSound};
 ghost use Rattle.columnar_sums.specs.RankColumns.{ranks_content};
+ghost use Rattle.columnar_sums.specs.Rooms.{ranks_room, options_room};
 ghost use Rattle.columnar_sums.specs.Options.{options_format, somes, AreSome, AreNone};
 
 mod bytes;
@@ -25,6 +26,8 @@ impl<TC: Column, CC: Words, VC: Words, WC: Words> Column for Options<TC, CC, VC,
     ghost format = { options_format TC.format };
 
     ghost content = { λ o. both (ranks_content CC.bytes VC.bytes WC.bytes o.indexes) (TC.content o.somes) };
+
+    ghost room = { λ o. options_room (ranks_room CC.capacity VC.capacity VC.bytes WC.bytes o.indexes) (TC.room o.somes) };
 }
 
 impl<TC: Len, CC: Words, VC: Words, WC: Words> Len for Options<TC, CC, VC, WC> {

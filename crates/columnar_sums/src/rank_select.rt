@@ -7,6 +7,7 @@ ghost use Rattle.columnar_base.specs.Digits.{digits};
 ghost use Rattle.columnar_sums.specs.Counting.{ones, place, Adds};
 ghost use Rattle.columnar_sums.specs.RankColumns.{ranks_format, ranks_content, bits_ranked, IsRanked, owned_ranks, ranked_bits};
 ghost use Rattle.columnar_sums.specs.RankLaws.{ranks_lawful};
+ghost use Rattle.columnar_sums.specs.Rooms.{ranks_room};
 
 mod bytes;
 mod cursor;
@@ -38,6 +39,8 @@ impl<CC: Words, VC: Words, WC: Words> Column for RankSelect<CC, VC, WC> {
     ghost format = { ranks_format };
 
     ghost content = { ranks_content CC.bytes VC.bytes WC.bytes };
+
+    ghost room = { ranks_room CC.capacity VC.capacity VC.bytes WC.bytes };
 }
 
 impl<CC: Words, VC: Words, WC: Words> Len for RankSelect<CC, VC, WC> {

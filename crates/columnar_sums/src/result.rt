@@ -2,6 +2,7 @@
 ghost use Rattle.std.specs.Prelude.{◌≡◌, ◌↔◌, ℕ, IfSome, IsSome, map};
 ghost use Rattle.columnar_core.specs.Row.{ok, err};
 ghost use Rattle.columnar_core.specs.Format.{IsSound};
+ghost use Rattle.columnar_sums.specs.Rooms.{ranks_room, results_room};
 ghost use Rattle.columnar_sums.specs.Results.{errs, oks, results_format, results_content, AreOks, AreErrs};
 
 pub mod bytes;
@@ -27,6 +28,8 @@ impl<SC: Column, TC: Column, CC: Words, VC: Words, WC: Words> Column
     ghost format = { results_format SC.format TC.format };
 
     ghost content = { results_content SC.content TC.content CC.bytes VC.bytes WC.bytes };
+
+    ghost room = { λ r. results_room (ranks_room CC.capacity VC.capacity VC.bytes WC.bytes r.indexes) (SC.room r.oks) (TC.room r.errs) };
 }
 
 impl<SC: Len, TC: Len, CC: Words, VC: Words, WC: Words> Len for Results<SC, TC, CC, VC, WC> {

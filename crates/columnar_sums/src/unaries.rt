@@ -13,7 +13,7 @@ ghost use Rattle.columnar_sums.specs.RankColumns.{ranks_format, ranks_content, b
 ghost use Rattle.columnar_sums.specs.Unary.{upto};
 ghost use Rattle.columnar_sums.specs.UnaryLaws.{unary_bounds};
 ghost use Rattle.columnar_sums.specs.UnaryBitLaws.{four};
-ghost use Rattle.columnar_sums.specs.UnaryColumns.{unaries_format, unaries_content, all_falses};
+ghost use Rattle.columnar_sums.specs.UnaryColumns.{unaries_format, unaries_content, unaries_room, all_falses};
 
 mod bytes;
 mod ends;
@@ -44,6 +44,8 @@ impl<CC: Words, VC: Words, WC: Words> Column for Unaries<CC, VC, WC> {
     ghost format = { unaries_format };
 
     ghost content = { unaries_content CC.bytes VC.bytes WC.bytes };
+
+    ghost room = { unaries_room CC.capacity VC.capacity CC.bytes VC.bytes WC.bytes };
 }
 
 impl<CC: Words, VC: Words, WC: Words> Len for Unaries<CC, VC, WC> {

@@ -1,6 +1,9 @@
+pub mod Choices
+pub mod ChoiceLaws
 pub mod Flags
 pub mod Lines
 pub mod LineLaws
+pub mod Makes
 pub mod SliceLaws
 pub mod Slices
 pub mod Spans

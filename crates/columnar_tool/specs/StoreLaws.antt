@@ -15,6 +15,7 @@ use Rattle.columnar_core.specs.SentLaws.{appends_both, appends_none}
 use Rattle.columnar_core.specs.declared.fault.StoreFault.{StoreFault}
 use Rattle.columnar_json.specs.ItemLaws.{flat_more}
 use Rattle.columnar_json.specs.Pieces.{Piece}
+use Rattle.columnar_json.specs.declared.view.View.{View}
 use Rattle.columnar_schema.specs.declared.schema.Schema.{Schema}
 use Rattle.columnar_schema.specs.Formats.{format_of}
 use Rattle.columnar_tool.specs.Lines.{Prints, Stops, lines_of, rows_in}
@@ -102,17 +103,17 @@ pub all_chosen : (rs : List Row) → chosen ALL rs ≡ rs
 all_chosen rs = let m : length rs - 0 ≡ length rs = omega arith in rw m (take_all (length rs) rs (omega arith))
 
 -- The first n stores were printed; the later ones begin at `rest`.
-pub record Passing (s : Schema) (bytes rest : List ℕ) (n : ℕ) (old new : Option (List ℕ)) : Type 0 where
-  pub printed : Printed (Accepts (format_of s)) (store_lines s) (stores_in bytes) (stores_in rest) n old new
+pub record Passing (v : View) (s : Schema) (bytes rest : List ℕ) (n : ℕ) (old new : Option (List ℕ)) : Type 0 where
+  pub printed : Printed (Accepts (format_of s)) (store_lines v s) (stores_in bytes) (stores_in rest) n old new
   pub torn : rest_in bytes ≡ rest_in rest
   pub left : n + length rest ≤ length bytes
 
-pub passing_none : (s : Schema) (bytes : List ℕ) (old : Option (List ℕ)) → Passing s bytes bytes 0 old old
-passing_none s bytes old = record { printed = printed_none (Accepts (format_of s)) (store_lines s) (stores_in bytes) old; torn = refl; left = omega arith }
+pub passing_none : (v : View) (s : Schema) (bytes : List ℕ) (old : Option (List ℕ)) → Passing v s bytes bytes 0 old old
+passing_none v s bytes old = record { printed = printed_none (Accepts (format_of s)) (store_lines v s) (stores_in bytes) old; torn = refl; left = omega arith }
 
-pub passing_more : (s : Schema) (bytes rest store after : List ℕ) (n : ℕ) (old mid new : Option (List ℕ)) → Passing s bytes rest n old mid → stores_in rest ≡ store ∷ stores_in after → rest_in rest ≡ rest_in after → length after < length rest → Accepts (format_of s) store → Prints mid new (lines_of s (chosen ALL (rows_in s store))) → Passing s bytes after (n + 1) old new
-passing_more s bytes rest store after n old mid new p e r l a t = record {
-  printed = printed_more (Accepts (format_of s)) (store_lines s) (stores_in bytes) (stores_in rest) (stores_in after) store n old mid new p.printed e a (rw (all_chosen (rows_in s store)) at t);
+pub passing_more : (v : View) (s : Schema) (bytes rest store after : List ℕ) (n : ℕ) (old mid new : Option (List ℕ)) → Passing v s bytes rest n old mid → stores_in rest ≡ store ∷ stores_in after → rest_in rest ≡ rest_in after → length after < length rest → Accepts (format_of s) store → Prints mid new (lines_of v s (chosen ALL (rows_in s store))) → Passing v s bytes after (n + 1) old new
+passing_more v s bytes rest store after n old mid new p e r l a t = record {
+  printed = printed_more (Accepts (format_of s)) (store_lines v s) (stores_in bytes) (stores_in rest) (stores_in after) store n old mid new p.printed e a (rw (all_chosen (rows_in s store)) at t);
   torn = p.torn ∙ r;
   left = omega (arith, p.left);
 }
@@ -121,22 +122,22 @@ empty_list : (rest : List ℕ) → length rest ≡ 0 → rest ≡ []
 empty_list [] h = refl
 empty_list (x ∷ rest) h = absurd (omega arith)
 
-pub passing_all : (s : Schema) (bytes rest : List ℕ) (n : ℕ) (old new : Option (List ℕ)) → Passing s bytes rest n old new → length rest ≡ 0 → AreAccepted (format_of s) bytes × Prints old new (flat_map (store_lines s) (stores_in bytes))
-passing_all s bytes rest n old new p h =
+pub passing_all : (v : View) (s : Schema) (bytes rest : List ℕ) (n : ℕ) (old new : Option (List ℕ)) → Passing v s bytes rest n old new → length rest ≡ 0 → AreAccepted (format_of s) bytes × Prints old new (flat_map (store_lines v s) (stores_in bytes))
+passing_all v s bytes rest n old new p h =
     let e = empty_list rest h in
-    let a = printed_all (Accepts (format_of s)) (store_lines s) (stores_in bytes) (stores_in rest) n old new p.printed (ap stores_in e) in
+    let a = printed_all (Accepts (format_of s)) (store_lines v s) (stores_in bytes) (stores_in rest) n old new p.printed (ap stores_in e) in
     ((a.0, p.torn ∙ ap rest_in e), a.1)
 
 -- the bytes after the first n stores are no store
-pub passing_torn : (s : Schema) (bytes rest : List ℕ) (n : ℕ) (fault : StoreFault) (old new : Option (List ℕ)) → Passing s bytes rest n old new → stores_in rest ≡ [] → rest_in rest ≡ rest → IsFlaw rest (length rest) fault → StopsAtStore s bytes old new n (Refused fault)
-passing_torn s bytes rest n fault old new p e r f =
-    let k = printed_first (Accepts (format_of s)) (store_lines s) (stores_in bytes) (stores_in rest) n old new p.printed in
+pub passing_torn : (v : View) (s : Schema) (bytes rest : List ℕ) (n : ℕ) (fault : StoreFault) (old new : Option (List ℕ)) → Passing v s bytes rest n old new → stores_in rest ≡ [] → rest_in rest ≡ rest → IsFlaw rest (length rest) fault → StopsAtStore v s bytes old new n (Refused fault)
+passing_torn v s bytes rest n fault old new p e r f =
+    let k = printed_first (Accepts (format_of s)) (store_lines v s) (stores_in bytes) (stores_in rest) n old new p.printed in
     (new, (k.0, (k.1, rw (k.2 ∙ e, p.torn ∙ r) (f, refl))))
 
 -- store n stops the program
-pub passing_stopped : (s : Schema) (bytes rest store after : List ℕ) (n : ℕ) (stop : Stop) (old mid new : Option (List ℕ)) → Passing s bytes rest n old mid → stores_in rest ≡ store ∷ stores_in after → Stops s ALL store mid new stop → StopsAtStore s bytes old new n stop
-passing_stopped s bytes rest store after n stop old mid new p e h =
-    let k = printed_first (Accepts (format_of s)) (store_lines s) (stores_in bytes) (stores_in rest) n old mid p.printed in
+pub passing_stopped : (v : View) (s : Schema) (bytes rest store after : List ℕ) (n : ℕ) (stop : Stop) (old mid new : Option (List ℕ)) → Passing v s bytes rest n old mid → stores_in rest ≡ store ∷ stores_in after → Stops v s ALL store mid new stop → StopsAtStore v s bytes old new n stop
+passing_stopped v s bytes rest store after n stop old mid new p e h =
+    let k = printed_first (Accepts (format_of s)) (store_lines v s) (stores_in bytes) (stores_in rest) n old mid p.printed in
     (mid, (k.0, (k.1, rw (k.2 ∙ e) h)))
 
 -- The first n stores were tested; the later ones begin at `rest`.

@@ -2,11 +2,13 @@
 #![tactic(auto)]
 
 mod cat;
+mod choice;
 mod cli;
 mod file;
 mod flags;
 mod help;
 mod lines;
+mod make;
 mod range;
 mod slices;
 mod stores;
@@ -18,6 +20,7 @@ use std::process::ExitCode;
 
 fn main(rt: HostRuntime) -> ExitCode {
     let alloc = rt.alloc();
+    let mut input = rt.stdin();
     let mut out = rt.stdout();
     let mut err = rt.stderr();
     let mut words = Vec::new(alloc);
@@ -29,5 +32,6 @@ fn main(rt: HostRuntime) -> ExitCode {
             return ExitCode::from(told::no_memory(&mut err));
         }
     }
-    ExitCode::from(cli::run_words(&rt, alloc, words.as_slice(), &mut out, &mut err))
+    let words = words.as_slice();
+    ExitCode::from(cli::run_words(&rt, alloc, words, &mut input, &mut out, &mut err))
 }

@@ -14,6 +14,7 @@ use crate::told::{Failure, put};
 use columnar_bytes::indexed::split_store;
 use columnar_core::fault::StoreFault;
 use columnar_core::writer::WriteBytes;
+use columnar_json::view::View;
 use columnar_schema::typed::Type;
 use std::alloc::{AllocError, Global};
 
@@ -32,7 +33,7 @@ fn next_store(bytes: &[u8]) -> Result<(&[u8], &[u8]), StoreFault>
     }
 }
 
-/// Prints the rows of consecutive stores as lines of JSON.
+/// Prints the rows of consecutive stores as lines.
 ///
 /// # Errors
 /// The number of the first store that is not accepted or has a row without a text, and why; the rows before it were
@@ -40,18 +41,19 @@ fn next_store(bytes: &[u8]) -> Result<(&[u8], &[u8]), StoreFault>
 pub fn cat_stores<O: WriteBytes>(
     alloc: Global,
     kind: &Type,
+    view: &View<'_>,
     bytes: &[u8],
     out: &mut O,
 ) -> Result<(), (usize, Stop)>
     ensures accepted { OnOk result (AreAccepted (format_of kind.now.schema) bytes.now) }
-    ensures printed { OnOk result (Prints (O.contents out.old) (O.contents out.new) (flat_map (store_lines kind.now.schema) (stores_in bytes.now))) }
-    ensures stopped { IfErr result (λ e. StopsAtStore kind.now.schema bytes.now (O.contents out.old) (O.contents out.new) e.0 e.1) }
+    ensures printed { OnOk result (Prints (O.contents out.old) (O.contents out.new) (flat_map (store_lines view.now kind.now.schema) (stores_in bytes.now))) }
+    ensures stopped { IfErr result (λ e. StopsAtStore view.now kind.now.schema bytes.now (O.contents out.old) (O.contents out.new) e.0 e.1) }
 {
     let mut rest = bytes;
     let mut number = 0;
     while !rest.is_empty() {
         match next_store(rest) {
-            Ok((store, after)) => match cat_bytes(alloc, kind, ALL, store, out) {
+            Ok((store, after)) => match cat_bytes(alloc, kind, view, ALL, store, out) {
                 Ok(()) => {
                     rest = after;
                     number += 1;

@@ -35,6 +35,8 @@ impl<C: Item> Item for Last<C> {
     ghost meaning = { λ x. case 0 (C.meaning x.0) };
 
     ghost valid = { λ x. C.valid x.0 };
+
+    ghost unbuffered = { C.unbuffered };
 }
 
 impl<C: Item> Cases for Last<C> {
@@ -50,6 +52,8 @@ impl<A: Item, B: Cases> Item for Nth<A, B> {
     ghost meaning = { λ x. case (nth_variant B.variant x) (nth_value A.meaning B.value x) };
 
     ghost valid = { nth_valid A.valid B.valid };
+
+    ghost unbuffered = { A.unbuffered × B.unbuffered };
 }
 
 impl<A: Item, B: Cases> Cases for Nth<A, B> {

@@ -30,6 +30,8 @@ impl<B: ColumnBank, CVar: VariantBytes, COff: Words> Column for Variants<B, CVar
     ghost format = { variants_format B.bank };
 
     ghost content = { λ c. both (B.contents c.columns) (forms_content CVar.bytes COff.bytes c.indexes) };
+
+    ghost room = { λ c rs. ⊥ };
 }
 
 impl<B: ColumnBank, CVar: VariantBytes, COff: Words> Len for Variants<B, CVar, COff> {

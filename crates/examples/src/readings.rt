@@ -5,9 +5,10 @@ ghost use Rattle.columnar.specs.Stashes.{stash_content};
 use columnar::bytes::stash::Stash;
 use columnar::fault::GrowError;
 use columnar::operators::{merge, partition_point, sort_indices, take};
-use columnar::{Borrow, Column, Columnar, ContainerOf, Index, Storage};
+use columnar::{Borrow, Column, Columnar, ContainerOf, ExtendFrom, Index, Storage};
 use std::alloc::Global;
 use std::io::{self, Write};
+use std::iter::once;
 
 /// A time and a value.
 pub type Reading = (u64, i64);
@@ -32,11 +33,11 @@ impl Readings {
         Ok(Readings { stash })
     }
 
-    /// Returns the same readings, sorted by time and value.
+    /// Returns the same readings, sorted by time and value, in columns with room for them from the start.
     pub fn sorted(&self, alloc: Global) -> Result<Readings, GrowError> {
         let view = self.stash.borrow();
         let order = sort_indices(alloc, &view)?;
-        let mut columns = Columns::empty(alloc);
+        let mut columns = Columns::with_capacity_for(alloc, once(view))?;
         take(&mut columns, view, order.as_slice())?;
         let stash = Stash::Typed(columns);
         Ok(Readings { stash })

@@ -3,6 +3,7 @@
 //! file. Its items are spans, and its bytes are those of the pair.
 ghost use Rattle.columnar.specs.Row.{tuple};
 ghost use Rattle.columnar.specs.Format.{both, slices_of};
+ghost use Rattle.columnar.specs.Room.{pair_room};
 ghost use Rattle.columnar.specs.Tuples.{pair_format};
 ghost use Rattle.columnar.specs.TupleLaws.{pair_lawful, pair_storable, same_pair};
 ghost use Rattle.columnar.specs.TwoPartsLaws.{two_counted};
@@ -32,6 +33,8 @@ impl<S: Item, L: Item> Item for Span<S, L> {
     ghost meaning = { λ s. tuple (S.meaning s.start) (L.meaning s.length) };
 
     ghost valid = { λ s. (S.valid s.start) × (L.valid s.length) };
+
+    ghost unbuffered = { S.unbuffered × L.unbuffered };
 }
 
 /// A column of spans: owned, or a view.
@@ -45,6 +48,8 @@ impl<SC: Column, LC: Column> Column for Spans<SC, LC> {
     ghost format = { pair_format SC.format LC.format };
 
     ghost content = { λ s. both (SC.content s.parts.0) (LC.content s.parts.1) };
+
+    ghost room = { λ s. pair_room (SC.room s.parts.0) (LC.room s.parts.1) };
 }
 
 impl<SC: Len, LC: Len> Len for Spans<SC, LC> {
@@ -98,6 +103,10 @@ impl<SC: Storage, LC: Storage> Storage for Spans<SC, LC> {
 
 impl<SC: Reserve, LC: Reserve> Reserve for Spans<SC, LC> {
     type Room = (SC::Room, LC::Room);
+
+    ghost reserves = { SC.reserves × LC.reserves };
+
+    ghost covers = { λ r. pair_room (SC.covers r.0) (LC.covers r.1) };
 
     fn no_room() -> (SC::Room, LC::Room) {
         <(SC, LC)>::no_room()

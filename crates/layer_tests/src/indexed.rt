@@ -35,6 +35,8 @@ impl<'v> Column for BytesAndWords<'v> {
     ghost format = { ⟦<Both as Column>⟧.format };
 
     ghost content = { λ s. both (slice s.bytes.now) (slice (le_bytes s.words.now)) };
+
+    ghost room = { λ c rs. ⊥ };
 }
 
 impl<'v> Stored for BytesAndWords<'v> {

@@ -33,6 +33,8 @@ impl<C: Column> Column for Tens<C> {
     ghost format = { kinned same_digit C.format };
 
     ghost content = { λ t. C.content t.numbers };
+
+    ghost room = { λ t. C.room t.numbers };
 }
 
 impl<C: Len> Len for Tens<C> {
@@ -83,6 +85,10 @@ impl Storage for Tens<Vec<u64>> {
 
 impl<C: Reserve> Reserve for Tens<C> {
     type Room = C::Room;
+
+    ghost reserves = { C.reserves };
+
+    ghost covers = { C.covers };
 
     fn no_room() -> C::Room {
         C::no_room()

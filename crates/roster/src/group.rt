@@ -44,12 +44,16 @@ impl<T: Item> Item for Group<T> {
     ghost meaning = { group_row T.meaning ⟦<Vec<T> as Item>⟧.meaning };
 
     ghost valid = { group_valid T.valid ⟦<Vec<T> as Item>⟧.valid };
+
+    ghost unbuffered = { T.unbuffered };
 }
 
 impl<S: Item, T: Item> Item for GroupReference<S, T> {
     ghost meaning = { reference_row S.meaning T.meaning };
 
     ghost valid = { reference_valid S.valid T.valid };
+
+    ghost unbuffered = { S.unbuffered × T.unbuffered };
 }
 
 impl<SC: Column, TC: Column, CVar: Variants, COff: Words> Column
@@ -57,6 +61,8 @@ impl<SC: Column, TC: Column, CVar: Variants, COff: Words> Column
     ghost format = { dual_format SC.format TC.format };
 
     ghost content = { λ g. dual_content (SC.content g.Solo) (TC.content g.Team) (forms_content CVar.bytes COff.bytes g.indexes) };
+
+    ghost room = { λ g rs. ⊥ };
 }
 
 impl<SC: Column, TC: Column, CVar: Variants, COff: Words> Len

@@ -51,6 +51,11 @@ fn the_column_of_a_nest_has_names(rt: HostRuntime) -> Result<(), Fail> {
 pub struct Event;
 
 impl PartNames for Event {
+    ghost use Rattle.std.specs.Prelude.{[], ◌∷◌, codes};
+    ghost use Rattle.columnar.specs.Names.{name_at};
+
+    ghost name_of = { name_at (codes "user" ∷ codes "tags" ∷ []) };
+
     fn part_name(index: usize) -> &'static str {
         match index {
             0 => "user",

@@ -40,6 +40,8 @@ impl<T: ArrayItem, const N: usize> Item for [T; N] {
     ghost meaning = { T.array_row N };
 
     ghost valid = { λ x. Unit {0} };
+
+    ghost unbuffered = { T.unbuffered };
 }
 
 impl<T: Element, const N: usize> Element for [T; N] {

@@ -10,6 +10,8 @@ impl<T: Item> Item for Wrapping<T> {
     ghost meaning = { λ x. T.meaning x.0 };
 
     ghost valid = { λ x. T.valid x.0 };
+
+    ghost unbuffered = { T.unbuffered };
 }
 
 impl<T: Primitive> Element for Wrapping<T> {

@@ -8,6 +8,7 @@ ghost use Rattle.columnar_base.specs.TupleLaws.{pair_lawful};
 ghost use Rattle.columnar_base.specs.LongTuples.{nested, tuple_format};
 ghost use Rattle.columnar_base.specs.LongTupleLaws.{tuple_lawful};
 ghost use Rattle.columnar_base.specs.Entries.{Entered, Level, joined_entry};
+ghost use Rattle.columnar_base.specs.Room.{WasFull, Leaves, pair_room};
 
 use crate::fault::GrowError;
 use crate::storage::{Reserve, Storage, Truncate};
@@ -21,6 +22,8 @@ impl<P: Item, Q: Item, R: Item, S: Item, T: Item> Item for (P, Q, R, S, T) {
     ghost meaning = { λ p. tuple (P.meaning p.0) (tuple (Q.meaning p.1) (tuple (R.meaning p.2) (tuple (S.meaning p.3) (T.meaning p.4)))) };
 
     ghost valid = { λ p. P.valid p.0 × (Q.valid p.1 × (R.valid p.2 × (S.valid p.3 × T.valid p.4))) };
+
+    ghost unbuffered = { P.unbuffered × (Q.unbuffered × (R.unbuffered × (S.unbuffered × T.unbuffered))) };
 }
 
 /// The slices of the parts in order. Each row is the tuple of the parts' rows.
@@ -28,6 +31,8 @@ impl<A: Column, B: Column, C: Column, D: Column, E: Column> Column for (A, B, C,
     ghost format = { tuple_format A.format B.format (C.format ∷ D.format ∷ E.format ∷ []) };
 
     ghost content = { λ c. both (A.content c.0) (both (B.content c.1) (both (C.content c.2) (both (D.content c.3) (E.content c.4)))) };
+
+    ghost room = { λ c. pair_room (A.room c.0) (pair_room (B.room c.1) (pair_room (C.room c.2) (pair_room (D.room c.3) (E.room c.4)))) };
 }
 
 impl<A: Len, B: Column, C: Column, D: Column, E: Column> Len for (A, B, C, D, E) {
@@ -143,6 +148,10 @@ impl<A: Storage, B: Storage, C: Storage, D: Storage, E: Storage> Storage for (A,
 impl<A: Reserve, B: Reserve, C: Reserve, D: Reserve, E: Reserve> Reserve for (A, B, C, D, E) {
     type Room = (A::Room, B::Room, C::Room, D::Room, E::Room);
 
+    ghost reserves = { A.reserves × (B.reserves × (C.reserves × (D.reserves × E.reserves))) };
+
+    ghost covers = { λ r. pair_room (A.covers r.0) (pair_room (B.covers r.1) (pair_room (C.covers r.2) (pair_room (D.covers r.3) (E.covers r.4)))) };
+
     fn no_room() -> (A::Room, B::Room, C::Room, D::Room, E::Room) {
         (
             A::no_room(),
@@ -210,6 +219,8 @@ pub fn enter_five<
     requires level { Level (P.entry p) (Q.entry q ∷ R.entry r ∷ S.entry s ∷ T.entry t ∷ []) }
     ensures ok { OnOk result (Entered (nested A.format (B.format ∷ C.format ∷ D.format ∷ E.format ∷ [])) (both (A.content first.old) (both (B.content second.old) (both (C.content third.old) (both (D.content fourth.old) (E.content fifth.old))))) (both (A.content first.new) (both (B.content second.new) (both (C.content third.new) (both (D.content fourth.new) (E.content fifth.new))))) (joined_entry (P.entry p) (Q.entry q ∷ R.entry r ∷ S.entry s ∷ T.entry t ∷ []))) }
     ensures err { IfErr result (λ e. Refused (nested A.format (B.format ∷ C.format ∷ D.format ∷ E.format ∷ [])) (both (A.content first.old) (both (B.content second.old) (both (C.content third.old) (both (D.content fourth.old) (E.content fifth.old))))) (both (A.content first.new) (both (B.content second.new) (both (C.content third.new) (both (D.content fourth.new) (E.content fifth.new))))) (joined_entry (P.entry p) (Q.entry q ∷ R.entry r ∷ S.entry s ∷ T.entry t ∷ [])).rows e) }
+    ensures wanted { P.unbuffered × (Q.unbuffered × (R.unbuffered × (S.unbuffered × T.unbuffered))) → IfErr result (WasFull (pair_room (A.room first.old) (pair_room (B.room second.old) (pair_room (C.room third.old) (pair_room (D.room fourth.old) (E.room fifth.old))))) (joined_entry (P.entry p) (Q.entry q ∷ R.entry r ∷ S.entry s ∷ T.entry t ∷ [])).rows) }
+    ensures left { OnOk result (Leaves (pair_room (A.room first.old) (pair_room (B.room second.old) (pair_room (C.room third.old) (pair_room (D.room fourth.old) (E.room fifth.old))))) (pair_room (A.room first.new) (pair_room (B.room second.new) (pair_room (C.room third.new) (pair_room (D.room fourth.new) (E.room fifth.new))))) (joined_entry (P.entry p) (Q.entry q ∷ R.entry r ∷ S.entry s ∷ T.entry t ∷ [])).rows) }
 {
     let before = first.len();
     p.enter(first)?;

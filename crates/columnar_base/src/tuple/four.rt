@@ -8,6 +8,7 @@ ghost use Rattle.columnar_base.specs.TupleLaws.{pair_lawful};
 ghost use Rattle.columnar_base.specs.LongTuples.{nested, tuple_format};
 ghost use Rattle.columnar_base.specs.LongTupleLaws.{tuple_lawful};
 ghost use Rattle.columnar_base.specs.Entries.{Entered, Level, joined_entry};
+ghost use Rattle.columnar_base.specs.Room.{WasFull, Leaves, pair_room};
 
 use crate::fault::GrowError;
 use crate::storage::{Reserve, Storage, Truncate};
@@ -21,6 +22,8 @@ impl<P: Item, Q: Item, R: Item, S: Item> Item for (P, Q, R, S) {
     ghost meaning = { λ p. tuple (P.meaning p.0) (tuple (Q.meaning p.1) (tuple (R.meaning p.2) (S.meaning p.3))) };
 
     ghost valid = { λ p. P.valid p.0 × (Q.valid p.1 × (R.valid p.2 × S.valid p.3)) };
+
+    ghost unbuffered = { P.unbuffered × (Q.unbuffered × (R.unbuffered × S.unbuffered)) };
 }
 
 /// The slices of the parts in order. Each row is the tuple of the parts' rows.
@@ -28,6 +31,8 @@ impl<A: Column, B: Column, C: Column, D: Column> Column for (A, B, C, D) {
     ghost format = { tuple_format A.format B.format (C.format ∷ D.format ∷ []) };
 
     ghost content = { λ c. both (A.content c.0) (both (B.content c.1) (both (C.content c.2) (D.content c.3))) };
+
+    ghost room = { λ c. pair_room (A.room c.0) (pair_room (B.room c.1) (pair_room (C.room c.2) (D.room c.3))) };
 }
 
 impl<A: Len, B: Column, C: Column, D: Column> Len for (A, B, C, D) {
@@ -132,6 +137,10 @@ impl<A: Storage, B: Storage, C: Storage, D: Storage> Storage for (A, B, C, D) {
 impl<A: Reserve, B: Reserve, C: Reserve, D: Reserve> Reserve for (A, B, C, D) {
     type Room = (A::Room, B::Room, C::Room, D::Room);
 
+    ghost reserves = { A.reserves × (B.reserves × (C.reserves × D.reserves)) };
+
+    ghost covers = { λ r. pair_room (A.covers r.0) (pair_room (B.covers r.1) (pair_room (C.covers r.2) (D.covers r.3))) };
+
     fn no_room() -> (A::Room, B::Room, C::Room, D::Room) {
         (A::no_room(), B::no_room(), C::no_room(), D::no_room())
     }
@@ -188,6 +197,8 @@ pub fn enter_four<
     requires level { Level (P.entry p) (Q.entry q ∷ R.entry r ∷ S.entry s ∷ []) }
     ensures ok { OnOk result (Entered (nested A.format (B.format ∷ C.format ∷ D.format ∷ [])) (both (A.content first.old) (both (B.content second.old) (both (C.content third.old) (D.content fourth.old)))) (both (A.content first.new) (both (B.content second.new) (both (C.content third.new) (D.content fourth.new)))) (joined_entry (P.entry p) (Q.entry q ∷ R.entry r ∷ S.entry s ∷ []))) }
     ensures err { IfErr result (λ e. Refused (nested A.format (B.format ∷ C.format ∷ D.format ∷ [])) (both (A.content first.old) (both (B.content second.old) (both (C.content third.old) (D.content fourth.old)))) (both (A.content first.new) (both (B.content second.new) (both (C.content third.new) (D.content fourth.new)))) (joined_entry (P.entry p) (Q.entry q ∷ R.entry r ∷ S.entry s ∷ [])).rows e) }
+    ensures wanted { P.unbuffered × (Q.unbuffered × (R.unbuffered × S.unbuffered)) → IfErr result (WasFull (pair_room (A.room first.old) (pair_room (B.room second.old) (pair_room (C.room third.old) (D.room fourth.old)))) (joined_entry (P.entry p) (Q.entry q ∷ R.entry r ∷ S.entry s ∷ [])).rows) }
+    ensures left { OnOk result (Leaves (pair_room (A.room first.old) (pair_room (B.room second.old) (pair_room (C.room third.old) (D.room fourth.old)))) (pair_room (A.room first.new) (pair_room (B.room second.new) (pair_room (C.room third.new) (D.room fourth.new)))) (joined_entry (P.entry p) (Q.entry q ∷ R.entry r ∷ S.entry s ∷ [])).rows) }
 {
     let before = first.len();
     p.enter(first)?;

@@ -3,6 +3,7 @@ ghost use Rattle.std.specs.Prelude.{◌≡◌};
 ghost use Rattle.columnar_base.specs.Row.{solo};
 ghost use Rattle.columnar_base.specs.Solos.{solo_format};
 ghost use Rattle.columnar_base.specs.SoloLaws.{solo_lawful};
+ghost use Rattle.columnar_base.specs.Room.{solo_room};
 
 use crate::fault::GrowError;
 use crate::storage::{Reserve, Storage, Truncate};
@@ -14,6 +15,8 @@ impl<P: Item> Item for (P,) {
     ghost meaning = { λ p. solo (P.meaning p.0) };
 
     ghost valid = { λ p. P.valid p.0 };
+
+    ghost unbuffered = { P.unbuffered };
 }
 
 /// The slices of the part. Each row is the tuple of the part's row.
@@ -21,6 +24,8 @@ impl<A: Column> Column for (A,) {
     ghost format = { solo_format A.format };
 
     ghost content = { λ c. A.content c.0 };
+
+    ghost room = { λ c. solo_room (A.room c.0) };
 }
 
 impl<A: Len> Len for (A,) {
@@ -79,6 +84,10 @@ impl<A: Storage> Storage for (A,) {
 
 impl<A: Reserve> Reserve for (A,) {
     type Room = (A::Room,);
+
+    ghost reserves = { A.reserves };
+
+    ghost covers = { λ r. solo_room (A.covers r.0) };
 
     fn no_room() -> (A::Room,) {
         (A::no_room(),)

@@ -8,6 +8,7 @@ ghost use Rattle.columnar_base.specs.TupleLaws.{pair_lawful};
 ghost use Rattle.columnar_base.specs.LongTuples.{nested, tuple_format};
 ghost use Rattle.columnar_base.specs.LongTupleLaws.{tuple_lawful};
 ghost use Rattle.columnar_base.specs.Entries.{Entered, Level, joined_entry};
+ghost use Rattle.columnar_base.specs.Room.{WasFull, Leaves, pair_room};
 
 use crate::fault::GrowError;
 use crate::storage::{Reserve, Storage, Truncate};
@@ -21,6 +22,8 @@ impl<P: Item, Q: Item, R: Item, S: Item, T: Item, U: Item, V: Item> Item for (P,
     ghost meaning = { λ p. tuple (P.meaning p.0) (tuple (Q.meaning p.1) (tuple (R.meaning p.2) (tuple (S.meaning p.3) (tuple (T.meaning p.4) (tuple (U.meaning p.5) (V.meaning p.6)))))) };
 
     ghost valid = { λ p. P.valid p.0 × (Q.valid p.1 × (R.valid p.2 × (S.valid p.3 × (T.valid p.4 × (U.valid p.5 × V.valid p.6))))) };
+
+    ghost unbuffered = { P.unbuffered × (Q.unbuffered × (R.unbuffered × (S.unbuffered × (T.unbuffered × (U.unbuffered × V.unbuffered))))) };
 }
 
 /// The slices of the parts in order. Each row is the tuple of the parts' rows.
@@ -29,6 +32,8 @@ impl<A: Column, B: Column, C: Column, D: Column, E: Column, F: Column, G: Column
     ghost format = { tuple_format A.format B.format (C.format ∷ D.format ∷ E.format ∷ F.format ∷ G.format ∷ []) };
 
     ghost content = { λ c. both (A.content c.0) (both (B.content c.1) (both (C.content c.2) (both (D.content c.3) (both (E.content c.4) (both (F.content c.5) (G.content c.6)))))) };
+
+    ghost room = { λ c. pair_room (A.room c.0) (pair_room (B.room c.1) (pair_room (C.room c.2) (pair_room (D.room c.3) (pair_room (E.room c.4) (pair_room (F.room c.5) (G.room c.6)))))) };
 }
 
 impl<A: Len, B: Column, C: Column, D: Column, E: Column, F: Column, G: Column> Len
@@ -187,6 +192,10 @@ impl<A: Reserve, B: Reserve, C: Reserve, D: Reserve, E: Reserve, F: Reserve, G: 
         G::Room,
     );
 
+    ghost reserves = { A.reserves × (B.reserves × (C.reserves × (D.reserves × (E.reserves × (F.reserves × G.reserves))))) };
+
+    ghost covers = { λ r. pair_room (A.covers r.0) (pair_room (B.covers r.1) (pair_room (C.covers r.2) (pair_room (D.covers r.3) (pair_room (E.covers r.4) (pair_room (F.covers r.5) (G.covers r.6)))))) };
+
     fn no_room() -> (
         A::Room,
         B::Room,
@@ -290,6 +299,8 @@ pub fn enter_seven<
     requires level { Level (P.entry p) (Q.entry q ∷ R.entry r ∷ S.entry s ∷ T.entry t ∷ U.entry u ∷ V.entry v ∷ []) }
     ensures ok { OnOk result (Entered (nested A.format (B.format ∷ C.format ∷ D.format ∷ E.format ∷ F.format ∷ G.format ∷ [])) (both (A.content first.old) (both (B.content second.old) (both (C.content third.old) (both (D.content fourth.old) (both (E.content fifth.old) (both (F.content sixth.old) (G.content seventh.old))))))) (both (A.content first.new) (both (B.content second.new) (both (C.content third.new) (both (D.content fourth.new) (both (E.content fifth.new) (both (F.content sixth.new) (G.content seventh.new))))))) (joined_entry (P.entry p) (Q.entry q ∷ R.entry r ∷ S.entry s ∷ T.entry t ∷ U.entry u ∷ V.entry v ∷ []))) }
     ensures err { IfErr result (λ e. Refused (nested A.format (B.format ∷ C.format ∷ D.format ∷ E.format ∷ F.format ∷ G.format ∷ [])) (both (A.content first.old) (both (B.content second.old) (both (C.content third.old) (both (D.content fourth.old) (both (E.content fifth.old) (both (F.content sixth.old) (G.content seventh.old))))))) (both (A.content first.new) (both (B.content second.new) (both (C.content third.new) (both (D.content fourth.new) (both (E.content fifth.new) (both (F.content sixth.new) (G.content seventh.new))))))) (joined_entry (P.entry p) (Q.entry q ∷ R.entry r ∷ S.entry s ∷ T.entry t ∷ U.entry u ∷ V.entry v ∷ [])).rows e) }
+    ensures wanted { P.unbuffered × (Q.unbuffered × (R.unbuffered × (S.unbuffered × (T.unbuffered × (U.unbuffered × V.unbuffered))))) → IfErr result (WasFull (pair_room (A.room first.old) (pair_room (B.room second.old) (pair_room (C.room third.old) (pair_room (D.room fourth.old) (pair_room (E.room fifth.old) (pair_room (F.room sixth.old) (G.room seventh.old))))))) (joined_entry (P.entry p) (Q.entry q ∷ R.entry r ∷ S.entry s ∷ T.entry t ∷ U.entry u ∷ V.entry v ∷ [])).rows) }
+    ensures left { OnOk result (Leaves (pair_room (A.room first.old) (pair_room (B.room second.old) (pair_room (C.room third.old) (pair_room (D.room fourth.old) (pair_room (E.room fifth.old) (pair_room (F.room sixth.old) (G.room seventh.old))))))) (pair_room (A.room first.new) (pair_room (B.room second.new) (pair_room (C.room third.new) (pair_room (D.room fourth.new) (pair_room (E.room fifth.new) (pair_room (F.room sixth.new) (G.room seventh.new))))))) (joined_entry (P.entry p) (Q.entry q ∷ R.entry r ∷ S.entry s ∷ T.entry t ∷ U.entry u ∷ V.entry v ∷ [])).rows) }
 {
     let before = first.len();
     p.enter(first)?;

@@ -8,6 +8,7 @@ ghost use Rattle.columnar_base.specs.TupleLaws.{pair_lawful};
 ghost use Rattle.columnar_base.specs.LongTuples.{nested, tuple_format};
 ghost use Rattle.columnar_base.specs.LongTupleLaws.{tuple_lawful};
 ghost use Rattle.columnar_base.specs.Entries.{Entered, Level, joined_entry};
+ghost use Rattle.columnar_base.specs.Room.{WasFull, Leaves, pair_room};
 
 use crate::fault::GrowError;
 use crate::storage::{Reserve, Storage, Truncate};
@@ -20,6 +21,8 @@ impl<P: Item, Q: Item, R: Item> Item for (P, Q, R) {
     ghost meaning = { λ p. tuple (P.meaning p.0) (tuple (Q.meaning p.1) (R.meaning p.2)) };
 
     ghost valid = { λ p. P.valid p.0 × (Q.valid p.1 × R.valid p.2) };
+
+    ghost unbuffered = { P.unbuffered × (Q.unbuffered × R.unbuffered) };
 }
 
 /// The slices of the parts in order. Each row is the tuple of the parts' rows.
@@ -27,6 +30,8 @@ impl<A: Column, B: Column, C: Column> Column for (A, B, C) {
     ghost format = { tuple_format A.format B.format (C.format ∷ []) };
 
     ghost content = { λ c. both (A.content c.0) (both (B.content c.1) (C.content c.2)) };
+
+    ghost room = { λ c. pair_room (A.room c.0) (pair_room (B.room c.1) (C.room c.2)) };
 }
 
 impl<A: Len, B: Column, C: Column> Len for (A, B, C) {
@@ -116,6 +121,10 @@ impl<A: Storage, B: Storage, C: Storage> Storage for (A, B, C) {
 impl<A: Reserve, B: Reserve, C: Reserve> Reserve for (A, B, C) {
     type Room = (A::Room, B::Room, C::Room);
 
+    ghost reserves = { A.reserves × (B.reserves × C.reserves) };
+
+    ghost covers = { λ r. pair_room (A.covers r.0) (pair_room (B.covers r.1) (C.covers r.2)) };
+
     fn no_room() -> (A::Room, B::Room, C::Room) {
         (A::no_room(), B::no_room(), C::no_room())
     }
@@ -156,6 +165,8 @@ pub fn enter_three<
     requires level { Level (P.entry p) (Q.entry q ∷ R.entry r ∷ []) }
     ensures ok { OnOk result (Entered (nested A.format (B.format ∷ C.format ∷ [])) (both (A.content first.old) (both (B.content second.old) (C.content third.old))) (both (A.content first.new) (both (B.content second.new) (C.content third.new))) (joined_entry (P.entry p) (Q.entry q ∷ R.entry r ∷ []))) }
     ensures err { IfErr result (λ e. Refused (nested A.format (B.format ∷ C.format ∷ [])) (both (A.content first.old) (both (B.content second.old) (C.content third.old))) (both (A.content first.new) (both (B.content second.new) (C.content third.new))) (joined_entry (P.entry p) (Q.entry q ∷ R.entry r ∷ [])).rows e) }
+    ensures wanted { P.unbuffered × (Q.unbuffered × R.unbuffered) → IfErr result (WasFull (pair_room (A.room first.old) (pair_room (B.room second.old) (C.room third.old))) (joined_entry (P.entry p) (Q.entry q ∷ R.entry r ∷ [])).rows) }
+    ensures left { OnOk result (Leaves (pair_room (A.room first.old) (pair_room (B.room second.old) (C.room third.old))) (pair_room (A.room first.new) (pair_room (B.room second.new) (C.room third.new))) (joined_entry (P.entry p) (Q.entry q ∷ R.entry r ∷ [])).rows) }
 {
     let before = first.len();
     p.enter(first)?;

@@ -44,6 +44,8 @@ impl<'v, C: Stored> Column for Framed<'v, C> {
     ghost format = { byte_format C.format };
 
     ghost content = { framed_content };
+
+    ghost room = { λ c rs. ⊥ };
 }
 
 impl<'v, C: Stored> Stored for Framed<'v, C> {

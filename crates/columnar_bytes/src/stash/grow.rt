@@ -3,6 +3,7 @@ ghost use Rattle.std.specs.Prelude.{◌≡◌, ◌≢◌, ◌-◌, ◌≤◌, Li
 ghost use Rattle.std.specs.Iterator.{IsFinite, HoldsAlong, Drains, Yields};
 ghost use Rattle.columnar_core.specs.Format.{IsSound};
 ghost use Rattle.columnar_core.specs.Change.{Took, Copied, Refused, Stayed, StoppedAt, WasCut};
+ghost use Rattle.columnar_core.specs.Room.{WasFull, Leaves, Frees, rows_of_all};
 
 use super::{ByteStore, Stash};
 use columnar_core::bytes::Stored;
@@ -13,12 +14,13 @@ use std::alloc::Global;
 use std::ops::Range;
 
 impl<C: Stored + Storage, B: ByteStore> Clear for Stash<C, B> {
-    ghost use Rattle.columnar_bytes.specs.Stashes.{stash_content, variant_of, typed};
+    ghost use Rattle.columnar_bytes.specs.Stashes.{stash_content, stash_room, variant_of, typed};
 
     /// Removes all rows, and leaves a column; allocates nothing.
     fn clear(&mut self)
         ensures sound { IsSound C.format (stash_content self.new) }
         ensures rows { C.format.rows (stash_content self.new) ≡ [] }
+        ensures freed { Frees C.format (stash_content self.old) 0 (stash_room self.old) (stash_room self.new) }
         ensures variant { variant_of self.new ≡ typed }
     {
         match self {
@@ -36,7 +38,7 @@ impl<C: Stored + Storage, B: ByteStore> Clear for Stash<C, B> {
 }
 
 impl<T: Item + Drop, C: ContainerBytes + Drop + Push<T>, B: ByteStore> Push<T> for Stash<C, B> {
-    ghost use Rattle.columnar_bytes.specs.Stashes.{stash_content, variant_of, typed};
+    ghost use Rattle.columnar_bytes.specs.Stashes.{stash_content, stash_room, variant_of, typed};
 
     /// Pushes to the column; bytes are first loaded.
     ///
@@ -50,6 +52,8 @@ impl<T: Item + Drop, C: ContainerBytes + Drop + Push<T>, B: ByteStore> Push<T> f
         requires valid { T.valid item }
         ensures ok { OnOk result (Took C.format (stash_content self.old) (stash_content self.new) (T.meaning item ∷ [])) }
         ensures err { IfErr result (λ e. Refused C.format (stash_content self.old) (stash_content self.new) (T.meaning item ∷ []) e) }
+        ensures wanted { T.unbuffered → IfErr result (WasFull (stash_room self.old) (T.meaning item ∷ [])) }
+        ensures left { OnOk result (Leaves (stash_room self.old) (stash_room self.new) (T.meaning item ∷ [])) }
         ensures typed { OnOk result (variant_of self.new ≡ typed) }
         ensures variant { OnErr result (variant_of self.new ≡ variant_of self.old) }
         ensures bytes { OnErr result (variant_of self.old ≢ typed → self.new ≡ self.old) }
@@ -65,7 +69,7 @@ impl<T: Item + Drop, C: ContainerBytes + Drop + Push<T>, B: ByteStore> Push<T> f
 }
 
 impl<T: Item, C: ContainerBytes + Drop + PushRef<T>, B: ByteStore> PushRef<T> for Stash<C, B> {
-    ghost use Rattle.columnar_bytes.specs.Stashes.{stash_content, variant_of, typed};
+    ghost use Rattle.columnar_bytes.specs.Stashes.{stash_content, stash_room, variant_of, typed};
 
     /// Pushes by reference, as a push of `&T` does.
     ///
@@ -79,6 +83,8 @@ impl<T: Item, C: ContainerBytes + Drop + PushRef<T>, B: ByteStore> PushRef<T> fo
         requires valid { T.valid item.now }
         ensures ok { OnOk result (Took C.format (stash_content self.old) (stash_content self.new) (T.meaning item.now ∷ [])) }
         ensures err { IfErr result (λ e. Refused C.format (stash_content self.old) (stash_content self.new) (T.meaning item.now ∷ []) e) }
+        ensures wanted { T.unbuffered → IfErr result (WasFull (stash_room self.old) (T.meaning item.now ∷ [])) }
+        ensures left { OnOk result (Leaves (stash_room self.old) (stash_room self.new) (T.meaning item.now ∷ [])) }
         ensures typed { OnOk result (variant_of self.new ≡ typed) }
         ensures variant { OnErr result (variant_of self.new ≡ variant_of self.old) }
         ensures bytes { OnErr result (variant_of self.old ≢ typed → self.new ≡ self.old) }
@@ -94,7 +100,7 @@ impl<T: Item, C: ContainerBytes + Drop + PushRef<T>, B: ByteStore> PushRef<T> fo
 }
 
 impl<C: ContainerBytes + Drop, B: ByteStore> Stash<C, B> {
-    ghost use Rattle.columnar_bytes.specs.Stashes.{stash_content, variant_of, typed};
+    ghost use Rattle.columnar_bytes.specs.Stashes.{stash_content, stash_room, variant_of, typed};
 
     /// Makes a stash of a column without rows, with capacity for the rows of all views.
     ///
@@ -114,6 +120,7 @@ impl<C: ContainerBytes + Drop, B: ByteStore> Stash<C, B> {
         ensures variant { IfOk result (λ s. variant_of s ≡ typed) }
         ensures sound { IfOk result (λ s. IsSound C.format (stash_content s)) }
         ensures rows { IfOk result (λ s. C.format.rows (stash_content s) ≡ []) }
+        ensures room { IfOk result (λ s. (vs : List V) × (Drains I.next_gives views vs × (C.reserves → All (λ v. IsSound V.format (V.content v)) vs → stash_room s (rows_of_all V.format V.content vs)))) }
         ensures memory { IfErr result (λ e. e ≡ GrowError.Memory) }
     {
         let column = C::with_capacity_for(alloc, views)?;
@@ -137,6 +144,7 @@ impl<C: ContainerBytes + Drop, B: ByteStore> Stash<C, B> {
         requires callable { I.can_next views }
         requires finite { IsFinite (I.remaining views) }
         ensures stayed { Stayed C.format (stash_content self.old) (stash_content self.new) }
+        ensures room { OnOk result ((vs : List V) × (Drains I.next_gives views vs × (C.reserves → All (λ v. IsSound V.format (V.content v)) vs → stash_room self.new (rows_of_all V.format V.content vs)))) }
         ensures typed { OnOk result (variant_of self.new ≡ typed) }
         ensures variant { OnErr result (variant_of self.new ≡ variant_of self.old) }
         ensures bytes { OnErr result (variant_of self.old ≢ typed → self.new ≡ self.old) }
@@ -171,6 +179,8 @@ impl<C: ContainerBytes + Drop, B: ByteStore> Stash<C, B> {
         requires in_range { range.«end» ≤ length (V.format.rows (V.content view)) }
         ensures ok { OnOk result (Copied C.format (stash_content self.old) (stash_content self.new) range.start (take (range.«end» - range.start) (drop range.start (V.format.rows (V.content view))))) }
         ensures err { IfErr result (λ e. Refused C.format (stash_content self.old) (stash_content self.new) (take (range.«end» - range.start) (drop range.start (V.format.rows (V.content view)))) e) }
+        ensures wanted { IfErr result (WasFull (stash_room self.old) (take (range.«end» - range.start) (drop range.start (V.format.rows (V.content view))))) }
+        ensures left { OnOk result (Leaves (stash_room self.old) (stash_room self.new) (take (range.«end» - range.start) (drop range.start (V.format.rows (V.content view))))) }
         ensures typed { OnOk result (variant_of self.new ≡ typed) }
         ensures variant { OnErr result (variant_of self.new ≡ variant_of self.old) }
         ensures bytes { OnErr result (variant_of self.old ≢ typed → self.new ≡ self.old) }
@@ -186,7 +196,7 @@ impl<C: ContainerBytes + Drop, B: ByteStore> Stash<C, B> {
 }
 
 impl<C: ContainerBytes + Drop, B: ByteStore> Stash<C, B> {
-    ghost use Rattle.columnar_bytes.specs.Stashes.{stash_content, variant_of, typed};
+    ghost use Rattle.columnar_bytes.specs.Stashes.{stash_content, stash_room, variant_of, typed};
 
     /// Pushes the items in order. Once an item is taken, the stash is a column. Without items the variant stays, and
     /// bytes stay.
@@ -209,6 +219,8 @@ impl<C: ContainerBytes + Drop, B: ByteStore> Stash<C, B> {
         requires valid { HoldsAlong I.next_gives items (All T.valid) }
         ensures ok { OnOk result ((xs : List T) × (Drains I.next_gives items xs × Took C.format (stash_content self.old) (stash_content self.new) (map T.meaning xs))) }
         ensures err { IfErr result (λ e. (xs : List T) × (rest : I) × (Yields I.next_gives items xs rest × StoppedAt C.format (stash_content self.old) (stash_content self.new) (map T.meaning xs) e)) }
+        ensures wanted { T.unbuffered → IfErr result (λ e. (xs : List T) × (rest : I) × (Yields I.next_gives items xs rest × (StoppedAt C.format (stash_content self.old) (stash_content self.new) (map T.meaning xs) e × WasFull (stash_room self.old) (map T.meaning xs) e))) }
+        ensures left { OnOk result ((xs : List T) × (Drains I.next_gives items xs × (Took C.format (stash_content self.old) (stash_content self.new) (map T.meaning xs) × Leaves (stash_room self.old) (stash_room self.new) (map T.meaning xs)))) }
         ensures variant { C.format.rows (stash_content self.new) ≡ C.format.rows (stash_content self.old) → variant_of self.new ≡ variant_of self.old }
         ensures bytes { C.format.rows (stash_content self.new) ≡ C.format.rows (stash_content self.old) → variant_of self.old ≢ typed → self.new ≡ self.old }
         ensures typed { C.format.rows (stash_content self.new) ≢ C.format.rows (stash_content self.old) → variant_of self.new ≡ typed }
@@ -221,7 +233,7 @@ impl<C: ContainerBytes + Drop, B: ByteStore> Stash<C, B> {
 }
 
 impl<C: ContainerBytes + Truncate + Drop, B: ByteStore> Stash<C, B> {
-    ghost use Rattle.columnar_bytes.specs.Stashes.{stash_content, variant_of, typed};
+    ghost use Rattle.columnar_bytes.specs.Stashes.{stash_content, stash_room, variant_of, typed};
 
     /// Appends rows that represent the items, one each and in order, or none.
     ///
@@ -237,6 +249,8 @@ impl<C: ContainerBytes + Truncate + Drop, B: ByteStore> Stash<C, B> {
         requires valid { All T.valid items.now }
         ensures ok { OnOk result (Took C.format (stash_content self.old) (stash_content self.new) (map T.meaning items.now)) }
         ensures err { IfErr result (λ e. Refused C.format (stash_content self.old) (stash_content self.new) (map T.meaning items.now) e) }
+        ensures wanted { T.unbuffered → IfErr result (WasFull (stash_room self.old) (map T.meaning items.now)) }
+        ensures left { OnOk result (Leaves (stash_room self.old) (stash_room self.new) (map T.meaning items.now)) }
         ensures typed { OnOk result (variant_of self.new ≡ typed) }
         ensures variant { OnErr result (variant_of self.new ≡ variant_of self.old) }
         ensures bytes { OnErr result (variant_of self.old ≢ typed → self.new ≡ self.old) }
@@ -261,6 +275,7 @@ impl<C: ContainerBytes + Truncate + Drop, B: ByteStore> Stash<C, B> {
         requires sound { IsSound C.format (stash_content self.old) }
         requires in_range { n ≤ length (C.format.rows (stash_content self.old)) }
         ensures ok { OnOk result (WasCut C.format (stash_content self.old) (stash_content self.new) n) }
+        ensures freed { OnOk result (Frees C.format (stash_content self.old) n (stash_room self.old) (stash_room self.new)) }
         ensures typed { OnOk result (variant_of self.new ≡ typed) }
         ensures stays { OnErr result (self.new ≡ self.old) }
         ensures bytes { OnErr result (variant_of self.old ≢ typed) }

@@ -4,6 +4,7 @@ ghost use Rattle.std.specs.Iterator.{IsFinite, HoldsAlong, Drains, Yields};
 ghost use Rattle.columnar_base.specs.Row.{list, number};
 ghost use Rattle.columnar_base.specs.Format.{IsSound};
 ghost use Rattle.columnar_base.specs.Change.{Took, Refused, IsTrueOf};
+ghost use Rattle.columnar_base.specs.Room.{WasFull, Leaves};
 ghost use Rattle.columnar_lists.specs.Lists.{lists_format};
 
 use super::Vecs;
@@ -27,6 +28,8 @@ fn take_items<I: Iterator<Item: Item> + Drop, TC: Truncate + Push<I::Item>>(
     requires valid { HoldsAlong I.next_gives items (All I.Item.valid) }
     ensures ok { OnOk result ((xs : List I.Item) × (Drains I.next_gives items xs × Took TC.format (TC.content values.old) (TC.content values.new) (map I.Item.meaning xs))) }
     ensures err { IfErr result (λ e. (xs : List I.Item) × (rest : I) × (Yields I.next_gives items xs rest × Refused TC.format (TC.content values.old) (TC.content values.new) (map I.Item.meaning xs) e)) }
+    ensures wanted { I.Item.unbuffered → IfErr result (λ e. (xs : List I.Item) × (rest : I) × (Yields I.next_gives items xs rest × (Refused TC.format (TC.content values.old) (TC.content values.new) (map I.Item.meaning xs) e × WasFull (TC.room values.old) (map I.Item.meaning xs) e))) }
+    ensures left { OnOk result ((xs : List I.Item) × (Drains I.next_gives items xs × (Took TC.format (TC.content values.old) (TC.content values.new) (map I.Item.meaning xs) × Leaves (TC.room values.old) (TC.room values.new) (map I.Item.meaning xs)))) }
 {
     let before = values.len();
     match values.extend(items) {
@@ -58,6 +61,8 @@ impl<TC: Column, BC: Column> Vecs<TC, BC> {
         ensures ok { OnOk result ((xs : List I.Item) × (Drains I.next_gives items xs × Took (lists_format BC.format TC.format) (⟦<Vecs<TC, BC> as Column>⟧.content self.old) (⟦<Vecs<TC, BC> as Column>⟧.content self.new) (list (map I.Item.meaning xs) ∷ []))) }
         ensures err { IfErr result (λ e. (xs : List I.Item) × (rest : I) × (Yields I.next_gives items xs rest × Refused (lists_format BC.format TC.format) (⟦<Vecs<TC, BC> as Column>⟧.content self.old) (⟦<Vecs<TC, BC> as Column>⟧.content self.new) (list (map I.Item.meaning xs) ∷ []) e)) }
         ensures cause { IfErr result (λ e. (xs : List I.Item) × (((rest : I) × (Yields I.next_gives items xs rest × IsTrueOf e TC.format (TC.content self.old.values) (map I.Item.meaning xs))) ⊎ (Drains I.next_gives items xs × IsTrueOf e BC.format (BC.content self.old.bounds) (number (length (TC.format.rows (TC.content self.old.values)) + length xs) ∷ [])))) }
+        ensures wanted { I.Item.unbuffered → IfErr result (λ e. (xs : List I.Item) × (((rest : I) × (Yields I.next_gives items xs rest × WasFull (TC.room self.old.values) (map I.Item.meaning xs) e)) ⊎ (Drains I.next_gives items xs × WasFull (⟦<Vecs<TC, BC> as Column>⟧.room self.old) (list (map I.Item.meaning xs) ∷ []) e))) }
+        ensures left { OnOk result ((xs : List I.Item) × (Drains I.next_gives items xs × (Took (lists_format BC.format TC.format) (⟦<Vecs<TC, BC> as Column>⟧.content self.old) (⟦<Vecs<TC, BC> as Column>⟧.content self.new) (list (map I.Item.meaning xs) ∷ []) × Leaves (⟦<Vecs<TC, BC> as Column>⟧.room self.old) (⟦<Vecs<TC, BC> as Column>⟧.room self.new) (list (map I.Item.meaning xs) ∷ [])))) }
     {
         let before = self.values.len();
         take_items(&mut self.values, items)?;

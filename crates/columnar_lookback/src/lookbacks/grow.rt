@@ -5,6 +5,7 @@ ghost use Rattle.std.specs.Int.{to_le_bytes, w8};
 ghost use Rattle.columnar_base.specs.Row.{number};
 ghost use Rattle.columnar_base.specs.Format.{IsSound};
 ghost use Rattle.columnar_base.specs.Change.{Took, Copied, Refused};
+ghost use Rattle.columnar_core.specs.Room.{WasFull, Leaves};
 ghost use Rattle.columnar_base.specs.Elements.{elements, bytes_format};
 ghost use Rattle.columnar_base.specs.Numbers.{unsigned_row_of};
 ghost use Rattle.columnar_lookback.specs.Lookbacks.{lookbacks_format, kept_rows, nearest, nearest_each, owned_lookbacks, values_back, viewed_lookbacks};
@@ -14,7 +15,7 @@ use super::Lookbacks;
 use crate::same::SameAs;
 use columnar_base::fault::GrowError;
 use columnar_base::storage::{Reserve, Storage, Truncate};
-use columnar_base::traits::{Clear, Index, Item, Len, Push, PushRef};
+use columnar_base::traits::{Clear, Column, Index, Item, Len, Push, PushRef};
 use columnar_base::tuple::taken_back;
 use columnar_base::view::View;
 use columnar_core::container::{Borrow, Container, ExtendFrom, Reborrow};
@@ -57,6 +58,10 @@ impl<TC: Storage, const N: u8> Storage for Lookbacks<TC, N, Vec<u8>, Vec<u64>, V
 impl<TC: Reserve, const N: u8> Reserve for Lookbacks<TC, N, Vec<u8>, Vec<u64>, Vec<u64>, [u64; 2]> {
     type Room = <Inner<TC> as Reserve>::Room;
 
+    ghost reserves = { ⊥ };
+
+    ghost covers = { λ r rs. ⊥ };
+
     fn no_room() -> <Inner<TC> as Reserve>::Room {
         Inner::<TC>::no_room()
     }
@@ -78,6 +83,8 @@ impl<T: Item + Drop, TC: Truncate + Push<T> + SameAs<T>, const N: u8> Push<T>
         requires valid { T.valid item }
         ensures ok { OnOk result (Took (lookbacks_format TC.format bytes_format) (owned_lookbacks TC.content self.old.inner) (owned_lookbacks TC.content self.new.inner) (T.meaning item ∷ [])) }
         ensures err { IfErr result (λ e. Refused (lookbacks_format TC.format bytes_format) (owned_lookbacks TC.content self.old.inner) (owned_lookbacks TC.content self.new.inner) (T.meaning item ∷ []) e) }
+        ensures wanted { IfErr result (WasFull (⟦<Lookbacks<TC, N, Vec<u8>, Vec<u64>, Vec<u64>, [u64; 2]> as Column>⟧.room self.old) (T.meaning item ∷ [])) }
+        ensures left { OnOk result (Leaves (⟦<Lookbacks<TC, N, Vec<u8>, Vec<u64>, Vec<u64>, [u64; 2]> as Column>⟧.room self.old) (⟦<Lookbacks<TC, N, Vec<u8>, Vec<u64>, Vec<u64>, [u64; 2]> as Column>⟧.room self.new) (T.meaning item ∷ [])) }
         ensures stored { OnOk result (length (TC.format.rows (TC.content self.new.inner.oks)) ≡ length (TC.format.rows (TC.content self.old.inner.oks)) + cond (is_none (nearest TC.format.kin N (values_back TC.format (owned_lookbacks TC.content self.old.inner)) (T.meaning item))) 1 0) }
         ensures distance { OnOk result (IfSome (nearest TC.format.kin N (values_back TC.format (owned_lookbacks TC.content self.old.inner)) (T.meaning item)) (λ m. bytes_format.rows (elements (to_le_bytes w8) self.new.inner.errs.items) ≡ bytes_format.rows (elements (to_le_bytes w8) self.old.inner.errs.items) ++ number m ∷ [])) }
         ensures kept { OnOk result (kept_rows TC.format (owned_lookbacks TC.content self.new.inner) ≡ kept_rows TC.format (owned_lookbacks TC.content self.old.inner) ++ nearest TC.format.kin N (values_back TC.format (owned_lookbacks TC.content self.old.inner)) (T.meaning item) ∷ []) }
@@ -101,6 +108,8 @@ impl<T: Item, TC: Truncate + PushRef<T> + SameAs<T>, const N: u8> PushRef<T>
         requires valid { T.valid item.now }
         ensures ok { OnOk result (Took (lookbacks_format TC.format bytes_format) (owned_lookbacks TC.content self.old.inner) (owned_lookbacks TC.content self.new.inner) (T.meaning item.now ∷ [])) }
         ensures err { IfErr result (λ e. Refused (lookbacks_format TC.format bytes_format) (owned_lookbacks TC.content self.old.inner) (owned_lookbacks TC.content self.new.inner) (T.meaning item.now ∷ []) e) }
+        ensures wanted { IfErr result (WasFull (⟦<Lookbacks<TC, N, Vec<u8>, Vec<u64>, Vec<u64>, [u64; 2]> as Column>⟧.room self.old) (T.meaning item.now ∷ [])) }
+        ensures left { OnOk result (Leaves (⟦<Lookbacks<TC, N, Vec<u8>, Vec<u64>, Vec<u64>, [u64; 2]> as Column>⟧.room self.old) (⟦<Lookbacks<TC, N, Vec<u8>, Vec<u64>, Vec<u64>, [u64; 2]> as Column>⟧.room self.new) (T.meaning item.now ∷ [])) }
         ensures stored { OnOk result (length (TC.format.rows (TC.content self.new.inner.oks)) ≡ length (TC.format.rows (TC.content self.old.inner.oks)) + cond (is_none (nearest TC.format.kin N (values_back TC.format (owned_lookbacks TC.content self.old.inner)) (T.meaning item.now))) 1 0) }
         ensures distance { OnOk result (IfSome (nearest TC.format.kin N (values_back TC.format (owned_lookbacks TC.content self.old.inner)) (T.meaning item.now)) (λ m. bytes_format.rows (elements (to_le_bytes w8) self.new.inner.errs.items) ≡ bytes_format.rows (elements (to_le_bytes w8) self.old.inner.errs.items) ++ number m ∷ [])) }
         ensures kept { OnOk result (kept_rows TC.format (owned_lookbacks TC.content self.new.inner) ≡ kept_rows TC.format (owned_lookbacks TC.content self.old.inner) ++ nearest TC.format.kin N (values_back TC.format (owned_lookbacks TC.content self.old.inner)) (T.meaning item.now) ∷ []) }
@@ -145,6 +154,8 @@ impl<
         requires in_range { range.«end» ≤ length ((lookbacks_format V.format bytes_format).rows (viewed_lookbacks V.content view.inner.indexes view.inner.oks view.inner.errs.now)) }
         ensures ok { OnOk result (Copied (lookbacks_format TC.format bytes_format) (owned_lookbacks TC.content self.old.inner) (owned_lookbacks TC.content self.new.inner) range.start (take (range.«end» - range.start) (drop range.start ((lookbacks_format V.format bytes_format).rows (viewed_lookbacks V.content view.entry.inner.indexes view.entry.inner.oks view.entry.inner.errs.now))))) }
         ensures err { IfErr result (λ e. Refused (lookbacks_format TC.format bytes_format) (owned_lookbacks TC.content self.old.inner) (owned_lookbacks TC.content self.new.inner) (take (range.«end» - range.start) (drop range.start ((lookbacks_format V.format bytes_format).rows (viewed_lookbacks V.content view.entry.inner.indexes view.entry.inner.oks view.entry.inner.errs.now)))) e) }
+        ensures wanted { IfErr result (WasFull (⟦<Lookbacks<TC, N, Vec<u8>, Vec<u64>, Vec<u64>, [u64; 2]> as Column>⟧.room self.old) (take (range.«end» - range.start) (drop range.start ((lookbacks_format V.format bytes_format).rows (viewed_lookbacks V.content view.entry.inner.indexes view.entry.inner.oks view.entry.inner.errs.now))))) }
+        ensures left { OnOk result (Leaves (⟦<Lookbacks<TC, N, Vec<u8>, Vec<u64>, Vec<u64>, [u64; 2]> as Column>⟧.room self.old) (⟦<Lookbacks<TC, N, Vec<u8>, Vec<u64>, Vec<u64>, [u64; 2]> as Column>⟧.room self.new) (take (range.«end» - range.start) (drop range.start ((lookbacks_format V.format bytes_format).rows (viewed_lookbacks V.content view.entry.inner.indexes view.entry.inner.oks view.entry.inner.errs.now))))) }
         ensures kept { OnOk result (((lookbacks_format TC.format bytes_format).rows (owned_lookbacks TC.content self.old.inner) ≡ [] → range.start ≢ 0) → kept_rows TC.format (owned_lookbacks TC.content self.new.inner) ≡ kept_rows TC.format (owned_lookbacks TC.content self.old.inner) ++ nearest_each TC.format.kin N (values_back TC.format (owned_lookbacks TC.content self.old.inner)) (take (range.«end» - range.start) (drop range.start ((lookbacks_format V.format bytes_format).rows (viewed_lookbacks V.content view.entry.inner.indexes view.entry.inner.oks view.entry.inner.errs.now))))) }
         ensures front { OnOk result ((lookbacks_format TC.format bytes_format).rows (owned_lookbacks TC.content self.old.inner) ≡ [] → range.start ≡ 0 → kept_rows TC.format (owned_lookbacks TC.content self.new.inner) ≡ take (range.«end» - range.start) (drop range.start (kept_rows V.format (viewed_lookbacks V.content view.entry.inner.indexes view.entry.inner.oks view.entry.inner.errs.now)))) }
     {

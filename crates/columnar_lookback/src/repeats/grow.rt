@@ -3,6 +3,7 @@ ghost use Rattle.std.specs.Prelude.{◌≡◌, ◌≢◌, ◌<◌, ◌≤◌, �
 ghost use Rattle.columnar_base.specs.Row.{Row};
 ghost use Rattle.columnar_base.specs.Format.{IsSound};
 ghost use Rattle.columnar_base.specs.Change.{Took, Copied, Refused};
+ghost use Rattle.columnar_core.specs.Room.{WasFull, Leaves};
 ghost use Rattle.columnar_sums.specs.Options.{options_format};
 ghost use Rattle.columnar_lookback.specs.Repeats.{last_is, owned_repeats, viewed_repeats, repeats_format, values_between};
 ghost use Rattle.columnar_lookback.specs.RepeatLaws.{repeats_lawful, same_repeats};
@@ -11,7 +12,7 @@ use super::Repeats;
 use crate::same::SameAs;
 use columnar_base::fault::GrowError;
 use columnar_base::storage::{Reserve, Storage, Truncate};
-use columnar_base::traits::{Clear, Index, Item, Len, Push, PushRef};
+use columnar_base::traits::{Clear, Column, Index, Item, Len, Push, PushRef};
 use columnar_base::tuple::taken_back;
 use columnar_base::view::View;
 use columnar_core::container::{Borrow, Container, ExtendFrom, Reborrow};
@@ -55,6 +56,10 @@ impl<TC: Storage> Storage for Repeats<TC, Vec<u64>, Vec<u64>, [u64; 2]> {
 impl<TC: Reserve> Reserve for Repeats<TC, Vec<u64>, Vec<u64>, [u64; 2]> {
     type Room = <Inner<TC> as Reserve>::Room;
 
+    ghost reserves = { ⊥ };
+
+    ghost covers = { λ r rs. ⊥ };
+
     fn no_room() -> <Inner<TC> as Reserve>::Room {
         Inner::<TC>::no_room()
     }
@@ -76,6 +81,8 @@ impl<T: Item + Drop, TC: Truncate + Push<T> + SameAs<T>> Push<T>
         requires valid { T.valid item }
         ensures ok { OnOk result (Took (repeats_format TC.format) (owned_repeats TC.content self.old.inner) (owned_repeats TC.content self.new.inner) (T.meaning item ∷ [])) }
         ensures err { IfErr result (λ e. Refused (repeats_format TC.format) (owned_repeats TC.content self.old.inner) (owned_repeats TC.content self.new.inner) (T.meaning item ∷ []) e) }
+        ensures wanted { IfErr result (WasFull (⟦<Repeats<TC, Vec<u64>, Vec<u64>, [u64; 2]> as Column>⟧.room self.old) (T.meaning item ∷ [])) }
+        ensures left { OnOk result (Leaves (⟦<Repeats<TC, Vec<u64>, Vec<u64>, [u64; 2]> as Column>⟧.room self.old) (⟦<Repeats<TC, Vec<u64>, Vec<u64>, [u64; 2]> as Column>⟧.room self.new) (T.meaning item ∷ [])) }
         ensures stored { OnOk result (length (TC.format.rows (TC.content self.new.inner.somes)) ≡ length (TC.format.rows (TC.content self.old.inner.somes)) + cond (last_is TC.format.kin ((repeats_format TC.format).rows (owned_repeats TC.content self.old.inner)) (T.meaning item)) 0 1) }
         ensures value { OnOk result (last_is TC.format.kin ((repeats_format TC.format).rows (owned_repeats TC.content self.old.inner)) (T.meaning item) ≡ false → Took TC.format (TC.content self.old.inner.somes) (TC.content self.new.inner.somes) (T.meaning item ∷ [])) }
     {
@@ -98,6 +105,8 @@ impl<T: Item, TC: Truncate + PushRef<T> + SameAs<T>> PushRef<T>
         requires valid { T.valid item.now }
         ensures ok { OnOk result (Took (repeats_format TC.format) (owned_repeats TC.content self.old.inner) (owned_repeats TC.content self.new.inner) (T.meaning item.now ∷ [])) }
         ensures err { IfErr result (λ e. Refused (repeats_format TC.format) (owned_repeats TC.content self.old.inner) (owned_repeats TC.content self.new.inner) (T.meaning item.now ∷ []) e) }
+        ensures wanted { IfErr result (WasFull (⟦<Repeats<TC, Vec<u64>, Vec<u64>, [u64; 2]> as Column>⟧.room self.old) (T.meaning item.now ∷ [])) }
+        ensures left { OnOk result (Leaves (⟦<Repeats<TC, Vec<u64>, Vec<u64>, [u64; 2]> as Column>⟧.room self.old) (⟦<Repeats<TC, Vec<u64>, Vec<u64>, [u64; 2]> as Column>⟧.room self.new) (T.meaning item.now ∷ [])) }
         ensures stored { OnOk result (length (TC.format.rows (TC.content self.new.inner.somes)) ≡ length (TC.format.rows (TC.content self.old.inner.somes)) + cond (last_is TC.format.kin ((repeats_format TC.format).rows (owned_repeats TC.content self.old.inner)) (T.meaning item.now)) 0 1) }
         ensures value { OnOk result (last_is TC.format.kin ((repeats_format TC.format).rows (owned_repeats TC.content self.old.inner)) (T.meaning item.now) ≡ false → Took TC.format (TC.content self.old.inner.somes) (TC.content self.new.inner.somes) (T.meaning item.now ∷ [])) }
     {
@@ -137,6 +146,8 @@ impl<'x, V: Index + Copy, TC: ExtendFrom<V> + Push<V::Ref> + SameAs<V::Ref>> Ext
         requires in_range { range.«end» ≤ length ((repeats_format V.format).rows (viewed_repeats V.content view.inner)) }
         ensures ok { OnOk result (Copied (repeats_format TC.format) (owned_repeats TC.content self.old.inner) (owned_repeats TC.content self.new.inner) range.start (take (range.«end» - range.start) (drop range.start ((repeats_format V.format).rows (viewed_repeats V.content view.entry.inner))))) }
         ensures err { IfErr result (λ e. Refused (repeats_format TC.format) (owned_repeats TC.content self.old.inner) (owned_repeats TC.content self.new.inner) (take (range.«end» - range.start) (drop range.start ((repeats_format V.format).rows (viewed_repeats V.content view.entry.inner)))) e) }
+        ensures wanted { IfErr result (WasFull (⟦<Repeats<TC, Vec<u64>, Vec<u64>, [u64; 2]> as Column>⟧.room self.old) (take (range.«end» - range.start) (drop range.start ((repeats_format V.format).rows (viewed_repeats V.content view.entry.inner))))) }
+        ensures left { OnOk result (Leaves (⟦<Repeats<TC, Vec<u64>, Vec<u64>, [u64; 2]> as Column>⟧.room self.old) (⟦<Repeats<TC, Vec<u64>, Vec<u64>, [u64; 2]> as Column>⟧.room self.new) (take (range.«end» - range.start) (drop range.start ((repeats_format V.format).rows (viewed_repeats V.content view.entry.inner))))) }
         ensures stored { OnOk result (length (TC.format.rows (TC.content self.new.inner.somes)) ≤ length (TC.format.rows (TC.content self.old.inner.somes)) + (values_between ((options_format V.format).rows (viewed_repeats V.content view.entry.inner)) range.start range.«end» + 1)) }
         ensures counted { OnOk result ((r : Row) → range.start < range.«end» → slice_get ((repeats_format V.format).rows (viewed_repeats V.content view.entry.inner)) range.start ≡ Some r → ((repeats_format TC.format).rows (owned_repeats TC.content self.old.inner) ≡ [] → range.start ≢ 0) → length (TC.format.rows (TC.content self.new.inner.somes)) ≡ length (TC.format.rows (TC.content self.old.inner.somes)) + cond (last_is TC.format.kin ((repeats_format TC.format).rows (owned_repeats TC.content self.old.inner)) r) 0 1 + values_between ((options_format V.format).rows (viewed_repeats V.content view.entry.inner)) (range.start + 1) range.«end») }
         ensures front { OnOk result ((repeats_format TC.format).rows (owned_repeats TC.content self.old.inner) ≡ [] → range.start ≡ 0 → length (TC.format.rows (TC.content self.new.inner.somes)) ≡ values_between ((options_format V.format).rows (viewed_repeats V.content view.entry.inner)) 0 range.«end») }

@@ -1,5 +1,8 @@
 // Made by .ci/widths.py: change .ci/widths/names.template, and not this file.
 //! Names of the slices of tuples of nine columns.
+ghost use Rattle.std.specs.Prelude.{◌++◌};
+ghost use Rattle.columnar_names.specs.Names.{field_path};
+
 use crate::names::{NamedParts, Numbered, PartNames, SliceNames, push_field};
 use columnar_base::fault::GrowError;
 use std::alloc::Global;
@@ -15,6 +18,8 @@ impl<
     H: SliceNames,
     I: SliceNames,
 > NamedParts for (A, B, C, D, E, F, G, H, I) {
+    ghost parts_at = { λ n p. A.names_at (field_path p (n 0)) ++ (B.names_at (field_path p (n 1)) ++ (C.names_at (field_path p (n 2)) ++ (D.names_at (field_path p (n 3)) ++ (E.names_at (field_path p (n 4)) ++ (F.names_at (field_path p (n 5)) ++ (G.names_at (field_path p (n 6)) ++ (H.names_at (field_path p (n 7)) ++ (I.names_at (field_path p (n 8)))))))))) };
+
     fn push_parts_names<N: PartNames>(
         alloc: Global,
         path: &str,
@@ -44,6 +49,8 @@ impl<
     H: SliceNames,
     I: SliceNames,
 > SliceNames for (A, B, C, D, E, F, G, H, I) {
+    ghost names_at = { ⟦<(A, B, C, D, E, F, G, H, I) as NamedParts>⟧.parts_at ⟦<Numbered as PartNames>⟧.name_of };
+
     fn push_names(alloc: Global, path: &str, names: &mut Vec<String>) -> Result<(), GrowError> {
         Self::push_parts_names::<Numbered>(alloc, path, names)
     }

@@ -1,5 +1,8 @@
 // Made by .ci/widths.py: change .ci/widths/names.template, and not this file.
 //! Names of the slices of tuples of six columns.
+ghost use Rattle.std.specs.Prelude.{◌++◌};
+ghost use Rattle.columnar_names.specs.Names.{field_path};
+
 use crate::names::{NamedParts, Numbered, PartNames, SliceNames, push_field};
 use columnar_base::fault::GrowError;
 use std::alloc::Global;
@@ -12,6 +15,8 @@ impl<
     E: SliceNames,
     F: SliceNames,
 > NamedParts for (A, B, C, D, E, F) {
+    ghost parts_at = { λ n p. A.names_at (field_path p (n 0)) ++ (B.names_at (field_path p (n 1)) ++ (C.names_at (field_path p (n 2)) ++ (D.names_at (field_path p (n 3)) ++ (E.names_at (field_path p (n 4)) ++ (F.names_at (field_path p (n 5))))))) };
+
     fn push_parts_names<N: PartNames>(
         alloc: Global,
         path: &str,
@@ -35,6 +40,8 @@ impl<
     E: SliceNames,
     F: SliceNames,
 > SliceNames for (A, B, C, D, E, F) {
+    ghost names_at = { ⟦<(A, B, C, D, E, F) as NamedParts>⟧.parts_at ⟦<Numbered as PartNames>⟧.name_of };
+
     fn push_names(alloc: Global, path: &str, names: &mut Vec<String>) -> Result<(), GrowError> {
         Self::push_parts_names::<Numbered>(alloc, path, names)
     }

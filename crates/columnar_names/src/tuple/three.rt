@@ -1,10 +1,15 @@
 // Made by .ci/widths.py: change .ci/widths/names.template, and not this file.
 //! Names of the slices of tuples of three columns.
+ghost use Rattle.std.specs.Prelude.{◌++◌};
+ghost use Rattle.columnar_names.specs.Names.{field_path};
+
 use crate::names::{NamedParts, Numbered, PartNames, SliceNames, push_field};
 use columnar_base::fault::GrowError;
 use std::alloc::Global;
 
 impl<A: SliceNames, B: SliceNames, C: SliceNames> NamedParts for (A, B, C) {
+    ghost parts_at = { λ n p. A.names_at (field_path p (n 0)) ++ (B.names_at (field_path p (n 1)) ++ (C.names_at (field_path p (n 2)))) };
+
     fn push_parts_names<N: PartNames>(
         alloc: Global,
         path: &str,
@@ -18,6 +23,8 @@ impl<A: SliceNames, B: SliceNames, C: SliceNames> NamedParts for (A, B, C) {
 }
 
 impl<A: SliceNames, B: SliceNames, C: SliceNames> SliceNames for (A, B, C) {
+    ghost names_at = { ⟦<(A, B, C) as NamedParts>⟧.parts_at ⟦<Numbered as PartNames>⟧.name_of };
+
     fn push_names(alloc: Global, path: &str, names: &mut Vec<String>) -> Result<(), GrowError> {
         Self::push_parts_names::<Numbered>(alloc, path, names)
     }

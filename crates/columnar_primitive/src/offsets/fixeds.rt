@@ -7,6 +7,7 @@ ghost use Rattle.columnar_core.specs.Elements.{word_row};
 ghost use Rattle.columnar_core.specs.Faults.{verdict};
 ghost use Rattle.columnar_core.specs.Bounds.{numbers, shifted};
 ghost use Rattle.columnar_core.specs.Change.{Copied, Refused, Took};
+ghost use Rattle.columnar_core.specs.Room.{WasFull, Leaves};
 ghost use Rattle.columnar_primitive.specs.Held.{counted};
 ghost use Rattle.columnar_primitive.specs.Fixed.{fixed_broken, fixed_format, fixed_rows, passes, strays, IsFixedCause, IsLimit};
 ghost use Rattle.columnar_primitive.specs.Tried.{Tried};
@@ -20,7 +21,7 @@ use columnar_core::container::{
 };
 use columnar_core::earlier::Kept;
 use columnar_core::fault::{GrowError, StoreFault};
-use columnar_core::offsets::{ExtendShifted, Offsets, PushAfter, StoredOffsets};
+use columnar_core::offsets::{ExtendShifted, Offsets, PushAfter, ReserveOffsets, StoredOffsets};
 use columnar_core::store::{DecodedStore, word_in_bytes};
 use columnar_core::tally::Tally;
 use columnar_core::traits::{Clear, Column, Index, Len, Push, PushRef};
@@ -41,6 +42,8 @@ impl<const K: u64, CC: Words> Column for Fixeds<K, CC> {
     ghost format = { fixed_format K };
 
     ghost content = { λ c. slice (CC.bytes c.count) };
+
+    ghost room = { λ c rs. Unit {0} };
 }
 
 impl<const K: u64, CC: Words> Len for Fixeds<K, CC> {
@@ -92,6 +95,10 @@ impl<const K: u64> Storage for Fixeds<K, u64> {
 impl<const K: u64> Reserve for Fixeds<K, u64> {
     type Room = ();
 
+    ghost reserves = { Unit {0} };
+
+    ghost covers = { λ r rs. Unit {0} };
+
     fn no_room() -> () {
         ()
     }
@@ -139,6 +146,8 @@ impl<const K: u64> Push<u64> for Fixeds<K, u64> {
         requires sound { IsSound (fixed_format K) (counted self.old.count) }
         ensures ok { OnOk result (Took (fixed_format K) (counted self.old.count) (counted self.new.count) (word_row item ∷ [])) }
         ensures err { IfErr result (λ e. Refused (fixed_format K) (counted self.old.count) (counted self.new.count) (word_row item ∷ []) e) }
+        ensures wanted { IfErr result (WasFull (⟦<Fixeds<K, u64> as Column>⟧.room self.old) (word_row item ∷ [])) }
+        ensures left { OnOk result (Leaves (⟦<Fixeds<K, u64> as Column>⟧.room self.old) (⟦<Fixeds<K, u64> as Column>⟧.room self.new) (word_row item ∷ [])) }
         ensures limit { IfErr result IsLimit }
         ensures length { (result ≡ Err GrowError.Length) ↔ IsTrue (passes K (self.old.count + 1)) }
         ensures offset { (result ≡ Err GrowError.Offset) ↔ (IsFalse (passes K (self.old.count + 1)) × (item ≡ K * (self.old.count + 1) → ⊥)) }
@@ -160,6 +169,8 @@ impl<'x, const K: u64> Push<&'x u64> for Fixeds<K, u64> {
         requires sound { IsSound (fixed_format K) (counted self.old.count) }
         ensures ok { OnOk result (Took (fixed_format K) (counted self.old.count) (counted self.new.count) (word_row item.now ∷ [])) }
         ensures err { IfErr result (λ e. Refused (fixed_format K) (counted self.old.count) (counted self.new.count) (word_row item.now ∷ []) e) }
+        ensures wanted { IfErr result (WasFull (⟦<Fixeds<K, u64> as Column>⟧.room self.old) (word_row item.now ∷ [])) }
+        ensures left { OnOk result (Leaves (⟦<Fixeds<K, u64> as Column>⟧.room self.old) (⟦<Fixeds<K, u64> as Column>⟧.room self.new) (word_row item.now ∷ [])) }
         ensures limit { IfErr result IsLimit }
         ensures length { (result ≡ Err GrowError.Length) ↔ IsTrue (passes K (self.old.count + 1)) }
         ensures offset { (result ≡ Err GrowError.Offset) ↔ (IsFalse (passes K (self.old.count + 1)) × (item.now ≡ K * (self.old.count + 1) → ⊥)) }
@@ -180,6 +191,8 @@ impl<const K: u64> PushRef<u64> for Fixeds<K, u64> {
         requires sound { IsSound (fixed_format K) (counted self.old.count) }
         ensures ok { OnOk result (Took (fixed_format K) (counted self.old.count) (counted self.new.count) (word_row item.now ∷ [])) }
         ensures err { IfErr result (λ e. Refused (fixed_format K) (counted self.old.count) (counted self.new.count) (word_row item.now ∷ []) e) }
+        ensures wanted { IfErr result (WasFull (⟦<Fixeds<K, u64> as Column>⟧.room self.old) (word_row item.now ∷ [])) }
+        ensures left { OnOk result (Leaves (⟦<Fixeds<K, u64> as Column>⟧.room self.old) (⟦<Fixeds<K, u64> as Column>⟧.room self.new) (word_row item.now ∷ [])) }
         ensures limit { IfErr result IsLimit }
         ensures length { (result ≡ Err GrowError.Length) ↔ IsTrue (passes K (self.old.count + 1)) }
         ensures offset { (result ≡ Err GrowError.Offset) ↔ (IsFalse (passes K (self.old.count + 1)) × (item.now ≡ K * (self.old.count + 1) → ⊥)) }
@@ -212,6 +225,8 @@ impl<'x, const K: u64> ExtendFrom<Fixeds<K, View<'x, u64>>> for Fixeds<K, u64> {
         requires in_range { range.«end» ≤ length (fixed_rows K (⟦<Fixeds<K, View<'x, u64>> as Column>⟧.content view)) }
         ensures ok { OnOk result (Copied (fixed_format K) (counted self.old.count) (counted self.new.count) range.start (take (range.«end» - range.start) (drop range.start (fixed_rows K (⟦<Fixeds<K, View<'x, u64>> as Column>⟧.content view.entry))))) }
         ensures err { IfErr result (λ e. Refused (fixed_format K) (counted self.old.count) (counted self.new.count) (take (range.«end» - range.start) (drop range.start (fixed_rows K (⟦<Fixeds<K, View<'x, u64>> as Column>⟧.content view.entry)))) e) }
+        ensures wanted { IfErr result (WasFull (⟦<Fixeds<K, u64> as Column>⟧.room self.old) (take (range.«end» - range.start) (drop range.start (fixed_rows K (⟦<Fixeds<K, View<'x, u64>> as Column>⟧.content view.entry))))) }
+        ensures left { OnOk result (Leaves (⟦<Fixeds<K, u64> as Column>⟧.room self.old) (⟦<Fixeds<K, u64> as Column>⟧.room self.new) (take (range.«end» - range.start) (drop range.start (fixed_rows K (⟦<Fixeds<K, View<'x, u64>> as Column>⟧.content view.entry))))) }
         ensures limit { IfErr result IsLimit }
         ensures count { OnOk result (self.new.count ≡ self.old.count + (range.«end» - range.start)) }
         ensures count_stays { OnErr result (self.new.count ≡ self.old.count) }
@@ -361,12 +376,20 @@ impl<const K: u64> PushAfter for Fixeds<K, u64> {
         requires sound { IsSound (fixed_format K) (counted self.old.count) }
         ensures ok { OnOk result (Took (fixed_format K) (counted self.old.count) (counted self.new.count) (word_row offset ∷ [])) }
         ensures err { IfErr result (λ e. Refused (fixed_format K) (counted self.old.count) (counted self.new.count) (word_row offset ∷ []) e) }
+        ensures wanted { IfErr result (WasFull (⟦<Fixeds<K, u64> as Column>⟧.room self.old) (word_row offset ∷ [])) }
+        ensures left { OnOk result (Leaves (⟦<Fixeds<K, u64> as Column>⟧.room self.old) (⟦<Fixeds<K, u64> as Column>⟧.room self.new) (word_row offset ∷ [])) }
         ensures limit { IfErr result IsLimit }
         ensures length { (result ≡ Err GrowError.Length) ↔ IsTrue (passes K (self.old.count + 1)) }
         ensures offset { (result ≡ Err GrowError.Offset) ↔ (IsFalse (passes K (self.old.count + 1)) × (offset ≡ K * (self.old.count + 1) → ⊥)) }
     {
         Push::<u64>::push(self, offset)
     }
+}
+
+impl<const K: u64> ReserveOffsets for Fixeds<K, u64> {
+    ghost follow = { λ column room last os e h c. tt };
+
+    ghost add = { λ room more os others f c. tt };
 }
 
 impl<const K: u64, W: Offsets> ExtendShifted<W> for Fixeds<K, u64> {
@@ -393,6 +416,8 @@ impl<const K: u64, W: Offsets> ExtendShifted<W> for Fixeds<K, u64> {
         requires held { (i n : ℕ) → range.start ≤ i → i < range.«end» → slice_get (numbers (W.format.rows (W.content view.now))) i ≡ Some n → (lower ≤ n) × (start + (n - lower) < 2 ^ 64) }
         ensures ok { OnOk result (Took (fixed_format K) (counted self.old.count) (counted self.new.count) (take (range.«end» - range.start) (drop range.start (shifted lower start (numbers (W.format.rows (W.content view.now))))))) }
         ensures err { IfErr result (λ e. Refused (fixed_format K) (counted self.old.count) (counted self.new.count) (take (range.«end» - range.start) (drop range.start (shifted lower start (numbers (W.format.rows (W.content view.now)))))) e) }
+        ensures wanted { IfErr result (WasFull (⟦<Fixeds<K, u64> as Column>⟧.room self.old) (take (range.«end» - range.start) (drop range.start (shifted lower start (numbers (W.format.rows (W.content view.now))))))) }
+        ensures left { OnOk result (Leaves (⟦<Fixeds<K, u64> as Column>⟧.room self.old) (⟦<Fixeds<K, u64> as Column>⟧.room self.new) (take (range.«end» - range.start) (drop range.start (shifted lower start (numbers (W.format.rows (W.content view.now))))))) }
         ensures limit { IfErr result IsLimit }
         ensures count_stays { OnErr result (self.new.count ≡ self.old.count) }
         ensures turns { tally.new.turns ≤ tally.old.turns + (range.«end» - range.start) }

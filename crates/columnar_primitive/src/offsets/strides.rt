@@ -7,6 +7,7 @@ ghost use Rattle.columnar_core.specs.Elements.{word_row};
 ghost use Rattle.columnar_core.specs.Faults.{verdict};
 ghost use Rattle.columnar_core.specs.Bounds.{rises, numbers, shifted};
 ghost use Rattle.columnar_core.specs.Change.{Copied, Refused, Stayed, Took, WasCut};
+ghost use Rattle.columnar_core.specs.Room.{WasFull, Leaves, Frees, KeepsRoom};
 ghost use Rattle.columnar_primitive.specs.Stride.{strides_format, strides_broken, strides_rows, bounds_rows, strided, head_and_bounds, follows, joins, grown, head_pushed, bounds_pushed, offsets_in, head_extended, bounds_extended, all_join, head_cut, bounds_cut};
 ghost use Rattle.columnar_primitive.specs.StrideLaws.{strides_lawful, strides_storable, strides_bounds};
 
@@ -17,7 +18,7 @@ use columnar_core::container::{
 };
 use columnar_core::earlier::Kept;
 use columnar_core::fault::{GrowError, StoreFault};
-use columnar_core::offsets::{ExtendShifted, Offsets, PushAfter, StoredOffsets};
+use columnar_core::offsets::{ExtendShifted, Offsets, PushAfter, ReserveOffsets, StoredOffsets};
 use columnar_core::store::{DecodedStore, word_in_bytes};
 use columnar_core::tally::Tally;
 use columnar_core::traits::{Clear, Column, Index, Len, Push, PushRef};
@@ -40,6 +41,8 @@ impl<BC: Words, HC: Words> Column for Strides<BC, HC> {
     ghost format = { strides_format };
 
     ghost content = { λ c. both (slice (HC.bytes c.head)) (slice (BC.bytes c.bounds)) };
+
+    ghost room = { λ c rs. ⊥ };
 }
 
 impl<BC: Words, HC: Words> Len for Strides<BC, HC> {
@@ -250,6 +253,7 @@ impl Clear for Strides<Vec<u64>, [u64; 2]> {
         ensures sound { IsSound strides_format (head_and_bounds self.new.head self.new.bounds.items) }
         ensures rows { strides_rows (head_and_bounds self.new.head self.new.bounds.items) ≡ [] }
         ensures head { self.new.head ≡ 0 ∷ 0 ∷ [] }
+        ensures freed { Frees strides_format (head_and_bounds self.old.head self.old.bounds.items) 0 (⟦<Strides<Vec<u64>, [u64; 2]> as Column>⟧.room self.old) (⟦<Strides<Vec<u64>, [u64; 2]> as Column>⟧.room self.new) }
         ensures bounds { self.new.bounds.items ≡ [] }
     {
         Strides::clear(self);
@@ -267,6 +271,7 @@ impl Truncate for Strides<Vec<u64>, [u64; 2]> {
         requires sound { IsSound strides_format (head_and_bounds self.old.head self.old.bounds.items) }
         requires in_range { n ≤ length (strides_rows (head_and_bounds self.old.head self.old.bounds.items)) }
         ensures cut { WasCut strides_format (head_and_bounds self.old.head self.old.bounds.items) (head_and_bounds self.new.head self.new.bounds.items) n }
+        ensures freed { Frees strides_format (head_and_bounds self.old.head self.old.bounds.items) n (⟦<Strides<Vec<u64>, [u64; 2]> as Column>⟧.room self.old) (⟦<Strides<Vec<u64>, [u64; 2]> as Column>⟧.room self.new) }
         ensures head { self.new.head ≡ head_cut self.old.head n }
         ensures bounds { self.new.bounds.items ≡ bounds_cut self.old.head self.old.bounds.items n }
     {
@@ -297,6 +302,10 @@ impl Storage for Strides<Vec<u64>, [u64; 2]> {
 impl Reserve for Strides<Vec<u64>, [u64; 2]> {
     type Room = usize;
 
+    ghost reserves = { ⊥ };
+
+    ghost covers = { λ r rs. ⊥ };
+
     fn no_room() -> usize {
         0
     }
@@ -310,6 +319,7 @@ impl Reserve for Strides<Vec<u64>, [u64; 2]> {
     /// `Memory`, and no other error.
     fn reserve_room(&mut self, room: usize) -> Result<(), GrowError>
         requires { IsSound strides_format (head_and_bounds self.old.head self.old.bounds.items) }
+        ensures room { OnOk result (⊥ → KeepsRoom (λ rs. ⊥) (⟦<Strides<Vec<u64>, [u64; 2]> as Column>⟧.room self.new)) }
         ensures stayed { Stayed strides_format (head_and_bounds self.old.head self.old.bounds.items) (head_and_bounds self.new.head self.new.bounds.items) }
         ensures head_stays { self.new.head ≡ self.old.head }
         ensures bounds_stay { self.new.bounds.items ≡ self.old.bounds.items }
@@ -332,6 +342,8 @@ impl Push<u64> for Strides<Vec<u64>, [u64; 2]> {
         requires sound { IsSound strides_format (head_and_bounds self.old.head self.old.bounds.items) }
         ensures ok { OnOk result (Took strides_format (head_and_bounds self.old.head self.old.bounds.items) (head_and_bounds self.new.head self.new.bounds.items) (word_row item ∷ [])) }
         ensures err { IfErr result (λ e. Refused strides_format (head_and_bounds self.old.head self.old.bounds.items) (head_and_bounds self.new.head self.new.bounds.items) (word_row item ∷ []) e) }
+        ensures wanted { IfErr result (WasFull (⟦<Strides<Vec<u64>, [u64; 2]> as Column>⟧.room self.old) (word_row item ∷ [])) }
+        ensures left { OnOk result (Leaves (⟦<Strides<Vec<u64>, [u64; 2]> as Column>⟧.room self.old) (⟦<Strides<Vec<u64>, [u64; 2]> as Column>⟧.room self.new) (word_row item ∷ [])) }
         ensures head { OnOk result (self.new.head ≡ head_pushed self.old.head self.old.bounds.items item) }
         ensures bounds { OnOk result (self.new.bounds.items ≡ bounds_pushed self.old.head self.old.bounds.items item) }
         ensures head_stays { OnErr result (self.new.head ≡ self.old.head) }
@@ -355,6 +367,8 @@ impl<'x> Push<&'x u64> for Strides<Vec<u64>, [u64; 2]> {
         requires sound { IsSound strides_format (head_and_bounds self.old.head self.old.bounds.items) }
         ensures ok { OnOk result (Took strides_format (head_and_bounds self.old.head self.old.bounds.items) (head_and_bounds self.new.head self.new.bounds.items) (word_row item.now ∷ [])) }
         ensures err { IfErr result (λ e. Refused strides_format (head_and_bounds self.old.head self.old.bounds.items) (head_and_bounds self.new.head self.new.bounds.items) (word_row item.now ∷ []) e) }
+        ensures wanted { IfErr result (WasFull (⟦<Strides<Vec<u64>, [u64; 2]> as Column>⟧.room self.old) (word_row item.now ∷ [])) }
+        ensures left { OnOk result (Leaves (⟦<Strides<Vec<u64>, [u64; 2]> as Column>⟧.room self.old) (⟦<Strides<Vec<u64>, [u64; 2]> as Column>⟧.room self.new) (word_row item.now ∷ [])) }
         ensures head { OnOk result (self.new.head ≡ head_pushed self.old.head self.old.bounds.items item.now) }
         ensures bounds { OnOk result (self.new.bounds.items ≡ bounds_pushed self.old.head self.old.bounds.items item.now) }
         ensures head_stays { OnErr result (self.new.head ≡ self.old.head) }
@@ -378,6 +392,8 @@ impl PushRef<u64> for Strides<Vec<u64>, [u64; 2]> {
         requires sound { IsSound strides_format (head_and_bounds self.old.head self.old.bounds.items) }
         ensures ok { OnOk result (Took strides_format (head_and_bounds self.old.head self.old.bounds.items) (head_and_bounds self.new.head self.new.bounds.items) (word_row item.now ∷ [])) }
         ensures err { IfErr result (λ e. Refused strides_format (head_and_bounds self.old.head self.old.bounds.items) (head_and_bounds self.new.head self.new.bounds.items) (word_row item.now ∷ []) e) }
+        ensures wanted { IfErr result (WasFull (⟦<Strides<Vec<u64>, [u64; 2]> as Column>⟧.room self.old) (word_row item.now ∷ [])) }
+        ensures left { OnOk result (Leaves (⟦<Strides<Vec<u64>, [u64; 2]> as Column>⟧.room self.old) (⟦<Strides<Vec<u64>, [u64; 2]> as Column>⟧.room self.new) (word_row item.now ∷ [])) }
         ensures head { OnOk result (self.new.head ≡ head_pushed self.old.head self.old.bounds.items item.now) }
         ensures bounds { OnOk result (self.new.bounds.items ≡ bounds_pushed self.old.head self.old.bounds.items item.now) }
         ensures head_stays { OnErr result (self.new.head ≡ self.old.head) }
@@ -413,6 +429,8 @@ impl<'x> ExtendFrom<Strides<View<'x, u64>, View<'x, u64>>> for Strides<Vec<u64>,
         requires in_range { range.«end» ≤ length (strides_rows (⟦<Strides<View<'x, u64>, View<'x, u64>> as Column>⟧.content view)) }
         ensures ok { OnOk result (Copied strides_format (head_and_bounds self.old.head self.old.bounds.items) (head_and_bounds self.new.head self.new.bounds.items) range.start (take (range.«end» - range.start) (drop range.start (strides_rows (⟦<Strides<View<'x, u64>, View<'x, u64>> as Column>⟧.content view.entry))))) }
         ensures err { IfErr result (λ e. Refused strides_format (head_and_bounds self.old.head self.old.bounds.items) (head_and_bounds self.new.head self.new.bounds.items) (take (range.«end» - range.start) (drop range.start (strides_rows (⟦<Strides<View<'x, u64>, View<'x, u64>> as Column>⟧.content view.entry)))) e) }
+        ensures wanted { IfErr result (WasFull (⟦<Strides<Vec<u64>, [u64; 2]> as Column>⟧.room self.old) (take (range.«end» - range.start) (drop range.start (strides_rows (⟦<Strides<View<'x, u64>, View<'x, u64>> as Column>⟧.content view.entry))))) }
+        ensures left { OnOk result (Leaves (⟦<Strides<Vec<u64>, [u64; 2]> as Column>⟧.room self.old) (⟦<Strides<Vec<u64>, [u64; 2]> as Column>⟧.room self.new) (take (range.«end» - range.start) (drop range.start (strides_rows (⟦<Strides<View<'x, u64>, View<'x, u64>> as Column>⟧.content view.entry))))) }
         ensures head { OnOk result (self.new.head ≡ head_extended self.old.head self.old.bounds.items (offsets_in (⟦<Strides<View<'x, u64>, View<'x, u64>> as Column>⟧.content view.entry) range.start range.«end»)) }
         ensures bounds { OnOk result (self.new.bounds.items ≡ bounds_extended self.old.head self.old.bounds.items (offsets_in (⟦<Strides<View<'x, u64>, View<'x, u64>> as Column>⟧.content view.entry) range.start range.«end»)) }
         ensures head_stays { OnErr result (self.new.head ≡ self.old.head) }
@@ -613,6 +631,8 @@ impl PushAfter for Strides<Vec<u64>, [u64; 2]> {
         requires sound { IsSound strides_format (head_and_bounds self.old.head self.old.bounds.items) }
         ensures ok { OnOk result (Took strides_format (head_and_bounds self.old.head self.old.bounds.items) (head_and_bounds self.new.head self.new.bounds.items) (word_row offset ∷ [])) }
         ensures err { IfErr result (λ e. Refused strides_format (head_and_bounds self.old.head self.old.bounds.items) (head_and_bounds self.new.head self.new.bounds.items) (word_row offset ∷ []) e) }
+        ensures wanted { IfErr result (WasFull (⟦<Strides<Vec<u64>, [u64; 2]> as Column>⟧.room self.old) (word_row offset ∷ [])) }
+        ensures left { OnOk result (Leaves (⟦<Strides<Vec<u64>, [u64; 2]> as Column>⟧.room self.old) (⟦<Strides<Vec<u64>, [u64; 2]> as Column>⟧.room self.new) (word_row offset ∷ [])) }
         ensures head { OnOk result (self.new.head ≡ head_pushed self.old.head self.old.bounds.items offset) }
         ensures bounds { OnOk result (self.new.bounds.items ≡ bounds_pushed self.old.head self.old.bounds.items offset) }
         ensures head_stays { OnErr result (self.new.head ≡ self.old.head) }
@@ -622,6 +642,12 @@ impl PushAfter for Strides<Vec<u64>, [u64; 2]> {
     {
         Push::<u64>::push(self, offset)
     }
+}
+
+impl ReserveOffsets for Strides<Vec<u64>, [u64; 2]> {
+    ghost follow = { λ column room last os e h c. c };
+
+    ghost add = { λ room more os others f c. c };
 }
 
 impl<W: Offsets> ExtendShifted<W> for Strides<Vec<u64>, [u64; 2]> {
@@ -649,6 +675,8 @@ impl<W: Offsets> ExtendShifted<W> for Strides<Vec<u64>, [u64; 2]> {
         requires held { (i n : ℕ) → range.start ≤ i → i < range.«end» → slice_get (numbers (W.format.rows (W.content view.now))) i ≡ Some n → (lower ≤ n) × (start + (n - lower) < 2 ^ 64) }
         ensures ok { OnOk result (Took strides_format (head_and_bounds self.old.head self.old.bounds.items) (head_and_bounds self.new.head self.new.bounds.items) (take (range.«end» - range.start) (drop range.start (shifted lower start (numbers (W.format.rows (W.content view.now))))))) }
         ensures err { IfErr result (λ e. Refused strides_format (head_and_bounds self.old.head self.old.bounds.items) (head_and_bounds self.new.head self.new.bounds.items) (take (range.«end» - range.start) (drop range.start (shifted lower start (numbers (W.format.rows (W.content view.now)))))) e) }
+        ensures wanted { IfErr result (WasFull (⟦<Strides<Vec<u64>, [u64; 2]> as Column>⟧.room self.old) (take (range.«end» - range.start) (drop range.start (shifted lower start (numbers (W.format.rows (W.content view.now))))))) }
+        ensures left { OnOk result (Leaves (⟦<Strides<Vec<u64>, [u64; 2]> as Column>⟧.room self.old) (⟦<Strides<Vec<u64>, [u64; 2]> as Column>⟧.room self.new) (take (range.«end» - range.start) (drop range.start (shifted lower start (numbers (W.format.rows (W.content view.now))))))) }
         ensures head { OnOk result (self.new.head ≡ head_extended self.old.head self.old.bounds.items (numbers (take (range.«end» - range.start) (drop range.start (shifted lower start (numbers (W.format.rows (W.content view.now)))))))) }
         ensures bounds { OnOk result (self.new.bounds.items ≡ bounds_extended self.old.head self.old.bounds.items (numbers (take (range.«end» - range.start) (drop range.start (shifted lower start (numbers (W.format.rows (W.content view.now)))))))) }
         ensures head_stays { OnErr result (self.new.head ≡ self.old.head) }

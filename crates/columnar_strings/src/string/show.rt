@@ -1,6 +1,9 @@
 //! The displayed text of a value, as a string.
-ghost use Rattle.std.specs.Prelude.{◌≡◌, ◌++◌, IfOk, IfErr, OnOk, IfSome};
+ghost use Rattle.std.specs.Prelude.{◌≡◌, ℕ, List, [], ◌∷◌, ◌++◌, IfOk, IfErr, OnOk, IfSome};
+ghost use Rattle.columnar_base.specs.Change.{Took};
 ghost use Rattle.columnar_base.specs.Format.{both, IsSound};
+ghost use Rattle.columnar_base.specs.Room.{Leaves};
+ghost use Rattle.columnar_base.specs.Texts.{text_row};
 ghost use Rattle.columnar_strings.specs.Strings.{AddsShown, IsUnshown, RefusesShown, Shows, strings_format};
 
 use super::Strings;
@@ -65,6 +68,7 @@ impl<BC: Offsets + PushAfter> Strings<BC, Vec<u8>> {
         requires sound { IsSound (strings_format BC.format) (⟦<Strings<BC, Vec<u8>> as Column>⟧.content self.old) }
         ensures ok { OnOk result (AddsShown (strings_format BC.format) (⟦<Strings<BC, Vec<u8>> as Column>⟧.content self.old) (⟦<Strings<BC, Vec<u8>> as Column>⟧.content self.new) (D.output value.now)) }
         ensures err { IfErr result (RefusesShown (strings_format BC.format) (⟦<Strings<BC, Vec<u8>> as Column>⟧.content self.old) (⟦<Strings<BC, Vec<u8>> as Column>⟧.content self.new) (D.output value.now)) }
+        ensures left { OnOk result ((text : List ℕ) × (Shows (D.output value.now) text × (Took (strings_format BC.format) (⟦<Strings<BC, Vec<u8>> as Column>⟧.content self.old) (⟦<Strings<BC, Vec<u8>> as Column>⟧.content self.new) (text_row text ∷ []) × Leaves (⟦<Strings<BC, Vec<u8>> as Column>⟧.room self.old) (⟦<Strings<BC, Vec<u8>> as Column>⟧.room self.new) (text_row text ∷ [])))) }
     {
         let text = text_of(*self.values.allocator(), value)?;
         push_list(&mut self.bounds, &mut self.values, text.as_slice())

@@ -19,6 +19,9 @@ impl<'x, D: Display> Item for Shown<'x, D> {
     ghost meaning = { λ s. text_row (shown_text (D.output s.0.now)) };
 
     ghost valid = { λ s. IsSome (D.output s.0.now) };
+
+    // a push makes the text in a buffer first
+    ghost unbuffered = { ⊥ };
 }
 
 /// If the value itself fails to display, the error is `Memory`.

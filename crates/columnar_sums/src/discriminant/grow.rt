@@ -9,6 +9,7 @@ ghost use Rattle.columnar_core.specs.Elements.{word_row};
 ghost use Rattle.columnar_core.specs.WordViews.{words_in, le_bytes};
 ghost use Rattle.columnar_base.specs.Numbers.{unsigned_row};
 ghost use Rattle.columnar_core.specs.Change.{Refused, Stayed, Took, WasCut};
+ghost use Rattle.columnar_core.specs.Room.{Frees, KeepsRoom};
 ghost use Rattle.columnar_sums.specs.Discriminants.{discriminant_format, owned_forms, variants_of, times, sole};
 ghost use Rattle.columnar_sums.specs.DiscriminantLaws.{discriminant_lawful};
 
@@ -16,7 +17,7 @@ use super::Discriminant;
 use super::bytes::variant_at;
 use columnar_core::container::{Borrow, Reborrow, Reserve, Storage, Truncate};
 use columnar_core::fault::GrowError;
-use columnar_core::traits::{Clear, Len};
+use columnar_core::traits::{Clear, Column, Len};
 use columnar_core::view::View;
 use columnar_core::words::Words;
 use std::alloc::Global;
@@ -213,6 +214,7 @@ impl Clear for Discriminant<Vec<u8>, Vec<u64>> {
     fn clear(&mut self)
         ensures sound { IsSound discriminant_format (owned_forms self.new.variant.items self.new.offset.items) }
         ensures rows { discriminant_format.rows (owned_forms self.new.variant.items self.new.offset.items) ≡ [] }
+        ensures freed { Frees discriminant_format (owned_forms self.old.variant.items self.old.offset.items) 0 (⟦<Discriminant<Vec<u8>, Vec<u64>> as Column>⟧.room self.old) (⟦<Discriminant<Vec<u8>, Vec<u64>> as Column>⟧.room self.new) }
         ensures none { variants_of (owned_forms self.new.variant.items self.new.offset.items) ≡ [] }
         ensures variants { self.new.variant.items ≡ [] }
         ensures offsets { self.new.offset.items ≡ [] }
@@ -234,6 +236,7 @@ impl Truncate for Discriminant<Vec<u8>, Vec<u64>> {
         requires sound { IsSound discriminant_format (owned_forms self.old.variant.items self.old.offset.items) }
         requires in_range { n ≤ length (discriminant_format.rows (owned_forms self.old.variant.items self.old.offset.items)) }
         ensures cut { WasCut discriminant_format (owned_forms self.old.variant.items self.old.offset.items) (owned_forms self.new.variant.items self.new.offset.items) n }
+        ensures freed { Frees discriminant_format (owned_forms self.old.variant.items self.old.offset.items) n (⟦<Discriminant<Vec<u8>, Vec<u64>> as Column>⟧.room self.old) (⟦<Discriminant<Vec<u8>, Vec<u64>> as Column>⟧.room self.new) }
         ensures variants { variants_of (owned_forms self.new.variant.items self.new.offset.items) ≡ take n (variants_of (owned_forms self.old.variant.items self.old.offset.items)) }
         ensures none { n ≡ 0 → (self.new.variant.items ≡ []) × (self.new.offset.items ≡ []) }
         ensures one { IfSome (sole (take n (variants_of (owned_forms self.old.variant.items self.old.offset.items)))) (λ v. (self.new.variant.items ≡ []) × (words_in (le_bytes self.new.offset.items) ≡ (v + 1) ∷ n ∷ [])) }
@@ -280,6 +283,10 @@ impl Storage for Discriminant<Vec<u8>, Vec<u64>> {
 impl Reserve for Discriminant<Vec<u8>, Vec<u64>> {
     type Room = (usize, usize);
 
+    ghost reserves = { ⊥ };
+
+    ghost covers = { λ r rs. ⊥ };
+
     fn no_room() -> (usize, usize) {
         (0, 0)
     }
@@ -290,6 +297,7 @@ impl Reserve for Discriminant<Vec<u8>, Vec<u64>> {
     /// The column is well-formed.
     fn reserve_room(&mut self, room: (usize, usize)) -> Result<(), GrowError>
         requires { IsSound discriminant_format (owned_forms self.old.variant.items self.old.offset.items) }
+        ensures room { OnOk result (⊥ → KeepsRoom (λ rs. ⊥) (⟦<Discriminant<Vec<u8>, Vec<u64>> as Column>⟧.room self.new)) }
         ensures stayed { Stayed discriminant_format (owned_forms self.old.variant.items self.old.offset.items) (owned_forms self.new.variant.items self.new.offset.items) }
         ensures variants_stay { self.new.variant.items ≡ self.old.variant.items }
         ensures offsets_stay { self.new.offset.items ≡ self.old.offset.items }

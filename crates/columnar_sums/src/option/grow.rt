@@ -1,5 +1,7 @@
 //! Growth and truncation of columns of options.
 ghost use Rattle.columnar_sums.specs.OptionLaws.{options_lawful, same_options};
+ghost use Rattle.columnar_core.specs.Room.{up_to_count};
+ghost use Rattle.columnar_sums.specs.Rooms.{options_room};
 
 use super::Options;
 use crate::marked::{push_marked, push_ref_marked};
@@ -50,6 +52,10 @@ impl<TC: Storage> Storage for Options<TC, Vec<u64>, Vec<u64>, [u64; 2]> {
 
 impl<TC: Reserve> Reserve for Options<TC, Vec<u64>, Vec<u64>, [u64; 2]> {
     type Room = (<Held as Reserve>::Room, TC::Room);
+
+    ghost reserves = { TC.reserves };
+
+    ghost covers = { λ r. options_room (up_to_count r.0) (TC.covers r.1) };
 
     fn no_room() -> (<Held as Reserve>::Room, TC::Room) {
         (<Held as Reserve>::no_room(), TC::no_room())

@@ -1,5 +1,5 @@
 //! Growth and truncation of bit vectors with counts.
-ghost use Rattle.std.specs.Prelude.{◌≡◌, ◌+◌, ◌-◌, ◌*◌, ◌/◌, ◌%◌, ◌^◌, ◌<◌, ◌≤◌, [], ◌∷◌, ◌++◌, length, slice_range, OnOk, OnErr, IfOk, IfErr, IsOk, refl};
+ghost use Rattle.std.specs.Prelude.{◌≡◌, ◌+◌, ◌-◌, ◌*◌, ◌/◌, ◌%◌, ◌^◌, ◌<◌, ◌≤◌, [], ◌∷◌, ◌++◌, length, slice_range, vec_capacity, OnOk, OnErr, IfOk, IfErr, IsOk, refl};
 ghost use Rattle.columnar_core.specs.Row.{truth};
 ghost use Rattle.columnar_core.specs.Format.{IsSound};
 ghost use Rattle.columnar_core.specs.Change.{Refused, Stayed, Took};
@@ -8,10 +8,13 @@ ghost use Rattle.columnar_bits.specs.BoolColumns.{bools_format, owned_content, o
 ghost use Rattle.columnar_sums.specs.Counting.{CountWords, count_before};
 ghost use Rattle.columnar_sums.specs.RankColumns.{ranks_format, bits_ranked, IsRanked, owned_ranks, ranked_bits};
 ghost use Rattle.columnar_sums.specs.RankLaws.{ranks_lawful};
+ghost use Rattle.columnar_core.specs.Room.{WasFull, Leaves, up_to_count};
+ghost use Rattle.columnar_bits.specs.Rooms.{count_room};
+ghost use Rattle.columnar_sums.specs.Rooms.{held_top};
 
 use super::RankSelect;
 use super::search::one_of;
-use columnar_bits::bools::Bools;
+use columnar_bits::bools::{Bools, most_bits};
 use columnar_core::container::{Borrow, ExtendFrom, Reborrow, Reserve, Storage, Truncate};
 use columnar_core::fault::GrowError;
 use columnar_core::tally::Tally;
@@ -53,6 +56,8 @@ fn count_on<L>(
     ensures ok { OnOk result (CountWords (bit_words (view_bytes values.entry) (view_bytes tail.entry)) (words_in (le_bytes counts.new.items)) × (length counts.new.items ≡ length (view_words values.entry) / 16)) }
     ensures err { OnErr result (counts.new.items ≡ counts.old.items) }
     ensures memory { IfErr result (λ e. e ≡ GrowError.Memory) }
+    ensures full { OnErr result (vec_capacity counts.old < length (view_words values.entry) / 16) }
+    ensures capacity { vec_capacity counts.old ≤ vec_capacity counts.new }
     ensures turns { tally.new.turns + 17 * length counts.old.items ≤ tally.old.turns + 17 * (length (view_words values.entry) / 16) }
 {
     let before = Vec::len(counts);
@@ -108,6 +113,8 @@ impl Held {
         ensures length { result ≡ Err GrowError.Length → 2 ^ 64 ≤ length (ranked_bits self.old) + 1 }
         ensures full { 2 ^ 64 ≤ length (ranked_bits self.old) + 1 → result ≡ Err GrowError.Length }
         ensures kinds { IfErr result IsOfGrowth }
+        ensures wanted { result ≡ Err GrowError.Memory → held_top self.old ≤ length (ranked_bits self.old) + 1 }
+        ensures capacity { (vec_capacity self.old.values.values ≤ vec_capacity self.new.values.values) × (vec_capacity self.old.counts ≤ vec_capacity self.new.counts) }
         ensures no_memory { length (ranked_bits self.old) % 64 < 63 → IsOk result }
         ensures sound { IsSound ranks_format (owned_ranks self.new) }
     {
@@ -133,6 +140,8 @@ impl Held {
         ensures length { result.1 ≡ Err GrowError.Length → 2 ^ 64 ≤ length (ranked_bits self) + 1 }
         ensures full { 2 ^ 64 ≤ length (ranked_bits self) + 1 → result.1 ≡ Err GrowError.Length }
         ensures kinds { IfErr result.1 IsOfGrowth }
+        ensures wanted { result.1 ≡ Err GrowError.Memory → held_top self ≤ length (ranked_bits self) + 1 }
+        ensures capacity { (vec_capacity self.values.values ≤ vec_capacity result.0.values.values) × (vec_capacity self.counts ≤ vec_capacity result.0.counts) }
         ensures no_memory { length (ranked_bits self) % 64 < 63 → IsOk result.1 }
         ensures sound { IsSound ranks_format (owned_ranks result.0) }
     {
@@ -149,6 +158,8 @@ impl Held {
         ensures length { result ≡ Err GrowError.Length → 2 ^ 64 ≤ length (ranked_bits self.old) + 1 }
         ensures full { 2 ^ 64 ≤ length (ranked_bits self.old) + 1 → result ≡ Err GrowError.Length }
         ensures kinds { IfErr result IsOfGrowth }
+        ensures wanted { result ≡ Err GrowError.Memory → held_top self.old ≤ length (ranked_bits self.old) + 1 }
+        ensures capacity { (vec_capacity self.old.values.values ≤ vec_capacity self.new.values.values) × (vec_capacity self.old.counts ≤ vec_capacity self.new.counts) }
         ensures no_memory { length (ranked_bits self.old) % 64 < 63 → IsOk result }
         ensures sound { IsSound ranks_format (owned_ranks self.new) }
     {
@@ -171,6 +182,8 @@ impl Held {
         ensures length { result ≡ Err GrowError.Length → 2 ^ 64 ≤ length (ranked_bits self.old) + 1 }
         ensures full { 2 ^ 64 ≤ length (ranked_bits self.old) + 1 → result ≡ Err GrowError.Length }
         ensures kinds { IfErr result IsOfGrowth }
+        ensures wanted { result ≡ Err GrowError.Memory → held_top self.old ≤ length (ranked_bits self.old) + 1 }
+        ensures capacity { (vec_capacity self.old.values.values ≤ vec_capacity self.new.values.values) × (vec_capacity self.old.counts ≤ vec_capacity self.new.counts) }
         ensures sound { IsSound ranks_format (owned_ranks self.new) }
     {
         let len = self.values.len();
@@ -208,6 +221,8 @@ impl Held {
         ensures length { result ≡ Err GrowError.Length → 2 ^ 64 ≤ length (ranked_bits self.old) + (range.«end» - range.start) }
         ensures full { 2 ^ 64 ≤ length (ranked_bits self.old) + (range.«end» - range.start) → result ≡ Err GrowError.Length }
         ensures kinds { IfErr result IsOfGrowth }
+        ensures wanted { result ≡ Err GrowError.Memory → held_top self.old ≤ length (ranked_bits self.old) + (range.«end» - range.start) }
+        ensures capacity { OnOk result ((vec_capacity self.old.values.values ≤ vec_capacity self.new.values.values) × (vec_capacity self.old.counts ≤ vec_capacity self.new.counts)) }
         ensures sound { IsSound ranks_format (owned_ranks self.new) }
         ensures turns { tally.new.turns ≤ tally.old.turns + ((range.«end» - range.start) / 16 + 64) }
     {
@@ -261,15 +276,28 @@ impl Storage for Held {
 }
 
 impl Reserve for Held {
-    type Room = (usize, usize);
+    type Room = usize;
 
-    fn no_room() -> (usize, usize) {
-        (0, 0)
+    ghost reserves = { Unit {0} };
+
+    ghost covers = { up_to_count };
+
+    fn no_room() -> usize {
+        0
     }
 
-    fn reserve_room(&mut self, room: (usize, usize)) -> Result<(), GrowError> {
-        self.counts.reserve(room.0)?;
-        self.values.values.reserve(room.1)?;
+    /// Reserves capacity for `room` bits: for the words and the counts that they complete.
+    fn reserve_room(&mut self, room: usize) -> Result<(), GrowError> {
+        // no column has so many bits: a saturated sum
+        if room == usize::MAX {
+            return Err(GrowError::Memory);
+        }
+        let held = self.values.len();
+        self.counts
+            .reserve(room / 1024 + (room % 1024 + held % 1024) / 1024)?;
+        self.values
+            .values
+            .reserve(room / 64 + (room % 64 + held % 64) / 64)?;
         Ok(())
     }
 }
@@ -280,6 +308,8 @@ impl Push<bool> for Held {
         requires sound { IsSound ranks_format (owned_ranks self.old) }
         ensures ok { OnOk result (Took ranks_format (owned_ranks self.old) (owned_ranks self.new) (truth item ∷ [])) }
         ensures err { IfErr result (λ e. Refused ranks_format (owned_ranks self.old) (owned_ranks self.new) (truth item ∷ []) e) }
+        ensures wanted { IfErr result (WasFull (count_room (length (ranked_bits self.old)) (held_top self.old)) (truth item ∷ [])) }
+        ensures left { OnOk result (Leaves (count_room (length (ranked_bits self.old)) (held_top self.old)) (count_room (length (ranked_bits self.new)) (held_top self.new)) (truth item ∷ [])) }
         ensures memory { result ≡ Err GrowError.Memory → length (ranked_bits self.old) % 64 ≡ 63 }
     {
         self.push_bit(item)
@@ -292,6 +322,8 @@ impl<'x> Push<&'x bool> for Held {
         requires sound { IsSound ranks_format (owned_ranks self.old) }
         ensures ok { OnOk result (Took ranks_format (owned_ranks self.old) (owned_ranks self.new) (truth item.now ∷ [])) }
         ensures err { IfErr result (λ e. Refused ranks_format (owned_ranks self.old) (owned_ranks self.new) (truth item.now ∷ []) e) }
+        ensures wanted { IfErr result (WasFull (count_room (length (ranked_bits self.old)) (held_top self.old)) (truth item.now ∷ [])) }
+        ensures left { OnOk result (Leaves (count_room (length (ranked_bits self.old)) (held_top self.old)) (count_room (length (ranked_bits self.new)) (held_top self.new)) (truth item.now ∷ [])) }
         ensures memory { result ≡ Err GrowError.Memory → length (ranked_bits self.old) % 64 ≡ 63 }
     {
         self.push_ref(item)
@@ -304,6 +336,8 @@ impl PushRef<bool> for Held {
         requires sound { IsSound ranks_format (owned_ranks self.old) }
         ensures ok { OnOk result (Took ranks_format (owned_ranks self.old) (owned_ranks self.new) (truth item.now ∷ [])) }
         ensures err { IfErr result (λ e. Refused ranks_format (owned_ranks self.old) (owned_ranks self.new) (truth item.now ∷ []) e) }
+        ensures wanted { IfErr result (WasFull (count_room (length (ranked_bits self.old)) (held_top self.old)) (truth item.now ∷ [])) }
+        ensures left { OnOk result (Leaves (count_room (length (ranked_bits self.old)) (held_top self.old)) (count_room (length (ranked_bits self.new)) (held_top self.new)) (truth item.now ∷ [])) }
         ensures memory { result ≡ Err GrowError.Memory → length (ranked_bits self.old) % 64 ≡ 63 }
     {
         self.push_bit(*item)
@@ -311,11 +345,8 @@ impl PushRef<bool> for Held {
 }
 
 impl<'x> ExtendFrom<Viewed<'x>> for Held {
-    fn add_room(room: (usize, usize), view: Viewed<'x>) -> (usize, usize) {
-        (
-            room.0.saturating_add(word_count(view.counts)),
-            room.1.saturating_add(word_count(view.values.values)),
-        )
+    fn add_room(room: usize, view: Viewed<'x>) -> usize {
+        room.saturating_add(most_bits(view.values.values, view.values.tail))
     }
 
     fn extend_from_self(&mut self, view: Viewed<'x>, range: Range<usize>) -> Result<(), GrowError> {

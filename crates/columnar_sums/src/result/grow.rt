@@ -1,4 +1,6 @@
 //! Growth and truncation of columns of results.
+ghost use Rattle.columnar_core.specs.Room.{up_to_count};
+ghost use Rattle.columnar_sums.specs.Rooms.{results_room};
 ghost use Rattle.columnar_sums.specs.ResultLaws.{results_lawful, same_results};
 
 use super::Results;
@@ -54,6 +56,10 @@ impl<SC: Storage, TC: Storage> Storage for Results<SC, TC, Vec<u64>, Vec<u64>, [
 
 impl<SC: Reserve, TC: Reserve> Reserve for Results<SC, TC, Vec<u64>, Vec<u64>, [u64; 2]> {
     type Room = (<Held as Reserve>::Room, SC::Room, TC::Room);
+
+    ghost reserves = { SC.reserves × TC.reserves };
+
+    ghost covers = { λ r. results_room (up_to_count r.0) (SC.covers r.1) (TC.covers r.2) };
 
     fn no_room() -> (<Held as Reserve>::Room, SC::Room, TC::Room) {
         (<Held as Reserve>::no_room(), SC::no_room(), TC::no_room())

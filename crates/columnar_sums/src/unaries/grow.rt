@@ -1,19 +1,23 @@
 //! Growth and truncation of offsets in unary.
-ghost use Rattle.std.specs.Prelude.{◌≡◌, ℕ, ◌+◌, ◌-◌, ◌*◌, ◌/◌, ◌%◌, ◌^◌, ◌<◌, ◌≤◌, [], ◌∷◌, ◌++◌, length, take, drop, slice_get, slice_range, Some, true, OnOk, OnErr, IfErr, refl};
+ghost use Rattle.std.specs.Prelude.{◌≡◌, ℕ, ◌+◌, ◌-◌, ◌*◌, ◌/◌, ◌%◌, ◌^◌, ◌<◌, ◌≤◌, [], ◌∷◌, ◌++◌, length, take, drop, slice_get, slice_range, vec_capacity, Some, true, OnOk, OnErr, IfErr, refl};
 ghost use Rattle.columnar_core.specs.Format.{IsSound};
 ghost use Rattle.columnar_core.specs.Change.{Stayed, Took, Copied, Refused};
+ghost use Rattle.columnar_core.specs.Room.{WasFull, Leaves};
 ghost use Rattle.columnar_core.specs.Row.{number};
 ghost use Rattle.columnar_core.specs.Elements.{word_row};
 ghost use Rattle.columnar_core.specs.WordViews.{words_in, le_bytes, view_bytes};
 ghost use Rattle.columnar_bits.specs.Bits.{bit as bit_of, truths};
 ghost use Rattle.columnar_bits.specs.BoolColumns.{bools_format, owned_content, owned_bits, IsOfGrowth};
+ghost use Rattle.columnar_bits.specs.Rooms.{bits_top};
 ghost use Rattle.columnar_sums.specs.Counting.{ones, Adds};
 ghost use Rattle.columnar_base.specs.Digits.{digits};
 ghost use Rattle.columnar_sums.specs.RankColumns.{ranks_format, ranks_content, bits_ranked, owned_ranks, ranked_bits};
 ghost use Rattle.columnar_sums.specs.RankLaws.{ranks_lawful};
+ghost use Rattle.columnar_sums.specs.Rooms.{held_top};
 ghost use Rattle.columnar_sums.specs.Unary.{all_false, upto};
 ghost use Rattle.columnar_sums.specs.UnaryLaws.{unary_lawful};
-ghost use Rattle.columnar_sums.specs.UnaryColumns.{unaries_format, unaries_content, owned_unaries, last_offset, repeated};
+ghost use Rattle.columnar_sums.specs.UnaryRoomLaws.{offsets_follow, offsets_then};
+ghost use Rattle.columnar_sums.specs.UnaryColumns.{unaries_format, unaries_content, owned_unaries, covers_runs, last_offset, repeated};
 
 use super::Unaries;
 use crate::rank_select::RankSelect;
@@ -22,9 +26,9 @@ use columnar_core::container::{
     Borrow, Container, ExtendFrom, Reborrow, Reserve, Storage, Truncate,
 };
 use columnar_core::fault::GrowError;
-use columnar_core::offsets::{ExtendShifted, PushAfter};
+use columnar_core::offsets::{ExtendShifted, PushAfter, ReserveOffsets};
 use columnar_core::tally::Tally;
-use columnar_core::traits::{Clear, Index, Len, Push, PushRef};
+use columnar_core::traits::{Clear, Column, Index, Len, Push, PushRef};
 use columnar_core::view::View;
 use std::alloc::Global;
 use std::ops::Range;
@@ -48,6 +52,8 @@ pub(crate) fn push_word(
     ensures err { OnErr result (owned_content values.new ≡ owned_content values.old) }
     ensures sound { IsSound bools_format (owned_content values.new) }
     ensures memory { IfErr result (λ e. e ≡ GrowError.Memory) }
+    ensures wanted { length (owned_bits values.old) + count < 2 ^ 64 → OnErr result (bits_top (vec_capacity values.old.values) ≤ length (owned_bits values.old) + count) }
+    ensures capacity { vec_capacity values.old.values ≤ vec_capacity values.new.values }
 {
     match values.push_bits(word, count) {
         Ok(()) => Ok(()),
@@ -63,6 +69,8 @@ fn push_short(values: &mut Bools<Vec<u64>, [u64; 2]>, count: usize) -> Result<()
     ensures err { OnErr result (owned_content values.new ≡ owned_content values.old) }
     ensures sound { IsSound bools_format (owned_content values.new) }
     ensures memory { IfErr result (λ e. e ≡ GrowError.Memory) }
+    ensures wanted { length (owned_bits values.old) + (count + 1) < 2 ^ 64 → OnErr result (bits_top (vec_capacity values.old.values) ≤ length (owned_bits values.old) + (count + 1)) }
+    ensures capacity { vec_capacity values.old.values ≤ vec_capacity values.new.values }
 {
     push_word(values, 1 << count, count + 1)
 }
@@ -77,6 +85,8 @@ pub(crate) fn push_falses(
     ensures err { OnErr result (Stayed bools_format (owned_content values.old) (owned_content values.new)) }
     ensures sound { IsSound bools_format (owned_content values.new) }
     ensures memory { IfErr result (λ e. e ≡ GrowError.Memory) }
+    ensures wanted { length (owned_bits values.old) + count < 2 ^ 64 → OnErr result (bits_top (vec_capacity values.old.values) ≤ length (owned_bits values.old) + count) }
+    ensures capacity { vec_capacity values.old.values ≤ vec_capacity values.new.values }
 {
     let start = values.len();
     let mut done = 0;
@@ -100,6 +110,8 @@ fn count_run(counts: &mut Vec<u64>, total: u64, end: usize) -> Result<(), GrowEr
     ensures ok { OnOk result ((words_in (le_bytes counts.new.items) ≡ words_in (le_bytes counts.old.items) ++ repeated (end - length counts.old.items) total) × (length counts.new.items ≡ end)) }
     ensures err { OnErr result (counts.new.items ≡ counts.old.items) }
     ensures memory { IfErr result (λ e. e ≡ GrowError.Memory) }
+    ensures full { OnErr result (vec_capacity counts.old < end) }
+    ensures capacity { vec_capacity counts.old ≤ vec_capacity counts.new }
 {
     let before = Vec::len(counts);
     for at in before..end {
@@ -116,9 +128,13 @@ fn count_run(counts: &mut Vec<u64>, total: u64, end: usize) -> Result<(), GrowEr
 
 // Reserves space for the words that `more` bits after the first `len` fill. Allocates nothing if they fill none.
 fn make_room(bits: &mut Held, len: usize, more: usize) -> Result<(), GrowError>
-    requires { len + more < 2 ^ 64 }
+    requires sound { IsSound ranks_format (owned_ranks bits.old) }
+    requires len { len ≡ length (ranked_bits bits.old) }
+    requires short { len + more < 2 ^ 64 }
     ensures same { owned_ranks bits.new ≡ owned_ranks bits.old }
     ensures memory { IfErr result (λ e. e ≡ GrowError.Memory) }
+    ensures wanted { OnErr result (held_top bits.old ≤ len + more) }
+    ensures capacity { held_top bits.old ≤ held_top bits.new }
 {
     bits.values.values.reserve((len + more) / 64 - len / 64)?;
     bits.counts.reserve((len + more) / 1024 - len / 1024)?;
@@ -146,6 +162,8 @@ fn extend_falses(bits: &mut Held, count: usize) -> Result<(), GrowError>
     ensures err { OnErr result (Stayed ranks_format (owned_ranks bits.old) (owned_ranks bits.new)) }
     ensures sound { IsSound ranks_format (owned_ranks bits.new) }
     ensures memory { IfErr result (λ e. e ≡ GrowError.Memory) }
+    ensures wanted { OnErr result (held_top bits.old ≤ length (ranked_bits bits.old) + count) }
+    ensures capacity { held_top bits.old ≤ held_top bits.new }
 {
     let start = bits.values.len();
     let total = total_of(bits, start, count);
@@ -169,6 +187,8 @@ fn push_run(bits: &mut Held, count: usize) -> Result<(), GrowError>
     ensures err { OnErr result (Stayed ranks_format (owned_ranks bits.old) (owned_ranks bits.new)) }
     ensures sound { IsSound ranks_format (owned_ranks bits.new) }
     ensures memory { IfErr result (λ e. e ≡ GrowError.Memory) }
+    ensures wanted { OnErr result (held_top bits.old ≤ length (ranked_bits bits.old) + (count + 1)) }
+    ensures capacity { OnOk result (held_top bits.old ≤ held_top bits.new) }
 {
     if count < 64 && bits.values.len() % 1024 + count < 1023 {
         push_short(&mut bits.values, count)?;
@@ -188,6 +208,8 @@ fn push_long(bits: &mut Held, count: usize) -> Result<(), GrowError>
     ensures err { OnErr result (Stayed ranks_format (owned_ranks bits.old) (owned_ranks bits.new)) }
     ensures sound { IsSound ranks_format (owned_ranks bits.new) }
     ensures memory { IfErr result (λ e. e ≡ GrowError.Memory) }
+    ensures wanted { OnErr result (held_top bits.old ≤ length (ranked_bits bits.old) + (count + 1)) }
+    ensures capacity { OnOk result (held_top bits.old ≤ held_top bits.new) }
 {
     let before = bits.len();
     make_room(bits, before, count + 1)?;
@@ -215,6 +237,8 @@ fn copy_bits(
     ensures err { OnErr result (Stayed ranks_format (owned_ranks bits.old) (owned_ranks bits.new)) }
     ensures length { result ≡ Err GrowError.Length → 2 ^ 64 ≤ length (ranked_bits bits.old) + (range.«end» - range.start) }
     ensures kinds { IfErr result IsOfGrowth }
+    ensures wanted { result ≡ Err GrowError.Memory → held_top bits.old ≤ length (ranked_bits bits.old) + (range.«end» - range.start) }
+    ensures capacity { OnOk result (held_top bits.old ≤ held_top bits.new) }
     ensures sound { IsSound ranks_format (owned_ranks bits.new) }
 {
     bits.extend_ranked_tallied(other, range, &mut Tally::new())
@@ -237,6 +261,8 @@ fn copy_upto_tallied<L>(
     ensures err { OnErr result (Stayed ranks_format (owned_ranks bits.old) (owned_ranks bits.new)) }
     ensures length { result ≡ Err GrowError.Length → 2 ^ 64 ≤ length (ranked_bits bits.old) + (upto (bits_ranked view_bytes view_bytes view.now.bits) n - from) }
     ensures kinds { IfErr result IsOfGrowth }
+    ensures wanted { result ≡ Err GrowError.Memory → held_top bits.old ≤ length (ranked_bits bits.old) + (upto (bits_ranked view_bytes view_bytes view.now.bits) n - from) }
+    ensures capacity { OnOk result (held_top bits.old ≤ held_top bits.new) }
     ensures sound { IsSound ranks_format (owned_ranks bits.new) }
     ensures reads { Adds (digits (length (words_in (view_bytes view.now.bits.counts))) + 1) 16 tally.old tally.new }
     ensures turns { tally.new.turns ≤ tally.old.turns + (digits (length (words_in (view_bytes view.now.bits.counts))) + 19) }
@@ -255,6 +281,8 @@ fn copy_upto(bits: &mut Held, view: &Viewed<'_>, from: usize, n: usize) -> Resul
     ensures err { OnErr result (Stayed ranks_format (owned_ranks bits.old) (owned_ranks bits.new)) }
     ensures length { result ≡ Err GrowError.Length → 2 ^ 64 ≤ length (ranked_bits bits.old) + (upto (bits_ranked view_bytes view_bytes view.now.bits) n - from) }
     ensures kinds { IfErr result IsOfGrowth }
+    ensures wanted { result ≡ Err GrowError.Memory → held_top bits.old ≤ length (ranked_bits bits.old) + (upto (bits_ranked view_bytes view_bytes view.now.bits) n - from) }
+    ensures capacity { OnOk result (held_top bits.old ≤ held_top bits.new) }
     ensures sound { IsSound ranks_format (owned_ranks bits.new) }
 {
     copy_upto_tallied(bits, view, from, n, &mut Tally::new())
@@ -285,6 +313,8 @@ impl PushAfter for Owned {
         requires last { last_offset (owned_unaries self.old) ≡ last }
         ensures ok { OnOk result (Took unaries_format (owned_unaries self.old) (owned_unaries self.new) (word_row offset ∷ [])) }
         ensures err { IfErr result (λ e. Refused unaries_format (owned_unaries self.old) (owned_unaries self.new) (word_row offset ∷ []) e) }
+        ensures wanted { IfErr result (WasFull (⟦<Owned as Column>⟧.room self.old) (word_row offset ∷ [])) }
+        ensures left { OnOk result (Leaves (⟦<Owned as Column>⟧.room self.old) (⟦<Owned as Column>⟧.room self.new) (word_row offset ∷ [])) }
         ensures offset { offset < last → result ≡ Err GrowError.Offset }
         ensures full { last ≤ offset → 2 ^ 64 ≤ length (ranked_bits self.old.bits) + (offset - last) + 1 → result ≡ Err GrowError.Length }
     {
@@ -309,6 +339,8 @@ impl Push<u64> for Owned {
         requires sound { IsSound unaries_format (owned_unaries self.old) }
         ensures ok { OnOk result (Took unaries_format (owned_unaries self.old) (owned_unaries self.new) (word_row item ∷ [])) }
         ensures err { IfErr result (λ e. Refused unaries_format (owned_unaries self.old) (owned_unaries self.new) (word_row item ∷ []) e) }
+        ensures wanted { IfErr result (WasFull (⟦<Owned as Column>⟧.room self.old) (word_row item ∷ [])) }
+        ensures left { OnOk result (Leaves (⟦<Owned as Column>⟧.room self.old) (⟦<Owned as Column>⟧.room self.new) (word_row item ∷ [])) }
         ensures offset { item < last_offset (owned_unaries self.old) → result ≡ Err GrowError.Offset }
         ensures full { last_offset (owned_unaries self.old) ≤ item → 2 ^ 64 ≤ length (ranked_bits self.old.bits) + (item - last_offset (owned_unaries self.old)) + 1 → result ≡ Err GrowError.Length }
     {
@@ -322,6 +354,8 @@ impl<'x> Push<&'x u64> for Owned {
         requires sound { IsSound unaries_format (owned_unaries self.old) }
         ensures ok { OnOk result (Took unaries_format (owned_unaries self.old) (owned_unaries self.new) (word_row item.now ∷ [])) }
         ensures err { IfErr result (λ e. Refused unaries_format (owned_unaries self.old) (owned_unaries self.new) (word_row item.now ∷ []) e) }
+        ensures wanted { IfErr result (WasFull (⟦<Owned as Column>⟧.room self.old) (word_row item.now ∷ [])) }
+        ensures left { OnOk result (Leaves (⟦<Owned as Column>⟧.room self.old) (⟦<Owned as Column>⟧.room self.new) (word_row item.now ∷ [])) }
         ensures offset { item.now < last_offset (owned_unaries self.old) → result ≡ Err GrowError.Offset }
         ensures full { last_offset (owned_unaries self.old) ≤ item.now → 2 ^ 64 ≤ length (ranked_bits self.old.bits) + (item.now - last_offset (owned_unaries self.old)) + 1 → result ≡ Err GrowError.Length }
     {
@@ -334,6 +368,8 @@ impl PushRef<u64> for Owned {
         requires sound { IsSound unaries_format (owned_unaries self.old) }
         ensures ok { OnOk result (Took unaries_format (owned_unaries self.old) (owned_unaries self.new) (word_row item.now ∷ [])) }
         ensures err { IfErr result (λ e. Refused unaries_format (owned_unaries self.old) (owned_unaries self.new) (word_row item.now ∷ []) e) }
+        ensures wanted { IfErr result (WasFull (⟦<Owned as Column>⟧.room self.old) (word_row item.now ∷ [])) }
+        ensures left { OnOk result (Leaves (⟦<Owned as Column>⟧.room self.old) (⟦<Owned as Column>⟧.room self.new) (word_row item.now ∷ [])) }
         ensures offset { item.now < last_offset (owned_unaries self.old) → result ≡ Err GrowError.Offset }
         ensures full { last_offset (owned_unaries self.old) ≤ item.now → 2 ^ 64 ≤ length (ranked_bits self.old.bits) + (item.now - last_offset (owned_unaries self.old)) + 1 → result ≡ Err GrowError.Length }
     {
@@ -370,19 +406,24 @@ impl Storage for Owned {
 }
 
 impl Reserve for Owned {
-    type Room = (usize, usize);
+    type Room = usize;
 
-    fn no_room() -> (usize, usize) {
-        (0, 0)
+    ghost reserves = { Unit {0} };
+
+    ghost covers = { covers_runs };
+
+    fn no_room() -> usize {
+        0
     }
 
-    fn reserve_room(&mut self, room: (usize, usize)) -> Result<(), GrowError> {
+    /// Reserves capacity for offsets of `room` bits together.
+    fn reserve_room(&mut self, room: usize) -> Result<(), GrowError> {
         self.bits.reserve_room(room)
     }
 }
 
 impl<'x> ExtendFrom<Viewed<'x>> for Owned {
-    fn add_room(room: (usize, usize), view: Viewed<'x>) -> (usize, usize) {
+    fn add_room(room: usize, view: Viewed<'x>) -> usize {
         Held::add_room(room, view.bits)
     }
 
@@ -400,6 +441,8 @@ impl<'x> ExtendFrom<Viewed<'x>> for Owned {
         requires in_range { range.«end» ≤ length (unaries_format.rows (unaries_content view_bytes view_bytes view_bytes view)) }
         ensures ok { OnOk result (Copied unaries_format (owned_unaries self.old) (owned_unaries self.new) range.start (take (range.«end» - range.start) (drop range.start (unaries_format.rows (unaries_content view_bytes view_bytes view_bytes view.entry))))) }
         ensures err { IfErr result (λ e. Refused unaries_format (owned_unaries self.old) (owned_unaries self.new) (take (range.«end» - range.start) (drop range.start (unaries_format.rows (unaries_content view_bytes view_bytes view_bytes view.entry)))) e) }
+        ensures wanted { IfErr result (WasFull (⟦<Owned as Column>⟧.room self.old) (take (range.«end» - range.start) (drop range.start (unaries_format.rows (unaries_content view_bytes view_bytes view_bytes view.entry))))) }
+        ensures left { OnOk result (Leaves (⟦<Owned as Column>⟧.room self.old) (⟦<Owned as Column>⟧.room self.new) (take (range.«end» - range.start) (drop range.start (unaries_format.rows (unaries_content view_bytes view_bytes view_bytes view.entry))))) }
         ensures offset { (n : ℕ) → range.start < range.«end» → slice_get (unaries_format.rows (unaries_content view_bytes view_bytes view_bytes view.entry)) range.start ≡ Some (number n) → n < last_offset (owned_unaries self.old) → result ≡ Err GrowError.Offset }
     {
         let before = self.len();
@@ -414,6 +457,12 @@ impl<'x> ExtendFrom<Viewed<'x>> for Owned {
         }
         Ok(())
     }
+}
+
+impl ReserveOffsets for Owned {
+    ghost follow = { λ column room last os e h c. offsets_follow (owned_unaries column) room (held_top column.bits) last os e h c };
+
+    ghost add = { λ room more os others f c. offsets_then room more os others f c };
 }
 
 /// The bits of the range are copied at once: bits between two set bits do not depend on what precedes them. The steps

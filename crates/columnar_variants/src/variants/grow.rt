@@ -46,6 +46,10 @@ impl<B: StorageBank + CutBank + ClearBank + Drop> Storage for Variants<B, Vec<u8
 impl<B: ReserveBank> Reserve for Variants<B, Vec<u8>, Vec<u64>> {
     type Room = (B::Room, (usize, usize));
 
+    ghost reserves = { ⊥ };
+
+    ghost covers = { λ r rs. ⊥ };
+
     fn no_room() -> (B::Room, (usize, usize)) {
         (B::no_room_in_columns(), (0, 0))
     }

@@ -1,7 +1,7 @@
 //! Rows of `Event`, as `columnar_derive` writes them.
 use super::*;
 use columnar::fault::{GrowError, OwnError};
-use columnar::names::PartNames;
+use columnar::names::{PartNames, name_in};
 use columnar::sums::variants::{Last, Nth, Variants, values_at};
 use columnar::{
     Column, Columnar, ContainerOf, FromRow, Item, LendRow, MakeRow, OwnRow, OwnRows, Push,
@@ -40,6 +40,8 @@ impl Item for Event {
     ghost meaning = { λ s. elim s as (λ v. Row) [ Start a ↦ case 0 (⟦<u64 as Item>⟧.meaning a) | Rest ↦ case 1 unit | Stop a ↦ case 2 (⟦<u32 as Item>⟧.meaning a) ] };
 
     ghost valid = { λ s. elim s as (λ v. Type 0) [ Start a ↦ ⟦<u64 as Item>⟧.valid a | Rest ↦ Unit {0} | Stop a ↦ ⟦<u32 as Item>⟧.valid a ] };
+
+    ghost unbuffered = { ⟦<Rows<u64, u32> as Item>⟧.unbuffered };
 }
 
 impl<A: Item, B: Item> Item for EventReference<A, B> {
@@ -50,6 +52,8 @@ impl<A: Item, B: Item> Item for EventReference<A, B> {
     ghost meaning = { λ s. elim s as (λ v. Row) [ Start a ↦ case 0 (A.meaning a) | Rest ↦ case 1 unit | Stop a ↦ case 2 (B.meaning a) ] };
 
     ghost valid = { λ s. elim s as (λ v. Type 0) [ Start a ↦ A.valid a | Rest ↦ Unit {0} | Stop a ↦ B.valid a ] };
+
+    ghost unbuffered = { ⟦<Rows<A, B> as Item>⟧.unbuffered };
 }
 
 impl<A: Item, B: Item> MakeRow<Rows<A, B>> for Event {
@@ -102,13 +106,13 @@ impl<A: Copy + Item, B: Copy + Item, P: Push<Rows<A, B>>> PushParts<P, Event>
 }
 
 impl PartNames for Event {
+    ghost use Rattle.std.specs.Prelude.{[], ◌∷◌, codes};
+    ghost use Rattle.columnar.specs.Names.{name_at};
+
+    ghost name_of = { name_at (codes "Start" ∷ codes "Rest" ∷ codes "Stop" ∷ []) };
+
     fn part_name(index: usize) -> &'static str {
-        match index {
-            0 => "Start",
-            1 => "Rest",
-            2 => "Stop",
-            _ => "",
-        }
+        name_in(&["Start", "Rest", "Stop"], index)
     }
 }
 

@@ -1,7 +1,7 @@
 //! Rows of `Meters`, `Place`, `Nowhere` and `Found`, as `columnar_derive` writes them.
 use super::*;
 use columnar::fault::{GrowError, OwnError};
-use columnar::names::PartNames;
+use columnar::names::{PartNames, name_in};
 use columnar::sums::variants::{Last, Nth, Variants, values_at};
 use columnar::{
     Column, Columnar, ContainerOf, FromRow, Item, LendRow, MakeRow, OwnRow, OwnRows, Push,
@@ -23,12 +23,16 @@ impl Item for Meters {
     ghost meaning = { λ e. ⟦<MetersParts as Item>⟧.meaning (record { 0 = e.0 }) };
 
     ghost valid = { λ e. ⟦<MetersParts as Item>⟧.valid (record { 0 = e.0 }) };
+
+    ghost unbuffered = { ⟦<MetersParts as Item>⟧.unbuffered };
 }
 
 impl<A: Item> Item for MetersReference<A> {
     ghost meaning = { λ e. ⟦<(A,) as Item>⟧.meaning (record { 0 = e.0 }) };
 
     ghost valid = { λ e. ⟦<(A,) as Item>⟧.valid (record { 0 = e.0 }) };
+
+    ghost unbuffered = { ⟦<(A,) as Item>⟧.unbuffered };
 }
 
 impl<A: Item> MakeRow<(A,)> for Meters {
@@ -52,11 +56,13 @@ impl<A: Copy + Item, P: Push<(A,)>> PushParts<P, Meters> for MetersReference<A> 
 }
 
 impl PartNames for Meters {
+    ghost use Rattle.std.specs.Prelude.{[], ◌∷◌, codes};
+    ghost use Rattle.columnar.specs.Names.{name_at};
+
+    ghost name_of = { name_at (codes "0" ∷ []) };
+
     fn part_name(index: usize) -> &'static str {
-        match index {
-            0 => "0",
-            _ => "",
-        }
+        name_in(&["0"], index)
     }
 }
 
@@ -112,12 +118,16 @@ impl Item for Place {
     ghost meaning = { λ e. ⟦<PlaceParts as Item>⟧.meaning (e.0, e.1) };
 
     ghost valid = { λ e. ⟦<PlaceParts as Item>⟧.valid (e.0, e.1) };
+
+    ghost unbuffered = { ⟦<PlaceParts as Item>⟧.unbuffered };
 }
 
 impl<A: Item, B: Item> Item for PlaceReference<A, B> {
     ghost meaning = { λ e. ⟦<(A, B) as Item>⟧.meaning (e.0, e.1) };
 
     ghost valid = { λ e. ⟦<(A, B) as Item>⟧.valid (e.0, e.1) };
+
+    ghost unbuffered = { ⟦<(A, B) as Item>⟧.unbuffered };
 }
 
 impl<A: Item, B: Item> MakeRow<(A, B)> for Place {
@@ -141,12 +151,13 @@ impl<A: Copy + Item, B: Copy + Item, P: Push<(A, B)>> PushParts<P, Place> for Pl
 }
 
 impl PartNames for Place {
+    ghost use Rattle.std.specs.Prelude.{[], ◌∷◌, codes};
+    ghost use Rattle.columnar.specs.Names.{name_at};
+
+    ghost name_of = { name_at (codes "0" ∷ codes "1" ∷ []) };
+
     fn part_name(index: usize) -> &'static str {
-        match index {
-            0 => "0",
-            1 => "1",
-            _ => "",
-        }
+        name_in(&["0", "1"], index)
     }
 }
 
@@ -215,12 +226,16 @@ impl Item for Nowhere {
     ghost meaning = { λ e. ⟦<NowhereParts as Item>⟧.meaning tt };
 
     ghost valid = { λ e. ⟦<NowhereParts as Item>⟧.valid tt };
+
+    ghost unbuffered = { ⟦<NowhereParts as Item>⟧.unbuffered };
 }
 
 impl Item for NowhereReference {
     ghost meaning = { λ e. ⟦<() as Item>⟧.meaning tt };
 
     ghost valid = { λ e. ⟦<() as Item>⟧.valid tt };
+
+    ghost unbuffered = { ⟦<() as Item>⟧.unbuffered };
 }
 
 impl MakeRow<()> for Nowhere {
@@ -244,10 +259,13 @@ impl<P: Push<()>> PushParts<P, Nowhere> for NowhereReference {
 }
 
 impl PartNames for Nowhere {
+    ghost use Rattle.std.specs.Prelude.{[]};
+    ghost use Rattle.columnar.specs.Names.{name_at};
+
+    ghost name_of = { name_at ([]) };
+
     fn part_name(index: usize) -> &'static str {
-        match index {
-            _ => "",
-        }
+        name_in(&[], index)
     }
 }
 
@@ -295,6 +313,8 @@ impl Item for Found {
     ghost meaning = { λ s. elim s as (λ v. Row) [ At a ↦ case 0 (⟦<Place as Item>⟧.meaning a) | Lost a ↦ case 1 (⟦<Nowhere as Item>⟧.meaning a) ] };
 
     ghost valid = { λ s. elim s as (λ v. Type 0) [ At a ↦ ⟦<Place as Item>⟧.valid a | Lost a ↦ ⟦<Nowhere as Item>⟧.valid a ] };
+
+    ghost unbuffered = { ⟦<FoundRows<Place, Nowhere> as Item>⟧.unbuffered };
 }
 
 impl<A: Item, B: Item> Item for FoundReference<A, B> {
@@ -305,6 +325,8 @@ impl<A: Item, B: Item> Item for FoundReference<A, B> {
     ghost meaning = { λ s. elim s as (λ v. Row) [ At a ↦ case 0 (A.meaning a) | Lost a ↦ case 1 (B.meaning a) ] };
 
     ghost valid = { λ s. elim s as (λ v. Type 0) [ At a ↦ A.valid a | Lost a ↦ B.valid a ] };
+
+    ghost unbuffered = { ⟦<FoundRows<A, B> as Item>⟧.unbuffered };
 }
 
 impl<A: Item, B: Item> MakeRow<FoundRows<A, B>> for Found {
@@ -351,12 +373,13 @@ impl<A: Copy + Item, B: Copy + Item, P: Push<FoundRows<A, B>>> PushParts<P, Foun
 }
 
 impl PartNames for Found {
+    ghost use Rattle.std.specs.Prelude.{[], ◌∷◌, codes};
+    ghost use Rattle.columnar.specs.Names.{name_at};
+
+    ghost name_of = { name_at (codes "At" ∷ codes "Lost" ∷ []) };
+
     fn part_name(index: usize) -> &'static str {
-        match index {
-            0 => "At",
-            1 => "Lost",
-            _ => "",
-        }
+        name_in(&["At", "Lost"], index)
     }
 }
 

@@ -1,7 +1,7 @@
 //! Rows of `Reading`, as `columnar_derive` writes them.
 use super::*;
 use columnar::fault::{GrowError, OwnError};
-use columnar::names::PartNames;
+use columnar::names::{PartNames, name_in};
 use columnar::{
     Column, Columnar, ContainerOf, FromRow, Item, MakeRow, OwnRow, OwnRows, Push, PushParts,
 };
@@ -24,12 +24,16 @@ impl Item for Reading {
     ghost meaning = { λ e. ⟦<Parts as Item>⟧.meaning (e.level, e.time) };
 
     ghost valid = { λ e. ⟦<Parts as Item>⟧.valid (e.level, e.time) };
+
+    ghost unbuffered = { ⟦<Parts as Item>⟧.unbuffered };
 }
 
 impl<A: Item, B: Item> Item for ReadingReference<A, B> {
     ghost meaning = { λ e. ⟦<(A, B) as Item>⟧.meaning (e.level, e.time) };
 
     ghost valid = { λ e. ⟦<(A, B) as Item>⟧.valid (e.level, e.time) };
+
+    ghost unbuffered = { ⟦<(A, B) as Item>⟧.unbuffered };
 }
 
 impl<A: Item, B: Item> MakeRow<(A, B)> for Reading {
@@ -57,12 +61,13 @@ impl<A: Copy + Item, B: Copy + Item, P: Push<(A, B)>> PushParts<P, Reading>
 }
 
 impl PartNames for Reading {
+    ghost use Rattle.std.specs.Prelude.{[], ◌∷◌, codes};
+    ghost use Rattle.columnar.specs.Names.{name_at};
+
+    ghost name_of = { name_at (codes "level" ∷ codes "time" ∷ []) };
+
     fn part_name(index: usize) -> &'static str {
-        match index {
-            0 => "level",
-            1 => "time",
-            _ => "",
-        }
+        name_in(&["level", "time"], index)
     }
 }
 

@@ -1,7 +1,7 @@
 //! Rows of `Sample`, as `columnar_derive` writes them.
 use super::*;
 use columnar::fault::{GrowError, OwnError};
-use columnar::names::PartNames;
+use columnar::names::{PartNames, name_in};
 use columnar::{
     Column, Columnar, ContainerOf, FromRow, Item, MakeRow, OwnRow, OwnRows, Push, PushParts,
 };
@@ -27,12 +27,16 @@ impl Item for Sample {
     ghost meaning = { λ e. ⟦<Parts as Item>⟧.meaning (e.level, e.time) };
 
     ghost valid = { λ e. ⟦<Parts as Item>⟧.valid (e.level, e.time) };
+
+    ghost unbuffered = { ⟦<Parts as Item>⟧.unbuffered };
 }
 
 impl<A: Item, B: Item> Item for SampleReference<A, B> {
     ghost meaning = { λ e. ⟦<(A, B) as Item>⟧.meaning (e.level, e.time) };
 
     ghost valid = { λ e. ⟦<(A, B) as Item>⟧.valid (e.level, e.time) };
+
+    ghost unbuffered = { ⟦<(A, B) as Item>⟧.unbuffered };
 }
 
 impl<A: Item, B: Item> MakeRow<(A, B)> for Sample {
@@ -60,12 +64,13 @@ impl<A: Copy + Item, B: Copy + Item, P: Push<(A, B)>> PushParts<P, Sample>
 }
 
 impl PartNames for Sample {
+    ghost use Rattle.std.specs.Prelude.{[], ◌∷◌, codes};
+    ghost use Rattle.columnar.specs.Names.{name_at};
+
+    ghost name_of = { name_at (codes "level" ∷ codes "time" ∷ []) };
+
     fn part_name(index: usize) -> &'static str {
-        match index {
-            0 => "level",
-            1 => "time",
-            _ => "",
-        }
+        name_in(&["level", "time"], index)
     }
 }
 

@@ -1,7 +1,7 @@
 //! Rows of `Shape`, as `columnar_derive` writes them.
 use super::*;
 use columnar::fault::{GrowError, OwnError};
-use columnar::names::PartNames;
+use columnar::names::{PartNames, name_in};
 use columnar::sums::variants::{Last, Nth, Variants, values_at};
 use columnar::{
     Column, Columnar, ContainerOf, FromRow, Item, LendRow, MakeRow, OwnRow, OwnRows, Push,
@@ -46,6 +46,8 @@ impl Item for Shape {
     ghost meaning = { λ s. elim s as (λ v. Row) [ Circle a ↦ case 0 (⟦<u64 as Item>⟧.meaning a) | Named a ↦ case 1 (⟦<String as Item>⟧.meaning a) | Square a b ↦ case 2 (⟦<ValueOfSquare as Item>⟧.meaning (a, b)) | Nothing ↦ case 3 unit ] };
 
     ghost valid = { λ s. elim s as (λ v. Type 0) [ Circle a ↦ ⟦<u64 as Item>⟧.valid a | Named a ↦ ⟦<String as Item>⟧.valid a | Square a b ↦ ⟦<ValueOfSquare as Item>⟧.valid (a, b) | Nothing ↦ Unit {0} ] };
+
+    ghost unbuffered = { ⟦<Rows<u64, String, ValueOfSquare> as Item>⟧.unbuffered };
 }
 
 impl<A: Item, B: Item, C: Item> Item for ShapeReference<A, B, C> {
@@ -56,6 +58,8 @@ impl<A: Item, B: Item, C: Item> Item for ShapeReference<A, B, C> {
     ghost meaning = { λ s. elim s as (λ v. Row) [ Circle a ↦ case 0 (A.meaning a) | Named a ↦ case 1 (B.meaning a) | Square a ↦ case 2 (C.meaning a) | Nothing ↦ case 3 unit ] };
 
     ghost valid = { λ s. elim s as (λ v. Type 0) [ Circle a ↦ A.valid a | Named a ↦ B.valid a | Square a ↦ C.valid a | Nothing ↦ Unit {0} ] };
+
+    ghost unbuffered = { ⟦<Rows<A, B, C> as Item>⟧.unbuffered };
 }
 
 impl<A: Item, B: Item, C: Item> MakeRow<Rows<A, B, C>> for Shape {
@@ -117,14 +121,13 @@ impl<A: Copy + Item, B: Copy + Item, C: Copy + Item, P: Push<Rows<A, B, C>>> Pus
 }
 
 impl PartNames for Shape {
+    ghost use Rattle.std.specs.Prelude.{[], ◌∷◌, codes};
+    ghost use Rattle.columnar.specs.Names.{name_at};
+
+    ghost name_of = { name_at (codes "Circle" ∷ codes "Named" ∷ codes "Square" ∷ codes "Nothing" ∷ []) };
+
     fn part_name(index: usize) -> &'static str {
-        match index {
-            0 => "Circle",
-            1 => "Named",
-            2 => "Square",
-            3 => "Nothing",
-            _ => "",
-        }
+        name_in(&["Circle", "Named", "Square", "Nothing"], index)
     }
 }
 

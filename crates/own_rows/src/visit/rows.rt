@@ -1,7 +1,7 @@
 //! Rows of `Visit`, as `columnar_derive` writes them.
 use super::*;
 use columnar::fault::{GrowError, OwnError};
-use columnar::names::PartNames;
+use columnar::names::{PartNames, name_in};
 use columnar::{
     Column, Columnar, ContainerOf, FromRow, Item, MakeRow, OwnRow, OwnRows, Push, PushParts,
 };
@@ -27,12 +27,16 @@ impl Item for Visit {
     ghost meaning = { λ e. ⟦<Parts as Item>⟧.meaning (e.time, e.user, e.pages, e.level, e.note) };
 
     ghost valid = { λ e. ⟦<Parts as Item>⟧.valid (e.time, e.user, e.pages, e.level, e.note) };
+
+    ghost unbuffered = { ⟦<Parts as Item>⟧.unbuffered };
 }
 
 impl<A: Item, B: Item, C: Item, D: Item, E: Item> Item for VisitReference<A, B, C, D, E> {
     ghost meaning = { λ e. ⟦<(A, B, C, D, E) as Item>⟧.meaning (e.time, e.user, e.pages, e.level, e.note) };
 
     ghost valid = { λ e. ⟦<(A, B, C, D, E) as Item>⟧.valid (e.time, e.user, e.pages, e.level, e.note) };
+
+    ghost unbuffered = { ⟦<(A, B, C, D, E) as Item>⟧.unbuffered };
 }
 
 impl<A: Item, B: Item, C: Item, D: Item, E: Item> MakeRow<(A, B, C, D, E)> for Visit {
@@ -69,15 +73,13 @@ impl<
 }
 
 impl PartNames for Visit {
+    ghost use Rattle.std.specs.Prelude.{[], ◌∷◌, codes};
+    ghost use Rattle.columnar.specs.Names.{name_at};
+
+    ghost name_of = { name_at (codes "time" ∷ codes "user" ∷ codes "pages" ∷ codes "level" ∷ codes "note" ∷ []) };
+
     fn part_name(index: usize) -> &'static str {
-        match index {
-            0 => "time",
-            1 => "user",
-            2 => "pages",
-            3 => "level",
-            4 => "note",
-            _ => "",
-        }
+        name_in(&["time", "user", "pages", "level", "note"], index)
     }
 }
 

@@ -56,6 +56,10 @@ impl<SC: Storage, TC: Storage> Storage for GroupContainer<SC, TC, Vec<u8>, Vec<u
 impl<SC: Reserve, TC: Reserve> Reserve for GroupContainer<SC, TC, Vec<u8>, Vec<u64>> {
     type Room = (SC::Room, TC::Room, (usize, usize));
 
+    ghost reserves = { ⊥ };
+
+    ghost covers = { λ r rs. ⊥ };
+
     fn no_room() -> (SC::Room, TC::Room, (usize, usize)) {
         (SC::no_room(), TC::no_room(), (0, 0))
     }

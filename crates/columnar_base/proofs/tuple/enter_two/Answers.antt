@@ -1,6 +1,6 @@
 use Rattle.std.proofs.Common.{[]}
 use Rattle.columnar_base.specs.ChangeLaws.{passed_on}
-use Rattle.columnar_base.specs.EntryLaws.{first_sound, others_sound, next_entered, first_refused, others_refused}
+use Rattle.columnar_base.specs.EntryLaws.{first_sound, others_sound, next_entered, first_refused, others_refused, next_leaves, first_full, others_full}
 use Rattle.columnar_base.proofs.tuple.enter_two.Goals as goal
 use Rattle.columnar_base.proofs.tuple.enter_two.Goals.{in-Ok, in-Err}
 
@@ -27,3 +27,12 @@ returns-clause-ok g c = elim c.match-enter.branch [ in-Ok w ↦ rw (w.result-is,
 
 pub returns-clause-err : goal.returns-clause-err
 returns-clause-err g c = elim c.match-enter.branch [ in-Ok w ↦ rw w.result-is tt | in-Err w ↦ rw (w.result-is, w.first-is, w.taken_back.ensures.error) (others_refused g.A.Column.format g.B.Column.format [] (g.P.Enter.entry c.args.p) (g.Q.Enter.entry c.args.q) [] g.met.A.Truncate.lawful c.requires.sound c.requires.level c.in_ok-enter.ensures.ok (rw c.len-before.ensures at w.taken_back.ensures.cut) w.in-Err.ensures.err) ]
+
+pub returns-in_err-enter-clause-wanted : goal.returns-in_err-enter-clause-wanted
+returns-in_err-enter-clause-wanted g c = λ k. rw (passed_on c.from_residual.result c.from_residual.ensures.1) (first_full (g.B.Column.room c.args.second.now) (g.P.Enter.entry c.args.p) (g.Q.Enter.entry c.args.q) [] c.requires.level (c.in_err-enter.ensures.wanted k.0))
+
+pub returns-clause-left : goal.returns-clause-left
+returns-clause-left g c = elim c.match-enter.branch [ in-Ok w ↦ rw (w.result-is, w.first-is) (next_leaves (g.P.Enter.entry c.args.p) (g.Q.Enter.entry c.args.q) [] c.requires.level c.in_ok-enter.ensures.left w.in-Ok.ensures.left) | in-Err w ↦ rw w.result-is tt ]
+
+pub returns-clause-wanted : goal.returns-clause-wanted
+returns-clause-wanted g c = λ k. elim c.match-enter.branch [ in-Ok w ↦ rw w.result-is tt | in-Err w ↦ rw (w.result-is, w.taken_back.ensures.error) (others_full (g.A.Column.room c.args.first.now) (g.P.Enter.entry c.args.p) (g.Q.Enter.entry c.args.q) [] c.requires.level (w.in-Err.ensures.wanted k.1)) ]

@@ -1,4 +1,4 @@
-use Rattle.std.proofs.Common.{◌+◌, ◌*◌, arith}
+use Rattle.std.proofs.Common.{◌+◌, ◌*◌, ◌∙◌, arith}
 use Rattle.columnar_bits.specs.Bits.{bit}
 use Rattle.columnar_bits.specs.BitLaws.{copy_more}
 use Rattle.columnar_core.specs.WordViews.{view_bytes}
@@ -12,6 +12,7 @@ loop-i-preserved g c =
       bits = copy_more _ _ _ _ (bit c.taken.result) c.args.start (c.args.start + 64 * c.loop-i.i) _ 64 i.bits c.append_word.ensures.bits c.taken.ensures.bits (omega arith) (omega arith);
       sound = c.append_word.ensures.sound;
       room = omega (arith, c.append_word.ensures.len, c.append_word.ensures.capacity, i.room);
+      capacity = c.append_word.ensures.capacity ∙ i.capacity;
       turns = omega (arith, i.turns, c.tick.ensures);
     }
 

@@ -11,5 +11,6 @@ invariant-loop-i g l =
       bits : owned_bits l.column ≡ owned_bits l.initial.column ++ slice_range (bits_in (view_bytes l.values) (view_bytes l.tail)) l.start (l.start + 64 * l.i);
       sound : IsSound bools_format (owned_content l.column);
       room : vec_len l.column.values + (l.count - l.i) ≤ vec_capacity l.column.values;
+      capacity : vec_capacity l.column.values ≡ vec_capacity l.initial.column.values;
       turns : l.tally.turns ≤ l.initial.tally.turns + l.i;
     }

@@ -1,6 +1,7 @@
-use Rattle.std.proofs.Common.{◌≡◌, ◌+◌, ◌-◌, take, drop, arith, length-append}
+use Rattle.std.proofs.Common.{length, sym, ap, ◌∙◌, ◌≡◌, ◌+◌, ◌-◌, take, drop, arith, length-append}
 use Rattle.columnar_base.specs.ChangeLaws.{passed_on, unchanged, undone}
 use Rattle.columnar_lists.specs.ListLaws.{list_range, range_held, range_length, range_copied, range_refused_values, range_refused_bounds, took_length, lists_parts, lists_last, lists_within_le}
+use Rattle.columnar_lists.specs.RoomLaws.{range_leaves, range_full_values, range_full_bounds}
 use Rattle.columnar_lists.proofs.parts.copy_lists_tallied.Goals as goal
 use Rattle.columnar_lists.proofs.parts.copy_lists_tallied.Goals.{in-Ok, in-Err}
 
@@ -81,5 +82,28 @@ returns-clause-err g c =
     let r = list_range g.W.Column.format g.V.Column.format c.args.range.start c.args.range.«end» c.requires.view_sound c.requires.ordered c.start_of-lower.ensures c.start_of-upper.ensures in
     elim c.match-extend_shifted_tallied.branch [
       | in-Ok w ↦ rw w.result-is tt
-      | in-Err w ↦ rw (w.values-is, w.result-is) (range_refused_bounds g.BC.Column.format g.TC.Column.format c.requires.sound r (rw c.len-before.ensures at w.in-Err.ensures.err) (undone {mid = g.TC.Column.content c.extend_from_self.new.self} g.met.TC.Truncate.lawful (lists_parts g.BC.Column.format g.TC.Column.format c.requires.sound).values c.in_ok-extend_from_self.ensures.ok.took.grew (rw c.len-before.ensures at w.truncate.ensures)))
+      | in-Err w ↦ rw (w.values-is, w.result-is) (range_refused_bounds g.BC.Column.format g.TC.Column.format c.requires.sound r (rw c.len-before.ensures at w.in-Err.ensures.err) (undone {mid = g.TC.Column.content c.extend_from_self.new.self} g.met.TC.Truncate.lawful (lists_parts g.BC.Column.format g.TC.Column.format c.requires.sound).values c.in_ok-extend_from_self.ensures.ok.took.grew (rw c.len-before.ensures at w.truncate.ensures.cut)))
+    ]
+
+pub returns-in_err-extend_from_self-clause-wanted : goal.returns-in_err-extend_from_self-clause-wanted
+returns-in_err-extend_from_self-clause-wanted g c =
+    let r = list_range g.W.Column.format g.V.Column.format c.args.range.start c.args.range.«end» c.requires.view_sound c.requires.ordered c.start_of-lower.ensures c.start_of-upper.ensures in
+    rw (passed_on c.from_residual.result c.from_residual.ensures.1) (range_full_values (g.BC.Column.room c.args.bounds.now) _ _ _ r.items c.in_err-extend_from_self.ensures.wanted)
+
+pub returns-clause-left : goal.returns-clause-left
+returns-clause-left g c =
+    let r = list_range g.W.Column.format g.V.Column.format c.args.range.start c.args.range.«end» c.requires.view_sound c.requires.ordered c.start_of-lower.ensures c.start_of-upper.ensures in
+    let n = length (g.TC.Column.format.rows (g.TC.Column.content c.args.values.now)) in
+    elim c.match-extend_shifted_tallied.branch [
+      | in-Ok w ↦ rw (w.values-is, w.result-is) (range_leaves n _ _ _ _ r.items (r.ended n) (took_length c.in_ok-extend_from_self.ensures.ok.took) c.in_ok-extend_from_self.ensures.left (rw c.len-before.ensures at w.in-Ok.ensures.left))
+      | in-Err w ↦ rw w.result-is tt
+    ]
+
+pub returns-clause-wanted : goal.returns-clause-wanted
+returns-clause-wanted g c =
+    let r = list_range g.W.Column.format g.V.Column.format c.args.range.start c.args.range.«end» c.requires.view_sound c.requires.ordered c.start_of-lower.ensures c.start_of-upper.ensures in
+    let n = length (g.TC.Column.format.rows (g.TC.Column.content c.args.values.now)) in
+    elim c.match-extend_shifted_tallied.branch [
+      | in-Ok w ↦ rw w.result-is tt
+      | in-Err w ↦ rw w.result-is (range_full_bounds (g.TC.Column.room c.args.values.now) n _ _ (r.ended n) (rw c.len-before.ensures at w.in-Err.ensures.wanted))
     ]

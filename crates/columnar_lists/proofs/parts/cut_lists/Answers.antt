@@ -1,4 +1,5 @@
 use Rattle.columnar_lists.specs.ListLaws.{lists_parts, lists_within_le, end_within, lists_cut_at}
+use Rattle.columnar_lists.specs.RoomLaws.{cut_to, lists_free}
 use Rattle.columnar_lists.proofs.parts.cut_lists.Goals as goal
 
 pub start_of-end-requires-clause-sound : goal.start_of-end-requires-clause-sound
@@ -19,5 +20,10 @@ truncate-requires-clause-in_range g c = end_within g.BC.Column.format g.TC.Colum
 pub truncate-requires-2-clause-in_range : goal.truncate-requires-2-clause-in_range
 truncate-requires-2-clause-in_range g c = lists_within_le g.BC.Column.format g.TC.Column.format (g.BC.Column.content c.args.bounds.now) (g.TC.Column.content c.args.values.now) c.args.n c.requires.in_range
 
-pub returns : goal.returns
-returns g c = lists_cut_at g.BC.Column.format g.TC.Column.format c.requires.sound c.start_of-end.ensures c.truncate-2.ensures c.truncate.ensures
+pub returns-clause-cut : goal.returns-clause-cut
+returns-clause-cut g c = lists_cut_at g.BC.Column.format g.TC.Column.format c.requires.sound c.start_of-end.ensures c.truncate-2.ensures.cut c.truncate.ensures.cut
+
+pub returns-clause-freed : goal.returns-clause-freed
+returns-clause-freed g c =
+    let w = end_within g.BC.Column.format g.TC.Column.format c.args.n c.requires.sound c.start_of-end.ensures in
+    lists_free g.BC.Column.format g.TC.Column.format c.args.n c.start_of-end.result _ g.met.BC.Offsets.bounds.are_numbers c.start_of-end.ensures (cut_to g.TC.Column.format c.truncate.ensures.cut w) c.truncate-2.ensures.freed c.truncate.ensures.freed

@@ -10,7 +10,7 @@ invariant-loop-i g l =
     record {
       first : l.i ≤ length xs;
       second : l.j ≤ length ys;
-      pending : Pending g.C.Column.format (g.C.Column.content l.initial.column) (g.C.Column.content l.column) [] (merged (drop l.i xs) (drop l.j ys)) (merged xs ys);
+      pending : Pending g.C.Column.format (g.C.Column.room l.initial.column) (g.C.Column.room l.column) (g.C.Column.content l.initial.column) (g.C.Column.content l.column) [] (merged (drop l.i xs) (drop l.j ys)) (merged xs ys);
     }
 
 abbrev pub decreases-loop-i : goal.decreases-loop-i

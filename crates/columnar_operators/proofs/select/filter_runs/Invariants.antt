@@ -7,4 +7,4 @@ abbrev pub invariant-loop-i : goal.invariant-loop-i
 invariant-loop-i g l =
     let rows = g.V.Column.format.rows (g.V.Column.content l.view) in
     let bits = g.B.Column.format.rows (g.B.Column.content l.bits) in
-    AtRun g.C.Column.format rows (g.C.Column.content l.initial.column) (g.C.Column.content l.column) l.start l.i (chosen (drop l.i rows) (drop l.i bits)) (chosen rows bits)
+    AtRun g.C.Column.format (g.C.Column.room l.initial.column) (g.C.Column.room l.column) rows (g.C.Column.content l.initial.column) (g.C.Column.content l.column) l.start l.i (chosen (drop l.i rows) (drop l.i bits)) (chosen rows bits)

@@ -1,17 +1,17 @@
 use Rattle.std.proofs.Common.{◌≡◌, arith}
-use Rattle.columnar_schema.specs.ArrayLaws.{digits_taken, written}
+use Rattle.columnar_schema.specs.ArrayLaws.{digits_begin, written}
 use Rattle.columnar_schema.proofs.number.number_at.Goals as goal
 
 pub returns-in-Some-clause-passes : goal.returns-in-Some-clause-passes
-returns-in-Some-clause-passes c d rest n e w h a = (digits_taken c.args.text.now c.args.at c.after_blanks-start.result c.word_end-end.result n d rest c.after_blanks-start.ensures.here c.word_end-end.ensures.ends e w a).1
+returns-in-Some-clause-passes c d rest n e w h = (c.word_span-start.ensures.passes d rest e (digits_begin d n w)).1
 
 pub returns-in_default-clause-passes : goal.returns-in_default-clause-passes
-returns-in_default-clause-passes c d rest n e w h a =
-    let taken = digits_taken c.args.text.now c.args.at c.after_blanks-start.result c.word_end-end.result n d rest c.after_blanks-start.ensures.here c.word_end-end.ensures.ends e w a in
+returns-in_default-clause-passes c d rest n e w h =
+    let taken = c.word_span-start.ensures.passes d rest e (digits_begin d n w) in
     let same : n ≡ c.in-Some.number = written _ d n c.in-Some.number taken.0 w c.in-Some.ensures.some in
     absurd (omega (arith, same, h, c.if-number-most.false))
 
 pub returns-in_default-2-clause-passes : goal.returns-in_default-2-clause-passes
-returns-in_default-2-clause-passes c d rest n e w h a =
-    let taken = digits_taken c.args.text.now c.args.at c.after_blanks-start.result c.word_end-end.result n d rest c.after_blanks-start.ensures.here c.word_end-end.ensures.ends e w a in
+returns-in_default-2-clause-passes c d rest n e w h =
+    let taken = c.word_span-start.ensures.passes d rest e (digits_begin d n w) in
     c.in_default.ensures.none n (omega (arith, h, c.ranges.most.fits)) (rw taken.0 w)

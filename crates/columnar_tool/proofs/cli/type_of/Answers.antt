@@ -1,6 +1,7 @@
 use Rattle.std.proofs.Common.{ℕ, List, ◌≡◌, ◌≢◌, ◌⊎◌, inl, inr, ◌≤◌, ◌^◌, false, length}
 use Rattle.columnar_schema.specs.Names.{Names, a_type}
 use Rattle.columnar_schema.specs.Reading.{NestsWithin}
+use Rattle.columnar_schema.specs.Tokens.{tokens}
 use Rattle.columnar_schema.specs.declared.schema.Bounds.{Bounds}
 use Rattle.columnar_schema.specs.declared.schema.Schema.{Schema}
 use Rattle.columnar_schema.specs.declared.text.Mistake.{Mistake}
@@ -8,7 +9,7 @@ use Rattle.columnar_schema.specs.declared.text.Mistake.TheVariants.{Memory}
 use Rattle.columnar_tool.specs.Uses.{IsNoType}
 use Rattle.columnar_tool.proofs.cli.type_of.Goals as goal
 
-no_type_is : (lists : Bounds) (text : List ℕ) (status : ℕ) (mistake : Mistake) → ((s : Schema) (n : Names lists a_type text s) → NestsWithin 64 n → length text ≤ 2 ^ 58 → mistake ≡ Memory) → (status ≡ 1) ⊎ ((status ≡ 2) × (mistake ≢ Memory)) → IsNoType lists text status
+no_type_is : (lists : Bounds) (text : List ℕ) (status : ℕ) (mistake : Mistake) → ((s : Schema) (n : Names lists a_type (tokens text) s) → NestsWithin 64 n → length text ≤ 2 ^ 58 → mistake ≡ Memory) → (status ≡ 1) ⊎ ((status ≡ 2) × (mistake ≢ Memory)) → IsNoType lists text status
 no_type_is lists text status mistake w (inl e) = inl e
 no_type_is lists text status mistake w (inr p) = inr (p.0, λ s n d l. p.1 (w s n d l))
 

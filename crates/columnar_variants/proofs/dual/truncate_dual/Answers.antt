@@ -56,6 +56,6 @@ pub returns : goal.returns
 returns g c =
     let vs = variants_of (owned_forms c.args.indexes.now.variant.items c.args.indexes.now.offset.items) in
     variants_cut (dual_bank g.SC.Column.format g.TC.Column.format) (dual_law g.SC.Column.format g.TC.Column.format) c.args.n c.requires.sound
-    (join_cut g.SC.Column.format (leaf g.TC.Column.format) c.rows_before-first.result (λ v. times v (take c.args.n vs)) (sym c.rows_before-first.ensures) c.truncate.ensures
-    (leaf_cut g.TC.Column.format c.rows_before-second.result (λ v. times (suc v) (take c.args.n vs)) (sym c.rows_before-second.ensures) c.truncate-2.ensures))
+    (join_cut g.SC.Column.format (leaf g.TC.Column.format) c.rows_before-first.result (λ v. times v (take c.args.n vs)) (sym c.rows_before-first.ensures) c.truncate.ensures.cut
+    (leaf_cut g.TC.Column.format c.rows_before-second.result (λ v. times (suc v) (take c.args.n vs)) (sym c.rows_before-second.ensures) c.truncate-2.ensures.cut))
     c.truncate-3.ensures.cut.sound c.truncate-3.ensures.variants c.truncate-3.ensures.cut.lengths_cut

@@ -1,4 +1,5 @@
 use Rattle.columnar_base.specs.ChangeLaws.{unchanged}
+use Rattle.columnar_base.specs.RoomLaws.{both_covered, on_ok_as}
 use Rattle.columnar_base.specs.TupleLaws.{pair_parts, pair_stayed}
 use Rattle.columnar_base.proofs.tuple.Tuple2Reserve.reserve_room.Goals as goal
 
@@ -13,3 +14,6 @@ returns-in_err-reserve_room-clause-stayed g c = pair_stayed g.A.Column.format g.
 
 pub returns-clause-stayed : goal.returns-clause-stayed
 returns-clause-stayed g c = pair_stayed g.A.Column.format g.B.Column.format c.requires c.reserve_room.ensures.stayed c.reserve_room-2.ensures.stayed
+
+pub returns-clause-room : goal.returns-clause-room
+returns-clause-room g c = both_covered _ _ _ _ _ _ c.reserve_room-2.result (on_ok_as _ c.reserve_room-2.result c.in_ok-reserve_room.ensures.room) c.reserve_room-2.ensures.room

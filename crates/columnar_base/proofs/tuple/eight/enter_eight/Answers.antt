@@ -1,7 +1,8 @@
 -- Made by .ci/widths.py: change .ci/widths/answers.template, and not this file.
 use Rattle.std.proofs.Common.{[], ◌∷◌}
 use Rattle.columnar_base.specs.ChangeLaws.{passed_on}
-use Rattle.columnar_base.specs.EntryLaws.{first_sound, others_sound, next_entered, first_refused, others_refused}
+use Rattle.columnar_base.specs.EntryLaws.{first_sound, others_sound, next_entered, first_refused, others_refused, next_leaves, first_full, others_full}
+use Rattle.columnar_base.specs.Room.{pair_room}
 use Rattle.columnar_base.proofs.tuple.eight.enter_eight.Goals.{in-Ok, in-Err}
 use Rattle.columnar_base.proofs.tuple.eight.enter_eight.Goals as goal
 
@@ -31,3 +32,12 @@ returns-clause-ok g c = elim c.match-enter_seven.branch [ in-Ok w ↦ rw (w.resu
 
 pub returns-clause-err : goal.returns-clause-err
 returns-clause-err g c = elim c.match-enter_seven.branch [ in-Ok w ↦ rw w.result-is tt | in-Err w ↦ rw (w.result-is, w.first-is, w.taken_back.ensures.error) (others_refused g.A.Column.format g.B.Column.format (g.C.Column.format ∷ g.D.Column.format ∷ g.E.Column.format ∷ g.F.Column.format ∷ g.G.Column.format ∷ g.H.Column.format ∷ []) (g.P.Enter.entry c.args.p) (g.Q.Enter.entry c.args.q) (g.R.Enter.entry c.args.r ∷ g.S.Enter.entry c.args.s ∷ g.T.Enter.entry c.args.t ∷ g.U.Enter.entry c.args.u ∷ g.V.Enter.entry c.args.v ∷ g.W.Enter.entry c.args.w ∷ []) g.met.A.Truncate.lawful c.requires.sound c.requires.level c.in_ok-enter.ensures.ok (rw c.len-before.ensures at w.taken_back.ensures.cut) w.in-Err.ensures.err) ]
+
+pub returns-in_err-enter-clause-wanted : goal.returns-in_err-enter-clause-wanted
+returns-in_err-enter-clause-wanted g c = λ k. rw (passed_on c.from_residual.result c.from_residual.ensures.1) (first_full (pair_room (g.B.Column.room c.args.second.now) (pair_room (g.C.Column.room c.args.third.now) (pair_room (g.D.Column.room c.args.fourth.now) (pair_room (g.E.Column.room c.args.fifth.now) (pair_room (g.F.Column.room c.args.sixth.now) (pair_room (g.G.Column.room c.args.seventh.now) (g.H.Column.room c.args.eighth.now))))))) (g.P.Enter.entry c.args.p) (g.Q.Enter.entry c.args.q) (g.R.Enter.entry c.args.r ∷ g.S.Enter.entry c.args.s ∷ g.T.Enter.entry c.args.t ∷ g.U.Enter.entry c.args.u ∷ g.V.Enter.entry c.args.v ∷ g.W.Enter.entry c.args.w ∷ []) c.requires.level (c.in_err-enter.ensures.wanted k.0))
+
+pub returns-clause-left : goal.returns-clause-left
+returns-clause-left g c = elim c.match-enter_seven.branch [ in-Ok w ↦ rw (w.result-is, w.first-is) (next_leaves (g.P.Enter.entry c.args.p) (g.Q.Enter.entry c.args.q) (g.R.Enter.entry c.args.r ∷ g.S.Enter.entry c.args.s ∷ g.T.Enter.entry c.args.t ∷ g.U.Enter.entry c.args.u ∷ g.V.Enter.entry c.args.v ∷ g.W.Enter.entry c.args.w ∷ []) c.requires.level c.in_ok-enter.ensures.left w.in-Ok.ensures.left) | in-Err w ↦ rw w.result-is tt ]
+
+pub returns-clause-wanted : goal.returns-clause-wanted
+returns-clause-wanted g c = λ k. elim c.match-enter_seven.branch [ in-Ok w ↦ rw w.result-is tt | in-Err w ↦ rw (w.result-is, w.taken_back.ensures.error) (others_full (g.A.Column.room c.args.first.now) (g.P.Enter.entry c.args.p) (g.Q.Enter.entry c.args.q) (g.R.Enter.entry c.args.r ∷ g.S.Enter.entry c.args.s ∷ g.T.Enter.entry c.args.t ∷ g.U.Enter.entry c.args.u ∷ g.V.Enter.entry c.args.v ∷ g.W.Enter.entry c.args.w ∷ []) c.requires.level (w.in-Err.ensures.wanted k.1)) ]

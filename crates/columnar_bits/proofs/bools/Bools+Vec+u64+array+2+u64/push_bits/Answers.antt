@@ -48,3 +48,8 @@ pub returns-in_err-push-clause-no_memory : goal.returns-in_err-push-clause-no_me
 returns-in_err-push-clause-no_memory c = λ h.
     let f = owned_bits_of c.requires.sound c.words.ensures c.tail_parts-word.ensures.word c.tail_parts-word.ensures.count in
     absurd (omega (arith, f.length_is, f.few, c.if-total-lt64.false))
+
+pub returns-in_err-push-clause-wanted : goal.returns-in_err-push-clause-wanted
+returns-in_err-push-clause-wanted c = λ h.
+    let f = owned_bits_of c.requires.sound c.words.ensures c.tail_parts-word.ensures.word c.tail_parts-word.ensures.count in
+    omega (arith, f.length_is, c.if-total-lt64.false, c.in_err-push.ensures.full)

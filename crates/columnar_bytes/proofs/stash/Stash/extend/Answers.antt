@@ -5,6 +5,7 @@ use Rattle.columnar_core.specs.Row.{Row}
 use Rattle.columnar_core.specs.Change.{Took, Refused}
 use Rattle.columnar_core.specs.ChangeLaws.{passed_on, took_none}
 use Rattle.columnar_core.specs.AlikeLaws.{alike_length}
+use Rattle.columnar_core.specs.RoomLaws.{leaves_none, leaves_more, full_more}
 use Rattle.columnar_base.specs.ExtendLaws.{yields_more, all_last, extend_more, extend_stopped}
 use Rattle.columnar_core.specs.declared.fault.GrowError.{GrowError}
 use Rattle.columnar_bytes.specs.Stashes.{variant_of, typed}
@@ -25,7 +26,7 @@ one_more [] x h = cc
 one_more (y ∷ xs) x h = cc
 
 pub loop-item-init : goal.loop-item-init
-loop-item-init g c = record { took = took_none c.requires.sound; first = λ e. refl; later = λ h. absurd (h refl) }
+loop-item-init g c = record { took = took_none c.requires.sound; left = leaves_none; first = λ e. refl; later = λ h. absurd (h refl) }
 
 pub push-requires-clause-valid : goal.push-requires-clause-valid
 push-requires-clause-valid g c = all_last g.T.Item.valid c.loop-item.yielded c.in-Some.item (c.requires.valid (c.loop-item.yielded ++ c.in-Some.item ∷ []) c.next.new.self (rw c.into_iter-item-iterator.ensures.into_iter_gives at (yields_more g.I.Iterator.next_gives c.into_iter-item-iterator.result c.loop-item.item-iterator c.next.new.self c.loop-item.yielded c.in-Some.item c.loop-item.yielded_by c.in-Some.ensures.steps)))
@@ -33,6 +34,7 @@ push-requires-clause-valid g c = all_last g.T.Item.valid c.loop-item.yielded c.i
 pub loop-item-preserved : goal.loop-item-preserved
 loop-item-preserved g c = record {
   took = extend_more g.T.Item.meaning c.loop-item.yielded c.in-Some.item c.loop-item.invariant.took c.in_ok-push.ensures.ok;
+  left = leaves_more g.T.Item.meaning c.loop-item.yielded c.in-Some.item c.loop-item.invariant.left c.in_ok-push.ensures.left;
   first = λ e. absurd (one_more c.loop-item.yielded c.in-Some.item e);
   later = λ h. c.in_ok-push.ensures.typed;
 }
@@ -44,3 +46,6 @@ pub returns-in_err-push-clause-bytes : goal.returns-in_err-push-clause-bytes
 returns-in_err-push-clause-bytes g c = λ e n.
     let i = c.loop-item.invariant.first (none_taken g.T.Item.meaning c.loop-item.yielded c.loop-item.invariant.took (sym c.in_err-push.ensures.err.stayed.rows ∙ e)) in
     c.in_err-push.ensures.bytes (λ t. n (sym (ap variant_of i) ∙ t)) ∙ i
+
+pub returns-in_err-push-clause-wanted : goal.returns-in_err-push-clause-wanted
+returns-in_err-push-clause-wanted g c = λ k. rw (passed_on c.from_residual.result c.from_residual.ensures.1) ((c.loop-item.yielded ++ c.in-Some.item ∷ [], c.next.new.self, (rw c.into_iter-item-iterator.ensures.into_iter_gives at (yields_more g.I.Iterator.next_gives c.into_iter-item-iterator.result c.loop-item.item-iterator c.next.new.self c.loop-item.yielded c.in-Some.item c.loop-item.yielded_by c.in-Some.ensures.steps), (extend_stopped g.T.Item.meaning c.loop-item.yielded c.in-Some.item c.loop-item.invariant.took c.in_err-push.ensures.err, full_more g.T.Item.meaning c.loop-item.yielded c.in-Some.item c.loop-item.invariant.left (c.in_err-push.ensures.wanted k)))))

@@ -1,5 +1,6 @@
 use Rattle.columnar_primitive.specs.DurationLaws.{durations_parts, durations_stayed}
 use Rattle.columnar_base.specs.ChangeLaws.{unchanged}
+use Rattle.columnar_base.specs.RoomLaws.{both_reserved}
 use Rattle.columnar_primitive.proofs.durations.DurationsReserve.reserve_room.Goals as goal
 
 pub reserve_room-requires : goal.reserve_room-requires
@@ -13,3 +14,6 @@ returns-in_err-reserve_room-clause-stayed g c = durations_stayed g.SC.Column.for
 
 pub returns-clause-stayed : goal.returns-clause-stayed
 returns-clause-stayed g c = durations_stayed g.SC.Column.format g.NC.Column.format c.requires c.reserve_room.ensures.stayed c.reserve_room-2.ensures.stayed
+
+pub returns-clause-room : goal.returns-clause-room
+returns-clause-room g c = both_reserved _ _ _ _ _ _ c.reserve_room-2.result c.in_ok-reserve_room.ensures.room c.reserve_room-2.ensures.room

@@ -19,6 +19,7 @@ loop-chunk-init g c =
       sum = c.count_after-sum.ensures ∙ (rw c.words.ensures (sum_start ws (words_in (le_bytes c.args.counts.now.items)) c.len-before.result c.requires.exact (omega (arith, c.len-before.ensures, length_words_back c.args.counts.now.items))));
       counted = record { exact = c.requires.exact; many = omega (arith, c.len-before.ensures); front = take_all _ _ (omega (arith, c.len-before.ensures)) };
       from = omega arith;
+      capacity = omega arith;
       turns = refl;
     }
 
@@ -55,5 +56,15 @@ loop-chunk-preserved g c =
       sum = e;
       counted = counted_on c.loop-at.sum c.loop-chunk.invariant.counted c.loop-chunk.invariant.from e (omega (arith, c.loop-at.auto.sum-fits)) c.in-Ok.ensures.items;
       from = omega (arith, c.loop-chunk.invariant.from);
+      capacity = omega (arith, c.loop-chunk.invariant.capacity, c.push.ensures.capacity);
       turns = omega (arith, c.loop-at.invariant.turns, q);
     }
+
+pub returns-in-Err-clause-full : goal.returns-in-Err-clause-full
+returns-in-Err-clause-full g c = omega (arith, c.loop-chunk.invariant.capacity, c.in-Err.ensures.full, c.loop-chunk.invariant.counted.many, c.loop-chunk.counts.ok.0, c.loop-chunk-test.true, c.word_count-chunk-end.ensures.count)
+
+pub returns-in-Err-clause-capacity : goal.returns-in-Err-clause-capacity
+returns-in-Err-clause-capacity g c = omega (arith, c.loop-chunk.invariant.capacity, c.push.ensures.capacity, c.truncate.ensures.capacity)
+
+pub returns-clause-capacity : goal.returns-clause-capacity
+returns-clause-capacity g c = c.loop-chunk.invariant.capacity

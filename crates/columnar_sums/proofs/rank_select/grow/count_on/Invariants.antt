@@ -1,4 +1,5 @@
 use Rattle.std.proofs.Common.{◌≡◌, ◌+◌, ◌*◌, ◌≤◌}
+use Rattle.std.specs.Vec.{vec_capacity}
 use Rattle.columnar_core.specs.WordViews.{bit_words, view_bytes}
 use Rattle.columnar_bits.specs.Bits.{bit_in}
 use Rattle.columnar_sums.specs.Counting.{ones_below}
@@ -11,6 +12,7 @@ invariant-loop-chunk g l =
       sum : l.sum ≡ ones_below (bit_in (bit_words (view_bytes l.values) (view_bytes l.tail))) (1024 * l.chunk);
       counted : CountedTo (bit_words (view_bytes l.values) (view_bytes l.tail)) l.fn.counts.items l.counts.items l.before l.chunk;
       from : l.before ≤ l.chunk;
+      capacity : vec_capacity l.fn.counts ≤ vec_capacity l.counts;
       turns : l.tally.turns + 17 * l.before ≡ l.fn.tally.turns + 17 * l.chunk;
     }
 

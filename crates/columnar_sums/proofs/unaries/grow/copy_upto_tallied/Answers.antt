@@ -15,3 +15,6 @@ returns-clause-ok g c = rw (← c.cut_end_tallied-to.ensures.value) c.copy_bits.
 
 pub returns-clause-length : goal.returns-clause-length
 returns-clause-length g c = rw (← c.cut_end_tallied-to.ensures.value) c.copy_bits.ensures.length
+
+pub returns-clause-wanted : goal.returns-clause-wanted
+returns-clause-wanted g c = rw (← c.cut_end_tallied-to.ensures.value) c.copy_bits.ensures.wanted

@@ -12,6 +12,7 @@ loop-at-init c =
       many = omega (arith, c.len-before.ensures);
       front = take_all c.len-before.result c.args.counts.now.items (omega (arith, c.len-before.ensures));
       from = omega arith;
+      capacity = omega arith;
     }
 
 pub loop-at-preserved : goal.loop-at-preserved
@@ -25,4 +26,11 @@ loop-at-preserved c =
       many = omega (arith, ap length c.in-Ok.ensures.items, length_push c.loop-at.counts.items c.args.total);
       front = ap (take c.len-before.result) c.in-Ok.ensures.items ∙ take-append-le c.len-before.result c.loop-at.counts.items (c.args.total ∷ []) (omega (arith, i.from)) ∙ i.front;
       from = omega (arith, i.from);
+      capacity = omega (arith, i.capacity, c.push.ensures.capacity);
     }
+
+pub returns-in-Err-clause-full : goal.returns-in-Err-clause-full
+returns-in-Err-clause-full c = omega (arith, c.loop-at.invariant.capacity, c.in-Err.ensures.full, c.loop-at.invariant.many, c.loop-at.counts.ok.0, c.loop-at-test.true)
+
+pub returns-in-Err-clause-capacity : goal.returns-in-Err-clause-capacity
+returns-in-Err-clause-capacity c = omega (arith, c.loop-at.invariant.capacity, c.push.ensures.capacity, c.truncate.ensures.capacity)

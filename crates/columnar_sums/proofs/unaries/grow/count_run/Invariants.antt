@@ -1,4 +1,5 @@
 use Rattle.std.proofs.Common.{◌-◌, ◌≡◌, ◌≤◌, ◌++◌, length, take}
+use Rattle.std.specs.Vec.{vec_capacity}
 use Rattle.columnar_core.specs.WordViews.{words_in, le_bytes}
 use Rattle.columnar_sums.specs.UnaryColumns.{repeated}
 use Rattle.columnar_sums.proofs.unaries.grow.count_run.Given as goal
@@ -10,4 +11,5 @@ invariant-loop-at l =
       many : length l.counts.items ≡ l.at;
       front : take l.before l.counts.items ≡ l.fn.counts.items;
       from : l.before ≤ l.at;
+      capacity : vec_capacity l.fn.counts ≤ vec_capacity l.counts;
     }

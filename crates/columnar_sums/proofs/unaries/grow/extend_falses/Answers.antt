@@ -10,6 +10,9 @@ use Rattle.columnar_sums.specs.RankChangeLaws.{ranks_stayed, counts_many, length
 use Rattle.columnar_sums.specs.UnaryBitLaws.{repeated_same}
 use Rattle.columnar_sums.specs.UnaryChangeLaws.{falses_ranked}
 use Rattle.columnar_sums.specs.UnaryColumns.{repeated}
+use Rattle.std.specs.Vec.{vec_capacity}
+use Rattle.columnar_sums.specs.RankColumns.{ranked_bits}
+use Rattle.columnar_sums.specs.RoomLaws.{full_of_words, full_of_counts, ranks_more}
 use Rattle.columnar_sums.proofs.unaries.grow.extend_falses.Goals as goal
 
 pub returns-in_err-push_falses-clause-err : goal.returns-in_err-push_falses-clause-err
@@ -42,10 +45,27 @@ pub returns-in-Err-clause-err : goal.returns-in-Err-clause-err
 returns-in-Err-clause-err c =
     let s = (ranks_parts c.requires.sound).bools in
     let h = bools_grew (record { sound = bools_parts c.push_falses.ensures.sound; bits = c.in_ok-push_falses.ensures.ok }) in
-    rw c.in-Err.ensures.err (ranks_stayed c.requires.sound (undone bools_lawful (bools_sound s) h (rw c.len-start.ensures at c.truncate.ensures)))
+    rw c.in-Err.ensures.err (ranks_stayed c.requires.sound (undone bools_lawful (bools_sound s) h (rw c.len-start.ensures at c.truncate.ensures.cut)))
 
 pub returns-in-Err-clause-sound : goal.returns-in-Err-clause-sound
 returns-in-Err-clause-sound c =
     let s = (ranks_parts c.requires.sound).bools in
     let h = bools_grew (record { sound = bools_parts c.push_falses.ensures.sound; bits = c.in_ok-push_falses.ensures.ok }) in
-    rw c.in-Err.ensures.err ((ranks_stayed c.requires.sound (undone bools_lawful (bools_sound s) h (rw c.len-start.ensures at c.truncate.ensures))).sound)
+    rw c.in-Err.ensures.err ((ranks_stayed c.requires.sound (undone bools_lawful (bools_sound s) h (rw c.len-start.ensures at c.truncate.ensures.cut))).sound)
+
+pub returns-in_err-push_falses-clause-wanted : goal.returns-in_err-push_falses-clause-wanted
+returns-in_err-push_falses-clause-wanted c = rw (passed_on c.from_residual.result c.from_residual.ensures.1) (full_of_words (vec_capacity c.args.bits.now.values.values) (vec_capacity c.args.bits.now.counts) (length (ranked_bits c.args.bits.now) + c.args.count) (c.in_err-push_falses.ensures.wanted c.requires.short))
+
+pub returns-in-Err-clause-wanted : goal.returns-in-Err-clause-wanted
+returns-in-Err-clause-wanted c =
+    let l = length-truths_rows (le_bytes c.args.bits.now.values.values.items) (le_bytes c.args.bits.now.values.tail) in
+    full_of_counts (vec_capacity c.args.bits.now.values.values) (vec_capacity c.args.bits.now.counts) (length (ranked_bits c.args.bits.now) + c.args.count) (omega (arith, l, c.in-Err.ensures.full, c.len-start.ensures))
+
+pub returns-in_err-push_falses-clause-capacity : goal.returns-in_err-push_falses-clause-capacity
+returns-in_err-push_falses-clause-capacity c = ranks_more (vec_capacity c.args.bits.now.values.values) (vec_capacity c.args.bits.now.counts) (vec_capacity c.push_falses.new.values.values) (vec_capacity c.args.bits.now.counts) c.push_falses.ensures.capacity (omega arith)
+
+pub returns-in-Err-clause-capacity : goal.returns-in-Err-clause-capacity
+returns-in-Err-clause-capacity c = ranks_more (vec_capacity c.args.bits.now.values.values) (vec_capacity c.args.bits.now.counts) (vec_capacity c.truncate.new.self.values) (vec_capacity c.count_run.new.counts) (omega (arith, c.push_falses.ensures.capacity, c.truncate.ensures.capacity)) c.count_run.ensures.capacity
+
+pub returns-in-Ok-clause-capacity : goal.returns-in-Ok-clause-capacity
+returns-in-Ok-clause-capacity c = ranks_more (vec_capacity c.args.bits.now.values.values) (vec_capacity c.args.bits.now.counts) (vec_capacity c.push_falses.new.values.values) (vec_capacity c.count_run.new.counts) c.push_falses.ensures.capacity c.count_run.ensures.capacity

@@ -80,7 +80,7 @@ pub returns-in_err-extend_from_self-clause-err : goal.returns-in_err-extend_from
 returns-in_err-extend_from_self-clause-err g c = rw (passed_on c.from_residual.result c.from_residual.ensures.1) (dual_refused_firsts g.SC.Column.format g.TC.Column.format g.V.Column.format g.W.Column.format {w = (forms_content g.CVar.Variants.bytes g.COff.Words.bytes c.args.kinds.now)} c.args.range.start c.args.range.«end» c.requires.sound c.requires.view_sound (refused_as (same_range (g.V.Column.format.rows (g.V.Column.content c.args.first_view)) c.rows_before-from_first.result c.rows_before-to_first.result (times 0 (take c.args.range.start (variants_of (forms_content g.CVar.Variants.bytes g.COff.Words.bytes c.args.kinds.now)))) (times 0 (take (c.args.range.«end» - c.args.range.start) (drop c.args.range.start (variants_of (forms_content g.CVar.Variants.bytes g.COff.Words.bytes c.args.kinds.now))))) c.rows_before-from_first.ensures (omega (arith, (times_range 0 c.args.range.start c.args.range.«end» (variants_of (forms_content g.CVar.Variants.bytes g.COff.Words.bytes c.args.kinds.now)) c.requires.ordered), c.rows_before-from_first.ensures, c.rows_before-to_first.ensures))) c.in_err-extend_from_self.ensures.err))
 
 pub returns-in-Err-clause-err : goal.returns-in-Err-clause-err
-returns-in-Err-clause-err g c = dual_refused_seconds g.SC.Column.format g.TC.Column.format g.V.Column.format g.W.Column.format {w = (forms_content g.CVar.Variants.bytes g.COff.Words.bytes c.args.kinds.now)} c.args.range.start c.args.range.«end» c.requires.sound c.requires.view_sound (undone g.met.SC.Truncate.lawful (firsts_sound g.SC.Column.format g.TC.Column.format c.requires.sound) c.in_ok-extend_from_self.ensures.ok.took.grew (rw c.len-firsts_before.ensures at c.truncate.ensures)) (refused_as (same_range (g.W.Column.format.rows (g.W.Column.content c.args.second_view)) c.rows_before-from_second.result c.rows_before-to_second.result (times 1 (take c.args.range.start (variants_of (forms_content g.CVar.Variants.bytes g.COff.Words.bytes c.args.kinds.now)))) (times 1 (take (c.args.range.«end» - c.args.range.start) (drop c.args.range.start (variants_of (forms_content g.CVar.Variants.bytes g.COff.Words.bytes c.args.kinds.now))))) c.rows_before-from_second.ensures (omega (arith, (times_range 1 c.args.range.start c.args.range.«end» (variants_of (forms_content g.CVar.Variants.bytes g.COff.Words.bytes c.args.kinds.now)) c.requires.ordered), c.rows_before-from_second.ensures, c.rows_before-to_second.ensures))) c.in-Err.ensures.err)
+returns-in-Err-clause-err g c = dual_refused_seconds g.SC.Column.format g.TC.Column.format g.V.Column.format g.W.Column.format {w = (forms_content g.CVar.Variants.bytes g.COff.Words.bytes c.args.kinds.now)} c.args.range.start c.args.range.«end» c.requires.sound c.requires.view_sound (undone g.met.SC.Truncate.lawful (firsts_sound g.SC.Column.format g.TC.Column.format c.requires.sound) c.in_ok-extend_from_self.ensures.ok.took.grew (rw c.len-firsts_before.ensures at c.truncate.ensures.cut)) (refused_as (same_range (g.W.Column.format.rows (g.W.Column.content c.args.second_view)) c.rows_before-from_second.result c.rows_before-to_second.result (times 1 (take c.args.range.start (variants_of (forms_content g.CVar.Variants.bytes g.COff.Words.bytes c.args.kinds.now)))) (times 1 (take (c.args.range.«end» - c.args.range.start) (drop c.args.range.start (variants_of (forms_content g.CVar.Variants.bytes g.COff.Words.bytes c.args.kinds.now))))) c.rows_before-from_second.ensures (omega (arith, (times_range 1 c.args.range.start c.args.range.«end» (variants_of (forms_content g.CVar.Variants.bytes g.COff.Words.bytes c.args.kinds.now)) c.requires.ordered), c.rows_before-from_second.ensures, c.rows_before-to_second.ensures))) c.in-Err.ensures.err)
 
 pub extend_variants-requires-clause-sound : goal.extend_variants-requires-clause-sound
 extend_variants-requires-clause-sound g c = forms_sound g.SC.Column.format g.TC.Column.format c.requires.sound
@@ -109,4 +109,4 @@ returns-clause-ok g c = dual_copied g.SC.Column.format g.TC.Column.format g.V.Co
 pub returns-in-Err-extend_variants-clause-err : goal.returns-in-Err-extend_variants-clause-err
 returns-in-Err-extend_variants-clause-err g c =
     let n = range_length (variants_of (forms_content g.CVar.Variants.bytes g.COff.Words.bytes c.args.kinds.now)) c.args.range.start (c.args.range.«end» - c.args.range.start) (omega (arith, c.requires.ordered, c.requires.in_range, variants_count (dual_bank g.V.Column.format g.W.Column.format) (both (g.V.Column.content c.args.first_view) (g.W.Column.content c.args.second_view)) (forms_content g.CVar.Variants.bytes g.COff.Words.bytes c.args.kinds.now))) in
-    dual_refused_forms g.SC.Column.format g.TC.Column.format g.V.Column.format g.W.Column.format (g.V.Column.content c.args.first_view) (g.W.Column.content c.args.second_view) (forms_content g.CVar.Variants.bytes g.COff.Words.bytes c.args.kinds.now) c.args.range.start c.args.range.«end» c.requires.sound (undone g.met.SC.Truncate.lawful (firsts_sound g.SC.Column.format g.TC.Column.format c.requires.sound) c.in_ok-extend_from_self.ensures.ok.took.grew (rw c.len-firsts_before.ensures at c.truncate-in-Err-extend_variants.ensures)) (undone g.met.TC.Truncate.lawful (seconds_sound g.SC.Column.format g.TC.Column.format c.requires.sound) c.in-Ok.ensures.ok.took.grew (rw c.len-seconds_before.ensures at c.truncate-in-Err-extend_variants-2.ensures)) c.in-Err-extend_variants.ensures.stayed c.in-Err-extend_variants.ensures.variants_stay (λ rs l. c.in-Err-extend_variants.ensures.cause rs (l ∙ n))
+    dual_refused_forms g.SC.Column.format g.TC.Column.format g.V.Column.format g.W.Column.format (g.V.Column.content c.args.first_view) (g.W.Column.content c.args.second_view) (forms_content g.CVar.Variants.bytes g.COff.Words.bytes c.args.kinds.now) c.args.range.start c.args.range.«end» c.requires.sound (undone g.met.SC.Truncate.lawful (firsts_sound g.SC.Column.format g.TC.Column.format c.requires.sound) c.in_ok-extend_from_self.ensures.ok.took.grew (rw c.len-firsts_before.ensures at c.truncate-in-Err-extend_variants.ensures.cut)) (undone g.met.TC.Truncate.lawful (seconds_sound g.SC.Column.format g.TC.Column.format c.requires.sound) c.in-Ok.ensures.ok.took.grew (rw c.len-seconds_before.ensures at c.truncate-in-Err-extend_variants-2.ensures.cut)) c.in-Err-extend_variants.ensures.stayed c.in-Err-extend_variants.ensures.variants_stay (λ rs l. c.in-Err-extend_variants.ensures.cause rs (l ∙ n))

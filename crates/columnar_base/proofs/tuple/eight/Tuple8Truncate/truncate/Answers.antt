@@ -1,6 +1,9 @@
 -- Made by .ci/widths.py: change .ci/widths/answers.template, and not this file.
 use Rattle.std.proofs.Common.{[], ◌∷◌}
+use Rattle.columnar_base.specs.LongTuples.{nested}
 use Rattle.columnar_base.specs.LongTupleLaws.{tuple_parts, up_to, tuple_cut}
+use Rattle.columnar_base.specs.RoomLaws.{pair_frees}
+use Rattle.columnar_base.specs.EntryLaws.{tuple_frees}
 use Rattle.columnar_base.proofs.tuple.eight.Tuple8Truncate.truncate.Goals as goal
 
 pub truncate-requires : goal.truncate-requires
@@ -27,5 +30,8 @@ truncate-requires-7 g c = let p = (tuple_parts g.A.Column.format g.B.Column.form
 pub truncate-requires-8 : goal.truncate-requires-8
 truncate-requires-8 g c = let p = (tuple_parts g.A.Column.format g.B.Column.format (g.C.Column.format ∷ g.D.Column.format ∷ g.E.Column.format ∷ g.F.Column.format ∷ g.G.Column.format ∷ g.H.Column.format ∷ []) c.requires.sound).1.1.1.1.1.1.1 in record { sound = p.sound; in_range = up_to p c.requires.in_range }
 
-pub returns : goal.returns
-returns g c = tuple_cut g.A.Column.format g.B.Column.format (g.C.Column.format ∷ g.D.Column.format ∷ g.E.Column.format ∷ g.F.Column.format ∷ g.G.Column.format ∷ g.H.Column.format ∷ []) c.args.n c.requires.sound (c.truncate.ensures, (c.truncate-2.ensures, (c.truncate-3.ensures, (c.truncate-4.ensures, (c.truncate-5.ensures, (c.truncate-6.ensures, (c.truncate-7.ensures, c.truncate-8.ensures)))))))
+pub returns-clause-cut : goal.returns-clause-cut
+returns-clause-cut g c = tuple_cut g.A.Column.format g.B.Column.format (g.C.Column.format ∷ g.D.Column.format ∷ g.E.Column.format ∷ g.F.Column.format ∷ g.G.Column.format ∷ g.H.Column.format ∷ []) c.args.n c.requires.sound (c.truncate.ensures.cut, (c.truncate-2.ensures.cut, (c.truncate-3.ensures.cut, (c.truncate-4.ensures.cut, (c.truncate-5.ensures.cut, (c.truncate-6.ensures.cut, (c.truncate-7.ensures.cut, c.truncate-8.ensures.cut)))))))
+
+pub returns-clause-freed : goal.returns-clause-freed
+returns-clause-freed g c = tuple_frees g.A.Column.format g.B.Column.format (g.C.Column.format ∷ g.D.Column.format ∷ g.E.Column.format ∷ g.F.Column.format ∷ g.G.Column.format ∷ g.H.Column.format ∷ []) c.args.n (pair_frees g.A.Column.format (nested g.B.Column.format (g.C.Column.format ∷ g.D.Column.format ∷ g.E.Column.format ∷ g.F.Column.format ∷ g.G.Column.format ∷ g.H.Column.format ∷ [])) c.args.n c.truncate.ensures.freed (pair_frees g.B.Column.format (nested g.C.Column.format (g.D.Column.format ∷ g.E.Column.format ∷ g.F.Column.format ∷ g.G.Column.format ∷ g.H.Column.format ∷ [])) c.args.n c.truncate-2.ensures.freed (pair_frees g.C.Column.format (nested g.D.Column.format (g.E.Column.format ∷ g.F.Column.format ∷ g.G.Column.format ∷ g.H.Column.format ∷ [])) c.args.n c.truncate-3.ensures.freed (pair_frees g.D.Column.format (nested g.E.Column.format (g.F.Column.format ∷ g.G.Column.format ∷ g.H.Column.format ∷ [])) c.args.n c.truncate-4.ensures.freed (pair_frees g.E.Column.format (nested g.F.Column.format (g.G.Column.format ∷ g.H.Column.format ∷ [])) c.args.n c.truncate-5.ensures.freed (pair_frees g.F.Column.format (nested g.G.Column.format (g.H.Column.format ∷ [])) c.args.n c.truncate-6.ensures.freed (pair_frees g.G.Column.format (nested g.H.Column.format ([])) c.args.n c.truncate-7.ensures.freed c.truncate-8.ensures.freed)))))))

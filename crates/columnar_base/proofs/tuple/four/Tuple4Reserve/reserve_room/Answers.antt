@@ -1,6 +1,7 @@
 -- Made by .ci/widths.py: change .ci/widths/answers.template, and not this file.
 use Rattle.std.proofs.Common.{[], ◌∷◌}
 use Rattle.columnar_base.specs.LongTupleLaws.{tuple_parts, tuple_stayed}
+use Rattle.columnar_base.specs.RoomLaws.{both_covered, on_earlier}
 use Rattle.columnar_base.proofs.tuple.four.Tuple4Reserve.reserve_room.Goals as goal
 
 pub reserve_room-done-requires : goal.reserve_room-done-requires
@@ -17,3 +18,6 @@ reserve_after-requires-clause-sound g c = (tuple_parts g.A.Column.format g.B.Col
 
 pub returns-clause-stayed : goal.returns-clause-stayed
 returns-clause-stayed g c = tuple_stayed g.A.Column.format g.B.Column.format (g.C.Column.format ∷ g.D.Column.format ∷ []) c.requires (c.reserve_room-done.ensures.stayed, (c.reserve_after-done.ensures.stayed, (c.reserve_after-done-2.ensures.stayed, c.reserve_after.ensures.stayed)))
+
+pub returns-clause-room : goal.returns-clause-room
+returns-clause-room g c = both_covered _ _ _ _ _ _ c.reserve_after.result (on_earlier _ c.reserve_after.result c.reserve_after-done-2.result c.reserve_after.ensures.earlier (on_earlier _ c.reserve_after-done-2.result c.reserve_after-done.result c.reserve_after-done-2.ensures.earlier (on_earlier _ c.reserve_after-done.result c.reserve_room-done.result c.reserve_after-done.ensures.earlier c.reserve_room-done.ensures.room))) (both_covered _ _ _ _ _ _ c.reserve_after.result (on_earlier _ c.reserve_after.result c.reserve_after-done-2.result c.reserve_after.ensures.earlier (on_earlier _ c.reserve_after-done-2.result c.reserve_after-done.result c.reserve_after-done-2.ensures.earlier c.reserve_after-done.ensures.room)) (both_covered _ _ _ _ _ _ c.reserve_after.result (on_earlier _ c.reserve_after.result c.reserve_after-done-2.result c.reserve_after.ensures.earlier c.reserve_after-done-2.ensures.room) c.reserve_after.ensures.room))

@@ -1,6 +1,9 @@
 -- Made by .ci/widths.py: change .ci/widths/answers.template, and not this file.
 use Rattle.std.proofs.Common.{[], ◌∷◌}
+use Rattle.columnar_base.specs.LongTuples.{nested}
 use Rattle.columnar_base.specs.LongTupleLaws.{tuple_parts, up_to, tuple_cut}
+use Rattle.columnar_base.specs.RoomLaws.{pair_frees}
+use Rattle.columnar_base.specs.EntryLaws.{tuple_frees}
 use Rattle.columnar_base.proofs.tuple.four.Tuple4Truncate.truncate.Goals as goal
 
 pub truncate-requires : goal.truncate-requires
@@ -15,5 +18,8 @@ truncate-requires-3 g c = let p = (tuple_parts g.A.Column.format g.B.Column.form
 pub truncate-requires-4 : goal.truncate-requires-4
 truncate-requires-4 g c = let p = (tuple_parts g.A.Column.format g.B.Column.format (g.C.Column.format ∷ g.D.Column.format ∷ []) c.requires.sound).1.1.1 in record { sound = p.sound; in_range = up_to p c.requires.in_range }
 
-pub returns : goal.returns
-returns g c = tuple_cut g.A.Column.format g.B.Column.format (g.C.Column.format ∷ g.D.Column.format ∷ []) c.args.n c.requires.sound (c.truncate.ensures, (c.truncate-2.ensures, (c.truncate-3.ensures, c.truncate-4.ensures)))
+pub returns-clause-cut : goal.returns-clause-cut
+returns-clause-cut g c = tuple_cut g.A.Column.format g.B.Column.format (g.C.Column.format ∷ g.D.Column.format ∷ []) c.args.n c.requires.sound (c.truncate.ensures.cut, (c.truncate-2.ensures.cut, (c.truncate-3.ensures.cut, c.truncate-4.ensures.cut)))
+
+pub returns-clause-freed : goal.returns-clause-freed
+returns-clause-freed g c = tuple_frees g.A.Column.format g.B.Column.format (g.C.Column.format ∷ g.D.Column.format ∷ []) c.args.n (pair_frees g.A.Column.format (nested g.B.Column.format (g.C.Column.format ∷ g.D.Column.format ∷ [])) c.args.n c.truncate.ensures.freed (pair_frees g.B.Column.format (nested g.C.Column.format (g.D.Column.format ∷ [])) c.args.n c.truncate-2.ensures.freed (pair_frees g.C.Column.format (nested g.D.Column.format ([])) c.args.n c.truncate-3.ensures.freed c.truncate-4.ensures.freed)))

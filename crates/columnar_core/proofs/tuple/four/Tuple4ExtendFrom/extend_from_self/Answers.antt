@@ -1,7 +1,7 @@
 -- Made by .ci/widths.py: change .ci/widths/answers.template, and not this file.
 use Rattle.std.proofs.Common.{[], ◌∷◌}
 use Rattle.columnar_base.specs.LongTupleLaws.{tuple_same}
-use Rattle.columnar_base.specs.EntryLaws.{tuple_pieces, views_level, copied_on_ok, copy_refused}
+use Rattle.columnar_base.specs.EntryLaws.{tuple_pieces, views_level, copied_on_ok, copy_refused, copied_leaves, copied_full}
 use Rattle.columnar_core.proofs.tuple.four.Tuple4ExtendFrom.extend_from_self.Goals as goal
 
 pub enter_four-requires-clause-sound : goal.enter_four-requires-clause-sound
@@ -18,3 +18,9 @@ returns-clause-ok g c = copied_on_ok g.A.Column.format g.B.Column.format (g.C.Co
 
 pub returns-clause-err : goal.returns-clause-err
 returns-clause-err g c = copy_refused g.A.Column.format g.B.Column.format (g.C.Column.format ∷ g.D.Column.format ∷ []) _ _ g.P.Column.format g.Q.Column.format (g.R.Column.format ∷ g.S.Column.format ∷ []) c.args.range.start c.args.range.«end» c.requires.view_sound c.enter_four.result c.enter_four.ensures.err
+
+pub returns-clause-left : goal.returns-clause-left
+returns-clause-left g c = copied_leaves _ _ g.P.Column.format g.Q.Column.format (g.R.Column.format ∷ g.S.Column.format ∷ []) c.args.range.start c.args.range.«end» c.requires.view_sound c.enter_four.result c.enter_four.ensures.left
+
+pub returns-clause-wanted : goal.returns-clause-wanted
+returns-clause-wanted g c = copied_full _ g.P.Column.format g.Q.Column.format (g.R.Column.format ∷ g.S.Column.format ∷ []) c.args.range.start c.args.range.«end» c.requires.view_sound c.enter_four.result (c.enter_four.ensures.wanted (tt, (tt, (tt, tt))))

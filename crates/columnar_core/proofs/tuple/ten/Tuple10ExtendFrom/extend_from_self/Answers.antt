@@ -1,7 +1,7 @@
 -- Made by .ci/widths.py: change .ci/widths/answers.template, and not this file.
 use Rattle.std.proofs.Common.{[], ◌∷◌}
 use Rattle.columnar_base.specs.LongTupleLaws.{tuple_same}
-use Rattle.columnar_base.specs.EntryLaws.{tuple_pieces, views_level, copied_on_ok, copy_refused}
+use Rattle.columnar_base.specs.EntryLaws.{tuple_pieces, views_level, copied_on_ok, copy_refused, copied_leaves, copied_full}
 use Rattle.columnar_core.proofs.tuple.ten.Tuple10ExtendFrom.extend_from_self.Goals as goal
 
 pub enter_ten-requires-clause-sound : goal.enter_ten-requires-clause-sound
@@ -18,3 +18,9 @@ returns-clause-ok g c = copied_on_ok g.A.Column.format g.B.Column.format (g.C.Co
 
 pub returns-clause-err : goal.returns-clause-err
 returns-clause-err g c = copy_refused g.A.Column.format g.B.Column.format (g.C.Column.format ∷ g.D.Column.format ∷ g.E.Column.format ∷ g.F.Column.format ∷ g.G.Column.format ∷ g.H.Column.format ∷ g.I.Column.format ∷ g.J.Column.format ∷ []) _ _ g.P.Column.format g.Q.Column.format (g.R.Column.format ∷ g.S.Column.format ∷ g.T.Column.format ∷ g.U.Column.format ∷ g.V.Column.format ∷ g.W.Column.format ∷ g.X.Column.format ∷ g.Y.Column.format ∷ []) c.args.range.start c.args.range.«end» c.requires.view_sound c.enter_ten.result c.enter_ten.ensures.err
+
+pub returns-clause-left : goal.returns-clause-left
+returns-clause-left g c = copied_leaves _ _ g.P.Column.format g.Q.Column.format (g.R.Column.format ∷ g.S.Column.format ∷ g.T.Column.format ∷ g.U.Column.format ∷ g.V.Column.format ∷ g.W.Column.format ∷ g.X.Column.format ∷ g.Y.Column.format ∷ []) c.args.range.start c.args.range.«end» c.requires.view_sound c.enter_ten.result c.enter_ten.ensures.left
+
+pub returns-clause-wanted : goal.returns-clause-wanted
+returns-clause-wanted g c = copied_full _ g.P.Column.format g.Q.Column.format (g.R.Column.format ∷ g.S.Column.format ∷ g.T.Column.format ∷ g.U.Column.format ∷ g.V.Column.format ∷ g.W.Column.format ∷ g.X.Column.format ∷ g.Y.Column.format ∷ []) c.args.range.start c.args.range.«end» c.requires.view_sound c.enter_ten.result (c.enter_ten.ensures.wanted (tt, (tt, (tt, (tt, (tt, (tt, (tt, (tt, (tt, tt))))))))))

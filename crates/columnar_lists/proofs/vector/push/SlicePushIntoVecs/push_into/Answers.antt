@@ -1,6 +1,8 @@
+use Rattle.std.proofs.Common.{◌-◌, take, drop}
 use Rattle.columnar_base.specs.ChangeLaws.{passed_on}
-use Rattle.columnar_lists.specs.ListLaws.{lists_parts, lists_last}
+use Rattle.columnar_lists.specs.ListLaws.{took_length, lists_parts, lists_last}
 use Rattle.columnar_lists.specs.ListPushLaws.{items_not_taken, on_list_ended, on_list_refused}
+use Rattle.columnar_lists.specs.RoomLaws.{list_full_values, on_list_leaves, on_list_full}
 use Rattle.columnar_lists.proofs.vector.push.SlicePushIntoVecs.push_into.Goals as goal
 
 pub len-before-requires : goal.len-before-requires
@@ -23,3 +25,12 @@ returns-clause-err g c = on_list_refused c.end_list.result g.BC.Column.format g.
 
 pub end_list-requires-clause-last : goal.end_list-requires-clause-last
 end_list-requires-clause-last g c = lists_last g.BC.Column.format g.TC.Column.format c.len-before.result c.requires.sound c.len-before.ensures
+
+pub returns-in_err-extend_from_self-clause-wanted : goal.returns-in_err-extend_from_self-clause-wanted
+returns-in_err-extend_from_self-clause-wanted g c = λ k. rw (passed_on c.from_residual.result c.from_residual.ensures.1) (list_full_values (g.BC.Column.room c.args.column.now.bounds) _ _ c.in_err-extend_from_self.ensures.wanted)
+
+pub returns-clause-left : goal.returns-clause-left
+returns-clause-left g c = on_list_leaves _ c.end_list.result g.TC.Column.format (g.TC.Column.content c.extend_from_self.new.self) _ _ _ _ _ _ _ _ (took_length c.in_ok-extend_from_self.ensures.ok.took) c.end_list.ensures.ok c.in_ok-extend_from_self.ensures.left c.end_list.ensures.left c.end_list.ensures.values
+
+pub returns-clause-wanted : goal.returns-clause-wanted
+returns-clause-wanted g c = λ k. on_list_full c.end_list.result _ (g.TC.Column.room c.args.column.now.values) _ _ (take (c.args.self.upper - c.args.self.lower) (drop c.args.self.lower (g.V.Column.format.rows (g.V.Column.content c.args.self.slice)))) (took_length c.in_ok-extend_from_self.ensures.ok.took) c.end_list.ensures.wanted

@@ -5,3 +5,9 @@ returns-clause-ok g c = rw (g.met.T.ArrayItem.is_list g.row.N c.args.item.now c.
 
 pub returns-clause-err : goal.returns-clause-err
 returns-clause-err g c = rw (g.met.T.ArrayItem.is_list g.row.N c.args.item.now c.type_inv.item) (rw c.as_slice.ensures at c.push_list.ensures.err)
+
+pub returns-clause-wanted : goal.returns-clause-wanted
+returns-clause-wanted g c = λ k. rw (g.met.T.ArrayItem.is_list g.row.N c.args.item.now c.type_inv.item) (rw c.as_slice.ensures at (c.push_list.ensures.wanted k))
+
+pub returns-clause-left : goal.returns-clause-left
+returns-clause-left g c = rw (g.met.T.ArrayItem.is_list g.row.N c.args.item.now c.type_inv.item) (rw c.as_slice.ensures at c.push_list.ensures.left)

@@ -12,5 +12,5 @@ truncate-requires-clause-sound g c = lookbacks_results g.TC.Column.format bytes_
 pub truncate-requires-clause-in_range : goal.truncate-requires-clause-in_range
 truncate-requires-clause-in_range g c = rw (← length-recall lookbacks_code [] _) c.requires.in_range
 
-pub returns : goal.returns
-returns g c = recall_cut lookbacks_code g.TC.Column.format.kin (results_format g.TC.Column.format bytes_format) c.requires.sound c.truncate.ensures
+pub returns-clause-cut : goal.returns-clause-cut
+returns-clause-cut g c = recall_cut lookbacks_code g.TC.Column.format.kin (results_format g.TC.Column.format bytes_format) c.requires.sound c.truncate.ensures.cut

@@ -7,5 +7,5 @@ use Rattle.columnar_lookback.proofs.repeats.grow.RepeatsVecU64VecU64ArrayU642Tru
 pub truncate-requires-clause-in_range : goal.truncate-requires-clause-in_range
 truncate-requires-clause-in_range g c = rw (← length-recall repeats_code [] _) c.requires.in_range
 
-pub returns : goal.returns
-returns g c = recall_cut repeats_code g.TC.Column.format.kin (options_format g.TC.Column.format) c.requires.sound c.truncate.ensures
+pub returns-clause-cut : goal.returns-clause-cut
+returns-clause-cut g c = recall_cut repeats_code g.TC.Column.format.kin (options_format g.TC.Column.format) c.requires.sound c.truncate.ensures.cut

@@ -22,9 +22,9 @@ returns-clause-err g c =
       | in-Ok+in-Err-push w ↦
           tree_refused g.T.Item.meaning g.TC.Column.format c.args.self.now.groups.items c.args.self.now.bounds.items c.lay.new.bounds.items c.args.tree c.match-lay.laid g.met.TC.Truncate.lawful c.requires.sound
           c.lay.ensures.begun c.lay.ensures.kept (ap (λ s. s.groups.items) w.self-is ∙ w.in-Err-push.ensures.items) (c.truncate.ensures.items ∙ ap (λ s. take c.len-bounds.result s.bounds.items) w.self-is)
-          (c.len-bounds.ensures ∙ c.args.self.now.bounds.ok.0) (rw w.self-is at c.truncate-2.ensures) c.len-values.ensures (rw w.laid-is tt)
+          (c.len-bounds.ensures ∙ c.args.self.now.bounds.ok.0) (rw w.self-is at c.truncate-2.ensures.cut) c.len-values.ensures (rw w.laid-is tt)
       | in-Err w ↦
           tree_refused g.T.Item.meaning g.TC.Column.format c.args.self.now.groups.items c.args.self.now.bounds.items c.lay.new.bounds.items c.args.tree c.match-lay.laid g.met.TC.Truncate.lawful c.requires.sound
           c.lay.ensures.begun c.lay.ensures.kept (ap (λ s. s.groups.items) w.self-is) (c.truncate.ensures.items ∙ ap (λ s. take c.len-bounds.result s.bounds.items) w.self-is)
-          (c.len-bounds.ensures ∙ c.args.self.now.bounds.ok.0) (rw w.self-is at c.truncate-2.ensures) c.len-values.ensures (rw w.laid-is w.in-Err.ensures.cause)
+          (c.len-bounds.ensures ∙ c.args.self.now.bounds.ok.0) (rw w.self-is at c.truncate-2.ensures.cut) c.len-values.ensures (rw w.laid-is w.in-Err.ensures.cause)
     ]

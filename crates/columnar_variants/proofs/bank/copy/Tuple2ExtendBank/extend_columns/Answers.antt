@@ -42,4 +42,4 @@ pub returns-in-Ok-clause-ok : goal.returns-in-Ok-clause-ok
 returns-in-Ok-clause-ok g c = join_copied_ends g.A.Column.format g.B.ColumnBank.bank ((join g.V.Column.format g.W.ColumnBank.bank).table (both (g.V.Column.content c.args.view.0) (g.W.ColumnBank.contents c.args.view.1))) (slice_index c.args.firsts.now) (slice_index c.args.lasts.now) (slice_index c.others_of.result.now) (slice_index c.others_of-2.result.now) c.first_of.ensures c.first_of-2.ensures c.others_of.ensures c.others_of-2.ensures c.in_ok-extend_from_self.ensures.ok c.in-Ok.ensures.ok
 
 pub returns-in-Err-clause-err : goal.returns-in-Err-clause-err
-returns-in-Err-clause-err g c = later_denied_ends g.A.Column.format g.B.ColumnBank.bank ((join g.V.Column.format g.W.ColumnBank.bank).table (both (g.V.Column.content c.args.view.0) (g.W.ColumnBank.contents c.args.view.1))) (slice_index c.args.firsts.now) (slice_index c.args.lasts.now) (slice_index c.others_of.result.now) (slice_index c.others_of-2.result.now) c.others_of.ensures c.others_of-2.ensures (undone g.met.A.Truncate.lawful (beside_parts g.A.Column.format g.B.ColumnBank.bank.sides c.requires.sound).0 c.in_ok-extend_from_self.ensures.ok.took.grew (rw c.len-before.ensures at c.truncate.ensures)) c.in-Err.ensures.err
+returns-in-Err-clause-err g c = later_denied_ends g.A.Column.format g.B.ColumnBank.bank ((join g.V.Column.format g.W.ColumnBank.bank).table (both (g.V.Column.content c.args.view.0) (g.W.ColumnBank.contents c.args.view.1))) (slice_index c.args.firsts.now) (slice_index c.args.lasts.now) (slice_index c.others_of.result.now) (slice_index c.others_of-2.result.now) c.others_of.ensures c.others_of-2.ensures (undone g.met.A.Truncate.lawful (beside_parts g.A.Column.format g.B.ColumnBank.bank.sides c.requires.sound).0 c.in_ok-extend_from_self.ensures.ok.took.grew (rw c.len-before.ensures at c.truncate.ensures.cut)) c.in-Err.ensures.err

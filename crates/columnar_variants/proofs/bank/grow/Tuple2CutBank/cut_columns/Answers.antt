@@ -12,4 +12,4 @@ pub cut_columns-requires-clause-sound : goal.cut_columns-requires-clause-sound
 cut_columns-requires-clause-sound g c = (beside_parts g.A.Column.format g.B.ColumnBank.bank.sides c.requires.sound).1
 
 pub returns : goal.returns
-returns g c = join_cut g.A.Column.format g.B.ColumnBank.bank c.first_of.result (slice_index c.args.fronts.now) (sym c.first_of.ensures) c.truncate.ensures (cut_as g.B.ColumnBank.bank (one_more (slice_index c.others_of.result.now) (slice_index c.args.fronts.now) c.others_of.ensures) c.cut_columns.ensures)
+returns g c = join_cut g.A.Column.format g.B.ColumnBank.bank c.first_of.result (slice_index c.args.fronts.now) (sym c.first_of.ensures) c.truncate.ensures.cut (cut_as g.B.ColumnBank.bank (one_more (slice_index c.others_of.result.now) (slice_index c.args.fronts.now) c.others_of.ensures) c.cut_columns.ensures)

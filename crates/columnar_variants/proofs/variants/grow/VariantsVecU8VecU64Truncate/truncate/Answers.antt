@@ -21,5 +21,5 @@ truncate-requires-clause-sound g c = (variants_parts g.B.ColumnBank.bank c.requi
 pub truncate-requires-clause-in_range : goal.truncate-requires-clause-in_range
 truncate-requires-clause-in_range g c = rw (variants_count g.B.ColumnBank.bank (g.B.ColumnBank.contents c.args.self.now.columns) (owned_forms c.args.self.now.indexes.variant.items c.args.self.now.indexes.offset.items) ∙ sym (length-variant_rows (variants_of (owned_forms c.args.self.now.indexes.variant.items c.args.self.now.indexes.offset.items)))) at c.requires.in_range
 
-pub returns : goal.returns
-returns g c = variants_cut g.B.ColumnBank.bank g.met.B.ColumnBank.is_bank c.args.n c.requires.sound (cut_as g.B.ColumnBank.bank c.fronts-fronts.ensures.fronts c.cut_columns.ensures) c.truncate.ensures.cut.sound c.truncate.ensures.variants c.truncate.ensures.cut.lengths_cut
+pub returns-clause-cut : goal.returns-clause-cut
+returns-clause-cut g c = variants_cut g.B.ColumnBank.bank g.met.B.ColumnBank.is_bank c.args.n c.requires.sound (cut_as g.B.ColumnBank.bank c.fronts-fronts.ensures.fronts c.cut_columns.ensures) c.truncate.ensures.cut.sound c.truncate.ensures.variants c.truncate.ensures.cut.lengths_cut

@@ -1,0 +1,4 @@
+pub mod Stands
+pub mod StandLaws
+pub mod Lines
+pub mod LineLaws

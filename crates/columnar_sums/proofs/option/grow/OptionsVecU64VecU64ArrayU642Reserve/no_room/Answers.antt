@@ -1,0 +1,4 @@
+use Rattle.columnar_sums.proofs.option.grow.OptionsVecU64VecU64ArrayU642Reserve.no_room.Goals as goal
+
+pub returns : goal.returns
+returns g c = λ p. (c.no_room.ensures tt, c.no_room-2.ensures p)

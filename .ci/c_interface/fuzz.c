@@ -612,7 +612,7 @@ static void try_text(const char *type, uint32_t bounds, uint8_t *texts, uint8_t 
     uint32_t answer = columnar_rows(placed(texts, text, length), length, bounds, placed(stores, text, 0), 0, &rows, &fault);
     /* (no bytes at all break rule 2, whatever the type) */
     bool right = answer == COLUMNAR_BROKEN    ? fault.rule == 2 && fault.slice == 0 && fault.mistake == 0
-                 : answer == COLUMNAR_NO_TYPE ? fault.place <= length && fault.mistake >= 1 && fault.mistake <= 7 && (fault.wanted != 0) == (fault.mistake == COLUMNAR_WANTED)
+                 : answer == COLUMNAR_NO_TYPE ? fault.place <= length && fault.mistake >= 1 && fault.mistake <= 8 && (fault.wanted != 0) == (fault.mistake == COLUMNAR_WANTED)
                                               : answer == COLUMNAR_NO_BOUNDS && bounds > 2 && fault.mistake == 0;
     if (!right || rows != 0)
         complain("a text", type, bounds, text, length, answer, &fault, rows);

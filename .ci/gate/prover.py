@@ -70,8 +70,8 @@ class Crate:
     def check(self, texts, edits=(), keeps=False, by_contract=False):
         """Runs the prover on a copy of the crate with these texts instead of its own, for the functions of these edits or for all;
         `by_contract` assumes the contracts of all others. Reuses what earlier checks proved. A check that keeps must run alone.
-        Returns the status and the output. A check that is killed, most likely for memory, is run again, at most twice."""
-        for _ in range(3):
+        Returns the status and the output. A check that is killed, most likely for memory, is run again, at most seven times."""
+        for _ in range(8):
             Crate.wait()
             status, said = self.once(texts, edits, keeps, by_contract)
             if status != -signal.SIGKILL:

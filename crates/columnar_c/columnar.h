@@ -54,7 +54,8 @@ enum {
                              than 256 variants */
     COLUMNAR_DEEP = 5,    /* more than 64 types are nested, of which an enum counts as four */
     COLUMNAR_NO_NUMBER = 6, /* there is no number at the place, or it is too large */
-    COLUMNAR_TWICE = 7    /* the name at the place stands again among the later fields or variants */
+    COLUMNAR_TWICE = 7,   /* the name at the place stands again among the later fields or variants */
+    COLUMNAR_UNENDED = 8  /* a comment, an attribute or a quoted text has no end */
 };
 
 /* What is wrong. A field that the result does not use is 0. */

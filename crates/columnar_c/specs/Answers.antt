@@ -6,12 +6,12 @@ use Rattle.columnar_core.specs.Frame.{framed_slices}
 use Rattle.columnar_core.specs.declared.fault.StoreFault.{StoreFault}
 use Rattle.columnar_bytes.specs.Accepted.{Accepts, IsFirstFault}
 use Rattle.columnar_schema.specs.Formats.{format_of}
-use Rattle.columnar_schema.specs.Names.{Names, a_type}
-use Rattle.columnar_schema.specs.Tokens.{tokens}
-use Rattle.columnar_schema.specs.Unnamed.{NamesNothing}
-use Rattle.columnar_schema.specs.declared.schema.Bounds.{Bounds}
-use Rattle.columnar_schema.specs.declared.schema.Bounds.TheVariants.{Words, Strides, Unaries}
-use Rattle.columnar_schema.specs.declared.schema.Schema.{Schema}
+use Rattle.columnar_syntax.specs.Names.{Names, a_type}
+use Rattle.columnar_syntax.specs.Plain.{type_tokens}
+use Rattle.columnar_syntax.specs.Unnamed.{NamesNothing}
+use Rattle.columnar_syntax.specs.declared.schema.Bounds.{Bounds}
+use Rattle.columnar_syntax.specs.declared.schema.Bounds.TheVariants.{Words, Strides, Unaries}
+use Rattle.columnar_syntax.specs.declared.schema.Schema.{Schema}
 
 -- how the ends of the lists of `Vec<T>` are stored
 abbrev pub bounds_of : ℕ → Option Bounds
@@ -21,7 +21,7 @@ bounds_of n = if n == 0 then Some Words else (if n == 1 then Some Unaries else (
 pub record IsTypeOf (bounds : ℕ) (text : List ℕ) (schema : Schema) : Type 0 where
   pub lists : Bounds
   pub kept : bounds_of bounds ≡ Some lists
-  pub named : Names lists a_type (tokens text) schema
+  pub named : Names lists a_type (type_tokens text) schema
 
 -- the text names no type within the limits, with the ends of lists stored as the number says
 abbrev pub IsNoType : ℕ → List ℕ → Type 0

@@ -4,7 +4,7 @@ use Rattle.columnar_base.specs.Row.{Row}
 use Rattle.columnar_core.specs.Frame.{framed_slices}
 use Rattle.columnar_bytes.specs.Accepted.{Accepts, IsFirstFault}
 use Rattle.columnar_schema.specs.Formats.{format_of}
-use Rattle.columnar_schema.specs.declared.schema.Schema.{Schema}
+use Rattle.columnar_syntax.specs.declared.schema.Schema.{Schema}
 use Rattle.columnar_json.specs.Json.{flaws_of, json_of, row_at}
 use Rattle.columnar_json.specs.Pieces.{Spells}
 use Rattle.columnar_json.specs.Refusals.{IsRefusal}

@@ -1,12 +1,12 @@
 //! The return values of the calls, and what they report about a store or the text of its type.
 ghost use Rattle.std.specs.Prelude.{◌≡◌, ◌≢◌, ◌≤◌, length, IfSome, IfNone};
 ghost use Rattle.columnar_core.specs.Faults.{fault_number, fault_slice};
-ghost use Rattle.columnar_schema.specs.declared.text.Mistake.TheVariants.{Memory};
+ghost use Rattle.columnar_syntax.specs.declared.text.Mistake.TheVariants.{Memory};
 ghost use Rattle.columnar_c.specs.Answers.{bounds_of};
 
 use columnar_core::fault::StoreFault;
-use columnar_schema::schema::Bounds;
-use columnar_schema::text::{Mistake, Refused};
+use columnar_syntax::schema::Bounds;
+use columnar_syntax::text::{Mistake, Refused};
 
 /// The store is accepted.
 pub const ACCEPTED: u32 = 0;
@@ -28,7 +28,8 @@ pub struct Fault {
     /// What is wrong with the text: 1 no name at the position, of a type, a struct, an enum, a field or a variant, 2
     /// another byte is expected there, 3 the text continues after the type, 4 a tuple or a variant has more than ten
     /// fields, a struct more than a hundred, or an enum more than 256 variants, 5 types are nested too deeply,
-    /// 6 there is no number at the position, or it is too large, 7 the name there stands again later.
+    /// 6 there is no number at the position, or it is too large, 7 the name there stands again later, 8 a comment, an
+    /// attribute or a quoted text has no end.
     pub mistake: u32,
     /// The slice that breaks the rule.
     pub slice: usize,
@@ -100,6 +101,8 @@ fn mistake_number(mistake: Mistake) -> u32 {
         Mistake::Deep => 5,
         Mistake::Number => 6,
         Mistake::Twice => 7,
+        Mistake::Unended => 8,
+        Mistake::Undeclared => 1,
     }
 }
 

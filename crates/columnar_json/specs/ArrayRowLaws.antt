@@ -8,8 +8,8 @@ use Rattle.columnar_base.specs.Row.{Row, number, items_of}
 use Rattle.columnar_base.specs.Elements.{words_format}
 use Rattle.columnar_base.specs.Format.{Fits}
 use Rattle.columnar_core.specs.Bounds.{numbers}
-use Rattle.columnar_schema.specs.declared.schema.Bounds.TheVariants.{Words}
-use Rattle.columnar_schema.specs.declared.schema.Schema.{Schema, Lists', Array'}
+use Rattle.columnar_syntax.specs.declared.schema.Bounds.TheVariants.{Words}
+use Rattle.columnar_syntax.specs.declared.schema.Schema.{Schema, Lists', Array'}
 use Rattle.columnar_schema.specs.Formats.{format_of}
 use Rattle.columnar_schema.specs.TypeLaws.{depth_of}
 use Rattle.columnar_json.specs.Json.{bracketed, commas, first_flaw, flaws_of, json_of, length_flaws}

@@ -12,10 +12,10 @@ use Rattle.columnar_variants.specs.VariantLaws.{variants_read, variants_within}
 use Rattle.columnar_variants.specs.Variants.{Bank, case, leaf, join, variants_format}
 use Rattle.columnar_schema.specs.BankLaws.{bank_is, one_case, sides_of, sum_rows_of}
 use Rattle.columnar_schema.specs.Formats.{bank_of, columns_of, format_of}
-use Rattle.columnar_schema.specs.Gathered.{is_beside}
+use Rattle.columnar_syntax.specs.Gathered.{is_beside}
 use Rattle.columnar_schema.specs.TypeLaws.{depth_of}
-use Rattle.columnar_schema.specs.declared.schema.Brackets.{Brackets}
-use Rattle.columnar_schema.specs.declared.schema.Schema.{Schema, Simple, Optional', Fallible', Lists', Solo', Tuple', Beside', Field', Sum', Named, Case'}
+use Rattle.columnar_syntax.specs.declared.schema.Brackets.{Brackets}
+use Rattle.columnar_syntax.specs.declared.schema.Schema.{Schema, Simple, Optional', Fallible', Lists', Solo', Tuple', Beside', Field', Sum', Named, Case'}
 use Rattle.columnar_json.specs.Json.{between, closing, flaws_as, flaws_of, json_as, json_of, opening, quoted, row_at, with_name}
 use Rattle.columnar_json.specs.PartLaws.{get_row_at, row_at_get}
 use Rattle.columnar_json.specs.Pieces.{plain}

@@ -3,7 +3,7 @@ use Rattle.std.proofs.Common.{◌≡◌, ℕ, true, false, List, [], ◌∷◌, 
 use Rattle.std.specs.Prelude.{Result, Ok, Err, codes, map}
 use Rattle.std.specs.List.{flat_map}
 use Rattle.columnar_base.specs.Row.{Row, solo, tuple}
-use Rattle.columnar_schema.specs.declared.schema.Schema.{Schema, Solo', Tuple', Beside'}
+use Rattle.columnar_syntax.specs.declared.schema.Schema.{Schema, Solo', Tuple', Beside'}
 use Rattle.columnar_json.specs.Csv.{after_commas, fields_of, later_fields}
 use Rattle.columnar_json.specs.Json.{commas, flaws_of}
 use Rattle.columnar_json.specs.Pieces.{Piece, plain}

@@ -7,10 +7,10 @@ use Rattle.std.specs.List.{flat_map, list_any}
 use Rattle.columnar_base.specs.Row.{Row, unit, number_of, character, some, first_of, second_of}
 use Rattle.columnar_base.specs.Solos.{only_of}
 use Rattle.columnar_base.specs.Texts.{text_bytes}
-use Rattle.columnar_schema.specs.declared.schema.Brackets.TheVariants.{Bare}
-use Rattle.columnar_schema.specs.declared.schema.Leaf.{Leaf}
-use Rattle.columnar_schema.specs.declared.schema.Leaf.TheVariants.{F32, F64, Char, Unit, Text}
-use Rattle.columnar_schema.specs.declared.schema.Schema.{Schema, Simple, Optional', Solo', Tuple', Beside', Field', Repeated', Recalled', Sum', Named}
+use Rattle.columnar_syntax.specs.declared.schema.Brackets.TheVariants.{Bare}
+use Rattle.columnar_syntax.specs.declared.schema.Leaf.{Leaf}
+use Rattle.columnar_syntax.specs.declared.schema.Leaf.TheVariants.{F32, F64, Char, Unit, Text}
+use Rattle.columnar_syntax.specs.declared.schema.Schema.{Schema, Simple, Optional', Solo', Tuple', Beside', Field', Repeated', Recalled', Sum', Named}
 use Rattle.columnar_json.specs.Json.{between, commas, json_as, leaf_json}
 use Rattle.columnar_json.specs.Pieces.{Piece, bytes, double, float_at, plain, single}
 

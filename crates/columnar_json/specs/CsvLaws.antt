@@ -10,10 +10,10 @@ use Rattle.columnar_base.specs.Floats.{float_row}
 use Rattle.columnar_base.specs.Row.{Row, character, some, none, solo}
 use Rattle.columnar_base.specs.Texts.{text_bytes, text_row}
 use Rattle.columnar_variants.specs.Variants.{case}
-use Rattle.columnar_schema.specs.declared.schema.Brackets.TheVariants.{Bare}
-use Rattle.columnar_schema.specs.declared.schema.Leaf.{Leaf}
-use Rattle.columnar_schema.specs.declared.schema.Leaf.TheVariants.{F32, F64, Char, Unit as UnitLeaf, Text}
-use Rattle.columnar_schema.specs.declared.schema.Schema.{Schema, Optional', Solo', Field', Repeated', Recalled', Sum', Named}
+use Rattle.columnar_syntax.specs.declared.schema.Brackets.TheVariants.{Bare}
+use Rattle.columnar_syntax.specs.declared.schema.Leaf.{Leaf}
+use Rattle.columnar_syntax.specs.declared.schema.Leaf.TheVariants.{F32, F64, Char, Unit as UnitLeaf, Text}
+use Rattle.columnar_syntax.specs.declared.schema.Schema.{Schema, Optional', Solo', Field', Repeated', Recalled', Sum', Named}
 use Rattle.columnar_json.specs.Csv.{csv_as, csv_value, finite, leaf_csv}
 use Rattle.columnar_json.specs.Json.{flaws_as, flaws_of, leaf_flaws, row_at, text_flaws}
 use Rattle.columnar_json.specs.PartLaws.{row_at_get}

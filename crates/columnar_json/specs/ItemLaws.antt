@@ -4,7 +4,7 @@ use Rattle.std.specs.Prelude.{map, codes, nat_eq, Ok, Err}
 use Rattle.std.specs.List.{flat_map}
 use Rattle.std.proofs.lemmas.Bool.{eq-eqb, eqb-true}
 use Rattle.columnar_base.specs.Row.{Row}
-use Rattle.columnar_schema.specs.declared.schema.Schema.{Schema}
+use Rattle.columnar_syntax.specs.declared.schema.Schema.{Schema}
 use Rattle.columnar_json.specs.Json.{between, commas, flaws_of, json_of, row_at}
 use Rattle.columnar_json.specs.Stored.{comma, items_flaws, items_json}
 use Rattle.columnar_json.specs.Pieces.{Appended, Piece, plain}

@@ -8,11 +8,11 @@ use Rattle.std.specs.Str.{is_utf8}
 use Rattle.columnar_base.specs.Row.{Row, number_of, number, integer, character, truth, unit, duration, some, ok, err, first_of, second_of, items_of}
 use Rattle.columnar_base.specs.Solos.{only_of}
 use Rattle.columnar_base.specs.Texts.{text_bytes}
-use Rattle.columnar_schema.specs.declared.schema.Brackets.{Brackets}
-use Rattle.columnar_schema.specs.declared.schema.Brackets.TheVariants.{Square, Curly, Bare}
-use Rattle.columnar_schema.specs.declared.schema.Leaf.{Leaf}
-use Rattle.columnar_schema.specs.declared.schema.Leaf.TheVariants.{F32, F64, Text}
-use Rattle.columnar_schema.specs.declared.schema.Schema.{Schema, Simple, Optional', Fallible', Lists', Solo', Tuple', Beside', Field', Array', Repeated', Recalled', Sum', Named, Case'}
+use Rattle.columnar_syntax.specs.declared.schema.Brackets.{Brackets}
+use Rattle.columnar_syntax.specs.declared.schema.Brackets.TheVariants.{Square, Curly, Bare}
+use Rattle.columnar_syntax.specs.declared.schema.Leaf.{Leaf}
+use Rattle.columnar_syntax.specs.declared.schema.Leaf.TheVariants.{F32, F64, Text}
+use Rattle.columnar_syntax.specs.declared.schema.Schema.{Schema, Simple, Optional', Fallible', Lists', Solo', Tuple', Beside', Field', Array', Repeated', Recalled', Sum', Named, Case'}
 use Rattle.columnar_json.specs.Pieces.{Piece, single, double, plain, float_at}
 use Rattle.columnar_json.specs.declared.unwritten.Unwritten.{Unwritten}
 use Rattle.columnar_json.specs.declared.unwritten.Unwritten.TheVariants.{NotText, WrongLength}

@@ -16,8 +16,8 @@ use Rattle.columnar_lookback.specs.RecallLaws.{length-recall}
 use Rattle.columnar_lookback.specs.RepeatLaws.{ones_set, ones_clear}
 use Rattle.columnar_lookback.specs.Lookbacks.{distance, lookbacks_code, lookbacks_format}
 use Rattle.columnar_lookback.specs.LookbackLaws.{byte_row, lookbacks_reach, lookbacks_results, lookbacks_row, lookbacks_within}
-use Rattle.columnar_schema.specs.declared.schema.Leaf.TheVariants.{U8}
-use Rattle.columnar_schema.specs.declared.schema.Schema.{Schema, Simple, Fallible', Recalled'}
+use Rattle.columnar_syntax.specs.declared.schema.Leaf.TheVariants.{U8}
+use Rattle.columnar_syntax.specs.declared.schema.Schema.{Schema, Simple, Fallible', Recalled'}
 use Rattle.columnar_schema.specs.Formats.{format_of}
 use Rattle.columnar_schema.specs.TypeLaws.{depth_of}
 use Rattle.columnar_json.specs.Json.{flaws_of, json_of, row_at}

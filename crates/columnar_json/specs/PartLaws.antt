@@ -23,7 +23,7 @@ use Rattle.columnar_sums.specs.ResultLaws.{oks_fit, errs_fit, results_at, result
 use Rattle.columnar_lists.specs.Lists.{lists_format}
 use Rattle.columnar_lists.specs.CutLaws.{cut_get, rises_get}
 use Rattle.columnar_lists.specs.ListLaws.{lists_two, lists_parts, length-lists}
-use Rattle.columnar_schema.specs.declared.schema.Schema.{Schema, Optional', Fallible', Lists', Solo', Tuple', Beside', Field'}
+use Rattle.columnar_syntax.specs.declared.schema.Schema.{Schema, Optional', Fallible', Lists', Solo', Tuple', Beside', Field'}
 use Rattle.columnar_schema.specs.Formats.{bounds_format, columns_of, format_of}
 use Rattle.columnar_schema.specs.TypeLaws.{depth_of, optional_two, lists_of_two, tuple_rows_of, beside_rows_of}
 use Rattle.columnar_json.specs.Json.{row_at}

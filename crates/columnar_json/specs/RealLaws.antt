@@ -10,8 +10,8 @@ use Rattle.ryu.specs.Plain.{IsPlusNumber}
 use Rattle.columnar_base.specs.Floats.{float_place, float_row}
 use Rattle.columnar_base.specs.Row.{Row, unit}
 use Rattle.columnar_primitive.specs.Units.{units}
-use Rattle.columnar_schema.specs.declared.schema.Leaf.{Leaf}
-use Rattle.columnar_schema.specs.declared.schema.Leaf.TheVariants.{F32, F64, Unit as UnitLeaf}
+use Rattle.columnar_syntax.specs.declared.schema.Leaf.{Leaf}
+use Rattle.columnar_syntax.specs.declared.schema.Leaf.TheVariants.{F32, F64, Unit as UnitLeaf}
 use Rattle.columnar_json.specs.Json.{leaf_flaws, leaf_json, row_at}
 use Rattle.columnar_json.specs.PartLaws.{row_at_get}
 use Rattle.columnar_json.specs.Pieces.{IsPiece, IsRealText, Piece, float_at, single, double}

@@ -2,8 +2,8 @@
 use Rattle.std.proofs.Common.{◌≡◌, ℕ, ◌+◌, ◌*◌, ◌<◌, true, false, List, [], ◌∷◌, ◌++◌, refl, sym, ap, subst, append-nil}
 use Rattle.std.specs.Prelude.{Result, Ok, codes, map}
 use Rattle.columnar_base.specs.Row.{Row, solo, tuple}
-use Rattle.columnar_schema.specs.Gathered.{is_beside}
-use Rattle.columnar_schema.specs.declared.schema.Schema.{Schema, Simple, Optional', Fallible', Lists', Solo', Tuple', Beside', Field', Array', Repeated', Recalled', Sum', Named, Case'}
+use Rattle.columnar_syntax.specs.Gathered.{is_beside}
+use Rattle.columnar_syntax.specs.declared.schema.Schema.{Schema, Simple, Optional', Fallible', Lists', Solo', Tuple', Beside', Field', Array', Repeated', Recalled', Sum', Named, Case'}
 use Rattle.columnar_json.specs.Csv.{after_commas, csv_of, field_csv, fields_of, later_fields, shown}
 use Rattle.columnar_json.specs.FieldLaws.{commas_more}
 use Rattle.columnar_json.specs.Json.{commas, flaws_of}

@@ -2,7 +2,7 @@
 use Rattle.std.specs.Prelude.{ℕ, List, ◌≡◌, ◌≤◌, Some, length}
 use Rattle.columnar_base.specs.Row.{Row}
 use Rattle.columnar_core.specs.Frame.{framed_slices}
-use Rattle.columnar_schema.specs.declared.schema.Schema.{Schema}
+use Rattle.columnar_syntax.specs.declared.schema.Schema.{Schema}
 use Rattle.columnar_json.specs.Json.{first_flaw, flaws_of, row_at}
 use Rattle.columnar_json.specs.Stored.{stored_rows}
 use Rattle.columnar_json.specs.Views.{flaws_by}

@@ -12,7 +12,7 @@ use Rattle.columnar_lookback.specs.Recall.{recall}
 use Rattle.columnar_lookback.specs.RecallLaws.{length-recall}
 use Rattle.columnar_lookback.specs.Repeats.{repeats_code, repeats_format}
 use Rattle.columnar_lookback.specs.RepeatLaws.{ones_set, ones_clear, ones_left, repeats_options, repeats_row, repeats_some, repeats_within}
-use Rattle.columnar_schema.specs.declared.schema.Schema.{Schema, Optional', Repeated'}
+use Rattle.columnar_syntax.specs.declared.schema.Schema.{Schema, Optional', Repeated'}
 use Rattle.columnar_schema.specs.Formats.{format_of}
 use Rattle.columnar_schema.specs.TypeLaws.{depth_of}
 use Rattle.columnar_json.specs.Json.{flaws_of, json_of, row_at}

@@ -5,9 +5,9 @@ use Rattle.std.specs.Global.{Global}
 use Rattle.std.specs.List.{flat_map}
 use Rattle.columnar_base.specs.Row.{Row, some, none, ok, err, solo, tuple, items_of}
 use Rattle.columnar_base.specs.Texts.{text_bytes, text_row}
-use Rattle.columnar_schema.specs.declared.schema.Leaf.{Leaf}
-use Rattle.columnar_schema.specs.declared.schema.Leaf.TheVariants.{Text}
-use Rattle.columnar_schema.specs.declared.schema.Schema.{Schema, Optional', Fallible', Lists', Solo', Tuple', Beside', Field'}
+use Rattle.columnar_syntax.specs.declared.schema.Leaf.{Leaf}
+use Rattle.columnar_syntax.specs.declared.schema.Leaf.TheVariants.{Text}
+use Rattle.columnar_syntax.specs.declared.schema.Schema.{Schema, Optional', Fallible', Lists', Solo', Tuple', Beside', Field'}
 use Rattle.columnar_json.specs.Json.{between, bracketed, closing, commas, flaws_of, json_of, leaf_flaws, leaf_json, opening, quoted, row_at, text_flaws}
 use Rattle.columnar_json.specs.PartLaws.{row_at_get}
 use Rattle.columnar_json.specs.Pieces.{plain}

@@ -2,7 +2,7 @@
 use Rattle.std.specs.Prelude.{ℕ, Bool, true, false, List, [], map, take, drop, codes}
 use Rattle.std.specs.List.{flat_map}
 use Rattle.columnar_base.specs.Row.{Row}
-use Rattle.columnar_schema.specs.declared.schema.Schema.{Schema}
+use Rattle.columnar_syntax.specs.declared.schema.Schema.{Schema}
 use Rattle.columnar_schema.specs.Formats.{bank_of, format_of}
 use Rattle.columnar_json.specs.Json.{commas, flaws_of, json_of, row_at}
 use Rattle.columnar_json.specs.Pieces.{Piece}

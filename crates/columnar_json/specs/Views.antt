@@ -2,7 +2,7 @@
 use Rattle.std.specs.Prelude.{ℕ, Bool, false, List, [], ◌∷◌, ◌++◌, map, Option, None, Some, option_map, bytes_eq, codes, if◌then◌else◌}
 use Rattle.std.specs.List.{flat_map}
 use Rattle.columnar_base.specs.Row.{Row}
-use Rattle.columnar_schema.specs.declared.schema.Schema.{Schema, Field'}
+use Rattle.columnar_syntax.specs.declared.schema.Schema.{Schema, Field'}
 use Rattle.columnar_json.specs.Csv.{csv_of, field_csv, fields_of, head_of, names_of, shown}
 use Rattle.columnar_json.specs.Json.{between, commas, flaws_of, json_of}
 use Rattle.columnar_json.specs.Pieces.{Piece, plain}

@@ -18,7 +18,7 @@ use crate::unwritten::Unwritten;
 use crate::view::Form;
 use columnar_core::store::DecodedStore;
 use columnar_schema::judge::slice_count_of;
-use columnar_schema::schema::Schema;
+use columnar_syntax::schema::Schema;
 
 // Returns whether a field has this name.
 fn has_name(field: &Schema, name: &[u8]) -> bool

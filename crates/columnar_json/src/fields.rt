@@ -14,7 +14,7 @@ use crate::unwritten::Unwritten;
 use crate::value::write_value;
 use columnar_core::store::DecodedStore;
 use columnar_schema::judge::slice_count_of;
-use columnar_schema::schema::Schema;
+use columnar_syntax::schema::Schema;
 
 // Returns whether the byte may stand between quotes only.
 fn is_quoted(byte: u8) -> bool

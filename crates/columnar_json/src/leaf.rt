@@ -3,7 +3,7 @@ ghost use Rattle.std.specs.Prelude.{◌≡◌, ◌+◌, ◌<◌, ◌≤◌, leng
 ghost use Rattle.columnar_base.specs.Format.{Fits, representable};
 ghost use Rattle.columnar_core.specs.Store.{slices_in};
 ghost use Rattle.columnar_schema.specs.Formats.{leaf_format};
-ghost use Rattle.columnar_schema.specs.declared.schema.Leaf.TheVariants.{Text};
+ghost use Rattle.columnar_syntax.specs.declared.schema.Leaf.TheVariants.{Text};
 ghost use Rattle.columnar_base.specs.Texts.{text_row};
 ghost use Rattle.columnar_json.specs.Csv.{leaf_csv};
 ghost use Rattle.columnar_json.specs.Json.{leaf_flaws, leaf_json, row_at};
@@ -26,9 +26,9 @@ use columnar_primitive::floats::{Doubles, Singles};
 use columnar_primitive::larges::{I128s, U128s};
 use columnar_primitive::numbers::{Isizes, Usizes};
 use columnar_primitive::offsets::Strides;
-use columnar_schema::schema::{Bounds, Leaf};
 use columnar_strings::string::Strings;
 use columnar_sums::unaries::Unaries;
+use columnar_syntax::schema::{Bounds, Leaf};
 
 pub(crate) type Multiples<'a> = Strides<View<'a, u64>, View<'a, u64>>;
 

@@ -9,8 +9,8 @@ ghost use Rattle.columnar_json.specs.Written.{WroteRow};
 use crate::fields::push_field;
 use crate::text::push_bytes;
 use crate::unwritten::Unwritten;
-use columnar_schema::schema::Schema;
 use columnar_schema::typed::Type;
+use columnar_syntax::schema::Schema;
 use std::alloc::Global;
 
 // Appends the name of a field, if it has one.

@@ -25,9 +25,9 @@ use columnar_core::view::View;
 use columnar_lists::parts::range_of;
 use columnar_schema::bounds::bounds_slices;
 use columnar_schema::judge::slice_count_of;
-use columnar_schema::schema::{Bounds, Brackets, Schema};
 use columnar_sums::discriminant::Discriminant;
 use columnar_sums::rank_select::RankSelect;
+use columnar_syntax::schema::{Bounds, Brackets, Schema};
 
 // Returns whether bit `index` is set, and the number of set bits before it.
 pub(crate) fn bit_at(store: &DecodedStore<'_>, offset: usize, index: usize) -> (bool, usize)

@@ -20,9 +20,9 @@ use crate::view::{Form, View};
 use columnar_core::fault::StoreFault;
 use columnar_core::store::DecodedStore;
 use columnar_schema::judge::rows_of;
-use columnar_schema::schema::Schema;
 use columnar_schema::typed::Type;
 use columnar_schema::validation::validate_schema;
+use columnar_syntax::schema::Schema;
 
 /// The rows of a store that was accepted for a type. They are read in place.
 #[derive(Clone, Copy)]

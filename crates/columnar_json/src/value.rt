@@ -14,7 +14,7 @@ use crate::text::push_bytes;
 use crate::unwritten::Unwritten;
 use columnar_core::store::DecodedStore;
 use columnar_schema::judge::slice_count_of;
-use columnar_schema::schema::{Brackets, Schema};
+use columnar_syntax::schema::{Brackets, Schema};
 
 // Appends value `index` of a variant.
 #[cycle(values)]

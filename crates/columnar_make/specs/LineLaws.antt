@@ -1,7 +1,7 @@
 -- Rows and their lines, one after the other.
 use Rattle.std.proofs.Common.{◌≡◌, ◌⊎◌, inl, inr, ℕ, zero, suc, ◌+◌, ◌<◌, List, [], ◌∷◌, ◌++◌, length, drop, refl, ap, arith}
 use Rattle.columnar_base.specs.Row.{Row}
-use Rattle.columnar_schema.specs.declared.schema.Schema.{Schema}
+use Rattle.columnar_syntax.specs.declared.schema.Schema.{Schema}
 use Rattle.columnar_json.specs.Json.{row_at}
 use Rattle.columnar_json.specs.Pieces.{Appended, Piece, Spells}
 use Rattle.columnar_make.specs.Lines.{HasLines, none, last, more, IsLine, IsLineOf}

@@ -3,7 +3,7 @@ use Rattle.std.specs.Prelude.{ℕ, List, [], ◌∷◌, ◌++◌, ◌≡◌, ◌
 use Rattle.std.specs.List.{All}
 use Rattle.columnar_base.specs.Row.{Row}
 use Rattle.columnar_core.specs.Frame.{framed_slices}
-use Rattle.columnar_schema.specs.declared.schema.Schema.{Schema}
+use Rattle.columnar_syntax.specs.declared.schema.Schema.{Schema}
 use Rattle.columnar_json.specs.Json.{json_of}
 use Rattle.columnar_json.specs.Pieces.{Spells}
 use Rattle.columnar_json.specs.Stored.{stored_rows}

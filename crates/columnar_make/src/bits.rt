@@ -1,7 +1,7 @@
 //! Pushes of bits, bounds and variants.
 use crate::misfit::Misfit;
 use crate::sink::Sink;
-use columnar_schema::schema::Bounds;
+use columnar_syntax::schema::Bounds;
 
 /// Pushes a bit to a column of bits whose whole words are slice `words`, and whose tail is the slice after it.
 pub(crate) fn push_bit(sink: &mut Sink, words: usize, bit: bool) -> Result<(), Misfit> {

@@ -2,7 +2,7 @@
 use crate::bits::{push_bit, push_bound};
 use crate::misfit::Misfit;
 use crate::sink::Sink;
-use columnar_schema::schema::{Bounds, Leaf};
+use columnar_syntax::schema::{Bounds, Leaf};
 use serde_json::Value;
 use std::num::{f32_to_bits_with_nan, f64_to_bits_with_nan, nearest_f64_to_f32_with_nan};
 

@@ -3,7 +3,7 @@ use crate::bits::{push_bound, push_counted, push_variant};
 use crate::leaf::{count_unit, push_leaf};
 use crate::misfit::Misfit;
 use crate::sink::Sink;
-use columnar_schema::schema::{Bounds, Brackets, Schema};
+use columnar_syntax::schema::{Bounds, Brackets, Schema};
 use serde_json::{Map, Value};
 use std::alloc::Global;
 use std::str;

@@ -1,15 +1,15 @@
 //! Columns of a type that is read at run time, as slices that grow.
 use crate::misfit::Misfit;
-use crate::slice::Slice;
-use columnar_schema::schema::{Bounds, Leaf, Schema};
+use crate::slice::SliceBuilder;
+use columnar_syntax::schema::{Bounds, Leaf, Schema};
 use std::alloc::{AllocError, Global};
 
 /// A column that grows: its own slices, the columns of its parts, and slices after those.
 #[derive(Drop)]
 pub(crate) struct Sink {
-    pub own: Vec<Slice>,
+    pub own: Vec<SliceBuilder>,
     pub parts: Vec<Sink>,
-    pub after: Vec<Slice>,
+    pub after: Vec<SliceBuilder>,
     /// The last values, as texts, of a column that stores a repeated value once.
     pub recent: Vec<String>,
 }
@@ -82,12 +82,12 @@ impl Sink {
     }
 
     /// Returns slice `index` before the parts.
-    pub fn slice(&mut self, index: usize) -> Result<&mut Slice, Misfit> {
+    pub fn slice(&mut self, index: usize) -> Result<&mut SliceBuilder, Misfit> {
         self.own.get_mut(index).ok_or(Misfit::Differs)
     }
 
     /// Returns slice `index` after the parts.
-    pub fn later(&mut self, index: usize) -> Result<&mut Slice, Misfit> {
+    pub fn later(&mut self, index: usize) -> Result<&mut SliceBuilder, Misfit> {
         self.after.get_mut(index).ok_or(Misfit::Differs)
     }
 
@@ -126,7 +126,7 @@ impl Sink {
 }
 
 // Appends a slice, and zeros up to a multiple of eight bytes.
-fn write_padded(slice: &Slice, out: &mut Vec<u8>) -> Result<(), AllocError> {
+fn write_padded(slice: &SliceBuilder, out: &mut Vec<u8>) -> Result<(), AllocError> {
     slice.write(out)?;
     out.extend_from_slice(padding(out.len()))
 }
@@ -138,10 +138,10 @@ fn padding(length: usize) -> &'static [u8] {
 }
 
 // Returns slices with so many words each.
-fn slices(alloc: Global, words: &[usize]) -> Result<Vec<Slice>, AllocError> {
+fn slices(alloc: Global, words: &[usize]) -> Result<Vec<SliceBuilder>, AllocError> {
     let mut all = Vec::new(alloc);
     for count in words {
-        all.push(Slice::new(alloc, *count))?;
+        all.push(SliceBuilder::new(alloc, *count))?;
     }
     Ok(all)
 }

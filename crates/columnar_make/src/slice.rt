@@ -4,7 +4,7 @@ use std::alloc::{AllocError, Global};
 
 /// A slice that grows.
 #[derive(Drop)]
-pub(crate) struct Slice {
+pub(crate) struct SliceBuilder {
     /// Its bytes, without the words that are written last.
     pub bytes: Vec<u8>,
     /// The words that are written last: none, the first, or both.
@@ -17,10 +17,10 @@ pub(crate) struct Slice {
     pub counts: Vec<u64>,
 }
 
-impl Slice {
+impl SliceBuilder {
     /// Returns a slice with so many words, which are 0.
-    pub fn new(alloc: Global, words: usize) -> Slice {
-        Slice {
+    pub fn new(alloc: Global, words: usize) -> SliceBuilder {
+        SliceBuilder {
             bytes: Vec::new(alloc),
             words,
             first: 0,

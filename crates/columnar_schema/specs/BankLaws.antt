@@ -15,9 +15,9 @@ use Rattle.columnar_base.specs.FaultLaws.{fits_from}
 use Rattle.columnar_schema.specs.JudgeLaws.{fits_none}
 use Rattle.columnar_schema.specs.Banks.{bank}
 use Rattle.columnar_schema.specs.Formats.{bank_of, columns_of, format_of}
-use Rattle.columnar_schema.specs.Gathered.{is_beside}
+use Rattle.columnar_syntax.specs.Gathered.{is_beside}
 use Rattle.columnar_schema.specs.TypeLaws.{depth_of}
-use Rattle.columnar_schema.specs.declared.schema.Schema.{Schema, Simple, Optional', Fallible', Lists', Solo', Tuple', Beside', Field', Array', Repeated', Recalled', Sum', Named, Case'}
+use Rattle.columnar_syntax.specs.declared.schema.Schema.{Schema, Simple, Optional', Fallible', Lists', Solo', Tuple', Beside', Field', Array', Repeated', Recalled', Sum', Named, Case'}
 
 -- ---- the slices of the columns
 

@@ -1,7 +1,7 @@
 -- The numbers of slices of tuples.
 use Rattle.std.proofs.Common.{◌≡◌, ◌+◌, ◌^◌, ◌≤◌, arith}
 use Rattle.columnar_base.specs.LongTupleLaws.{sides_two, tuple_two}
-use Rattle.columnar_schema.specs.declared.schema.Schema.{Schema, Tuple', Beside'}
+use Rattle.columnar_syntax.specs.declared.schema.Schema.{Schema, Tuple', Beside'}
 use Rattle.columnar_schema.specs.Formats.{columns_of, format_of}
 
 pub tuple_count : (s : Schema) {br : _} {p : _} {a : Schema} {q : _} {r : Schema} → s ≡ Tuple' br p a q r → (format_of s).count ≡ (format_of a).count + (format_of r).count

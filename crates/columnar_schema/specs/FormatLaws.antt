@@ -25,11 +25,11 @@ use Rattle.columnar_sums.specs.UnaryLaws.{unary_storable}
 use Rattle.columnar_lists.specs.ListLaws.{lists_storable}
 use Rattle.columnar_lookback.specs.LookbackLaws.{lookbacks_storable}
 use Rattle.columnar_lookback.specs.RepeatLaws.{repeats_storable}
-use Rattle.columnar_schema.specs.declared.schema.Bounds.{Bounds}
-use Rattle.columnar_schema.specs.declared.schema.Bounds.TheVariants.{Words, Strides, Unaries}
-use Rattle.columnar_schema.specs.declared.schema.Leaf.{Leaf}
-use Rattle.columnar_schema.specs.declared.schema.Leaf.TheVariants.{U8, U16, U32, U64, U128, Usize, I8, I16, I32, I64, I128, Isize, F32, F64, Bool, Char, Unit, Duration, Text}
-use Rattle.columnar_schema.specs.declared.schema.Schema.{Schema, Simple, Optional', Fallible', Lists', Solo', Tuple', Beside', Field', Array', Repeated', Recalled', Sum', Named, Case'}
+use Rattle.columnar_syntax.specs.declared.schema.Bounds.{Bounds}
+use Rattle.columnar_syntax.specs.declared.schema.Bounds.TheVariants.{Words, Strides, Unaries}
+use Rattle.columnar_syntax.specs.declared.schema.Leaf.{Leaf}
+use Rattle.columnar_syntax.specs.declared.schema.Leaf.TheVariants.{U8, U16, U32, U64, U128, Usize, I8, I16, I32, I64, I128, Isize, F32, F64, Bool, Char, Unit, Duration, Text}
+use Rattle.columnar_syntax.specs.declared.schema.Schema.{Schema, Simple, Optional', Fallible', Lists', Solo', Tuple', Beside', Field', Array', Repeated', Recalled', Sum', Named, Case'}
 use Rattle.columnar_schema.specs.BankLaws.{sum_storable}
 use Rattle.columnar_schema.specs.Formats.{bounds_format, larges_format, leaf_format, columns_of, format_of}
 

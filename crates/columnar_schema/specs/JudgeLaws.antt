@@ -13,7 +13,7 @@ use Rattle.columnar_sums.specs.Counting.{ones}
 use Rattle.columnar_sums.specs.RankColumns.{ranks_bits, ranks_format}
 use Rattle.columnar_sums.specs.Results.{results_format}
 use Rattle.columnar_sums.specs.ResultLaws.{beside_two, results_two, results_level_from, results_level_back, results_level_at}
-use Rattle.columnar_schema.specs.declared.schema.Schema.{Schema, Fallible', Tuple', Beside'}
+use Rattle.columnar_syntax.specs.declared.schema.Schema.{Schema, Fallible', Tuple', Beside'}
 use Rattle.columnar_schema.specs.Formats.{columns_of, format_of}
 
 -- slices that fit break no rule

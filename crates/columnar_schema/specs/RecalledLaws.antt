@@ -1,10 +1,9 @@
--- Lookbacks: their column is that of results of values and bytes, with one more rule; their texts.
-use Rattle.std.proofs.Common.{◌≡◌, ℕ, suc, ◌+◌, ◌*◌, ◌≤◌, Bool, true, false, List, [], ◌∷◌, ◌++◌, length, drop, refl, sym, ◌∙◌, ap, arith, append_assoc, append-nil, Result}
-use Rattle.std.specs.Prelude.{Some, None, Option, codes, nat_eq}
+-- Lookbacks: their column is that of results of values and bytes, with one more rule.
+use Rattle.std.proofs.Common.{◌≡◌, ℕ, ◌+◌, ◌*◌, ◌≤◌, Bool, true, false, List, [], length, drop, refl, sym, ◌∙◌, arith, Result}
+use Rattle.std.specs.Prelude.{Some, None, Option}
 use Rattle.columnar_base.specs.Elements.{bytes_format}
-use Rattle.columnar_base.specs.Format.{Format, Content, Fault, Fits, both, bytes_held, fault, first, moved}
+use Rattle.columnar_base.specs.Format.{Format, Content, Fault, Fits, bytes_held, fault, first, moved}
 use Rattle.columnar_base.specs.Row.{Row}
-use Rattle.columnar_base.specs.TwoPartsLaws.{two_right_at}
 use Rattle.columnar_sums.specs.Counting.{ones}
 use Rattle.columnar_sums.specs.RankColumns.{ranks_bits, ranks_format}
 use Rattle.columnar_sums.specs.Results.{results_format, weave_results, zeros}
@@ -14,15 +13,11 @@ use Rattle.columnar_lookback.specs.Recall.{reaches, recall}
 use Rattle.columnar_lookback.specs.RecallLaws.{length-recall, recall_fault}
 use Rattle.columnar_lookback.specs.Lookbacks.{lookbacks_code, lookbacks_format}
 use Rattle.columnar_lookback.specs.LookbackByteLaws.{distances_at, level_at, lookbacks_fine, lookbacks_own, reached_at, results_judged, rows_of_bytes, turns_at}
-use Rattle.columnar_schema.specs.declared.schema.Bounds.{Bounds}
-use Rattle.columnar_schema.specs.declared.schema.Leaf.TheVariants.{U8}
-use Rattle.columnar_schema.specs.declared.schema.Schema.{Schema, Simple, Fallible', Recalled'}
+use Rattle.columnar_syntax.specs.declared.schema.Leaf.TheVariants.{U8}
+use Rattle.columnar_syntax.specs.declared.schema.Schema.{Schema, Simple, Fallible', Recalled'}
 use Rattle.columnar_schema.specs.Formats.{format_of}
 use Rattle.columnar_schema.specs.JudgeLaws.{errors_fit, errors_refused, first_fits, left_refused, values_fit, values_refused}
-use Rattle.columnar_schema.specs.Names.{GoesOn, IsLimit, Names, Reads, StandsLimit, StandsNumber, Writes, a_type, inside, limited, recalled, unlimited}
-use Rattle.columnar_schema.specs.Reading.{first_is}
-use Rattle.columnar_schema.specs.ReadingLaws.{no}
-use Rattle.columnar_schema.specs.Tokens.{marks, tokens}
+use Rattle.columnar_syntax.specs.Names.{recalled}
 use Rattle.columnar_schema.specs.TurnLaws.{errors_turns, values_turns}
 use Rattle.columnar_schema.specs.TypeLaws.{fallible_rows}
 
@@ -100,45 +95,3 @@ recalled_turns s {p} {t} o ss old mid later last new e f u v w z =
     let h : bytes_held ((format_of s).build (drop o ss)) ≡ bytes_held (ranks_format.build (drop o ss)) + (bytes_held ((format_of t).build (drop (o + 3) ss)) + bytes_held (bytes_format.build (drop (o + 3 + (format_of t).count) ss))) = rw e (results_held (format_of t) bytes_format o ss) in
     let b : 16 ≤ bytes_held (ranks_format.build (drop o ss)) = ranks_bytes (ranks_format.build (drop o ss)) f.sound in
     rw h (omega (arith, u, v, w, z, b))
-
--- ---- the text
-
-pub recalled_named : (a b : Schema) {p : _} → b ≡ a → (lists : Bounds) (t w : List (List ℕ)) → IsLimit w → Names lists a_type t a → Names lists a_type (inside (codes "Lookbacks") (t ++ w)) (Recalled' p b)
-recalled_named a b e lists t w l n = rw e (recalled w l n)
-
--- the type and the limit after `Lookbacks`
-pub lookbacks_go_on : (lists : Bounds) (text : List ℕ) (at n m k o : ℕ) (a s : Schema) → tokens (drop at text) ≡ (60 ∷ []) ∷ tokens (drop n text) → Reads lists a_type text n a m → StandsLimit (drop m text) (drop k text) → tokens (drop k text) ≡ (62 ∷ []) ∷ tokens (drop o text) → o ≤ length text → ((l : Bounds) (t w : List (List ℕ)) → IsLimit w → Names l a_type t a → Names l a_type (inside (codes "Lookbacks") (t ++ w)) s) → GoesOn lists a_type (codes "Lookbacks" ∷ []) text at s o
-lookbacks_go_on lists text at n m k o a s e p q g h f =
-    let w = q.0 in
-    let rest = tokens (drop o text) in
-    record {
-      words = marks (codes "<") ++ ((p.words ++ w) ++ marks (codes ">"));
-      names = f lists p.words w q.1.0 p.names;
-      stands = e ∙ ap (λ z. (60 ∷ []) ∷ z) (p.stands ∙ (ap (λ z. p.words ++ z) (q.1.1 ∙ ap (λ z. w ++ z) g) ∙ sym (append_assoc (p.words ++ w) (marks (codes ">")) rest ∙ append_assoc p.words w ((62 ∷ []) ∷ rest))));
-      within = h;
-    }
-
--- a comma and a number
-pub limit_stands : (text : List ℕ) (at m k n : ℕ) → tokens (drop at text) ≡ (44 ∷ []) ∷ tokens (drop m text) → StandsNumber (drop m text) n (drop k text) → n ≤ 255 → StandsLimit (drop at text) (drop k text)
-limit_stands text at m k n e q l = ((44 ∷ []) ∷ (q.0 ∷ []), (limited q.0 q.1.0 l, e ∙ ap (λ z. (44 ∷ []) ∷ z) q.1.1))
-
--- neither
-pub no_limit : (text : List ℕ) (at : ℕ) → StandsLimit (drop at text) (drop at text)
-no_limit text at = ([], (unlimited, refl))
-
--- without a comma `>` follows
-pub limit_absent : {w : List (List ℕ)} (from rest : List (List ℕ)) → IsLimit w → from ≡ w ++ ((62 ∷ []) ∷ rest) → first_is 44 from ≡ false → from ≡ (62 ∷ []) ∷ rest
-limit_absent from rest unlimited e g = e
-limit_absent from rest (limited d v l) e g = no (sym g ∙ ap (first_is 44) e)
-
--- with a comma a number follows
-pub record LimitRead (from rest : List (List ℕ)) : Type 0 where
-  pub digits : List ℕ
-  pub number : ℕ
-  pub writes : Writes digits number
-  pub small : number ≤ 255
-  pub is : from ≡ digits ∷ ((62 ∷ []) ∷ rest)
-
-pub limit_follows : {w : List (List ℕ)} (from next rest : List (List ℕ)) → IsLimit w → from ≡ w ++ ((62 ∷ []) ∷ rest) → from ≡ (44 ∷ []) ∷ next → LimitRead next rest
-limit_follows from next rest unlimited e g = no (ap (first_is 44) (sym e ∙ g))
-limit_follows from next rest (limited {n} d v l) e g = record { digits = d; number = n; writes = v; small = l; is = ap (drop 1) (sym g ∙ e) }

@@ -10,7 +10,7 @@ use Rattle.columnar_lookback.specs.Recall.{recall}
 use Rattle.columnar_lookback.specs.RecallLaws.{length-recall, recall_fault, recall_fine, recall_own}
 use Rattle.columnar_lookback.specs.RepeatLaws.{repeats_fine, starts_reaches}
 use Rattle.columnar_lookback.specs.Repeats.{repeats_code, repeats_format, starts_set}
-use Rattle.columnar_schema.specs.declared.schema.Schema.{Schema, Optional', Repeated'}
+use Rattle.columnar_syntax.specs.declared.schema.Schema.{Schema, Optional', Repeated'}
 use Rattle.columnar_schema.specs.Formats.{format_of}
 use Rattle.columnar_schema.specs.JudgeLaws.{left_refused, right_fits, first_fits}
 use Rattle.columnar_schema.specs.TurnLaws.{optional_turns, parts_turns}

@@ -7,17 +7,20 @@ use Rattle.columnar_sums.specs.Results.{beside_format}
 use Rattle.columnar_schema.specs.BankLaws.{sum_count}
 use Rattle.columnar_schema.specs.CountLaws.{tuple_count, beside_count}
 use Rattle.columnar_schema.specs.Formats.{bounds_format, format_of, leaf_format}
-use Rattle.columnar_schema.specs.Gathered.{IsGathered, IsValue, of_field, of_fields, of_one, of_several}
-use Rattle.columnar_schema.specs.Names.{Names, Part, a_type, last_comma, structure, nothing, places, object, labelled, last_field, more_fields, leaf, last, boxed, optional, listed, numbered, fallible, solo, tuple, more, array, repeated, recalled, inside, leaf_name, with_comma, sum, last_case, more_cases, named, valued, bare_value, named_value}
-use Rattle.columnar_schema.specs.Tokens.{begins_word, is_blank, is_word_byte, lengthened, marks, tokens}
+use Rattle.columnar_syntax.specs.Gathered.{IsGathered, IsValue, of_field, of_fields, of_one, of_several}
+use Rattle.columnar_syntax.specs.Names.{Names, Part, a_type, last_comma, structure, nothing, places, object, labelled, last_field, more_fields, leaf, last, boxed, optional, listed, numbered, fallible, solo, tuple, more, array, repeated, recalled, inside, leaf_name, with_comma, sum, last_case, more_cases, named, valued, bare_value, named_value, declared}
+use Rattle.columnar_syntax.specs.Plain.{ends_well, plain, type_tokens}
+use Rattle.columnar_syntax.specs.PlainLaws.{plain_length}
+use Rattle.columnar_syntax.specs.SourceLaws.{never_declared}
+use Rattle.columnar_syntax.specs.Tokens.{begins_word, is_blank, is_word_byte, lengthened, marks, tokens}
 use Rattle.columnar_schema.specs.TypeLaws.{optional_two, fallible_two, lists_of_two}
-use Rattle.columnar_schema.specs.declared.schema.Bounds.{Bounds}
-use Rattle.columnar_schema.specs.declared.schema.Bounds.TheVariants.{Words, Strides, Unaries}
-use Rattle.columnar_schema.specs.declared.schema.Brackets.{Brackets}
-use Rattle.columnar_schema.specs.declared.schema.Brackets.TheVariants.{Square, Curly, Bare}
-use Rattle.columnar_schema.specs.declared.schema.Leaf.{Leaf}
-use Rattle.columnar_schema.specs.declared.schema.Leaf.TheVariants.{U8, U16, U32, U64, U128, Usize, I8, I16, I32, I64, I128, Isize, F32, F64, Bool as BoolLeaf, Char, Unit, Duration, Text}
-use Rattle.columnar_schema.specs.declared.schema.Schema.{Schema, Simple, Optional', Fallible', Lists', Solo', Tuple', Beside', Field', Array', Repeated', Recalled', Sum', Named, Case'}
+use Rattle.columnar_syntax.specs.declared.schema.Bounds.{Bounds}
+use Rattle.columnar_syntax.specs.declared.schema.Bounds.TheVariants.{Words, Strides, Unaries}
+use Rattle.columnar_syntax.specs.declared.schema.Brackets.{Brackets}
+use Rattle.columnar_syntax.specs.declared.schema.Brackets.TheVariants.{Square, Curly, Bare}
+use Rattle.columnar_syntax.specs.declared.schema.Leaf.{Leaf}
+use Rattle.columnar_syntax.specs.declared.schema.Leaf.TheVariants.{U8, U16, U32, U64, U128, Usize, I8, I16, I32, I64, I128, Isize, F32, F64, Bool as BoolLeaf, Char, Unit, Duration, Text}
+use Rattle.columnar_syntax.specs.declared.schema.Schema.{Schema, Simple, Optional', Fallible', Lists', Solo', Tuple', Beside', Field', Array', Repeated', Recalled', Sum', Named, Case'}
 
 bounds_few : (b : Bounds) → (bounds_format b).count ≤ 3
 bounds_few Words = omega arith
@@ -97,6 +100,7 @@ few_slices (sum n {t} {s} {p} c h k) = omega (arith, few_slices k, length-append
 few_slices (named {v} h) = omega arith
 few_slices (valued {t} {s} {v} h k) = omega (arith, few_slices k)
 few_slices (bare_value {t} n g) = omega (arith, few_slices n, value_few g, length-append t (marks (codes ")")))
+few_slices (declared after h u d n) = absurd (never_declared after d n)
 few_slices (named_value {t} c n g) = omega (arith, few_slices n, value_few g, length-append t (last_comma c ++ marks (codes "}")))
 
 chosen_few : (b c : Bool) (n : ℕ) (us : List (List ℕ)) (k : ℕ) → length us ≤ k → length (cond b us (cond c (lengthened n us) ((n ∷ []) ∷ us))) ≤ k + 1
@@ -111,6 +115,10 @@ few_tokens (n ∷ ns) =
     let few = chosen_few (is_blank n) (is_word_byte n && begins_word ns) n (tokens ns) (length ns) (few_tokens ns) in
     omega (arith, few)
 
+few_type_tokens : (text : List ℕ) (b : Bool) → length (cond b (tokens (plain text)) []) ≤ length text
+few_type_tokens text true = omega (arith, few_tokens (plain text), plain_length text)
+few_type_tokens text false = omega arith
+
 -- a type with too many slices has a longer text
-pub text_longer : {lists : Bounds} (text : List ℕ) (s : Schema) → Names lists a_type (tokens text) s → length text ≤ 2 ^ 58 → (format_of s).count ≤ 2 ^ 60
-text_longer text s n l = omega (arith, few_slices n, few_tokens text, l)
+pub text_longer : {lists : Bounds} (text : List ℕ) (s : Schema) → Names lists a_type (type_tokens text) s → length text ≤ 2 ^ 58 → (format_of s).count ≤ 2 ^ 60
+text_longer text s n l = omega (arith, few_slices n, few_type_tokens text (ends_well text), l)

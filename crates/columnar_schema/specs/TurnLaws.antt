@@ -5,7 +5,7 @@ use Rattle.columnar_base.specs.TwoParts.{TwoParts}
 use Rattle.columnar_sums.specs.RankColumns.{ranks_format}
 use Rattle.columnar_sums.specs.OptionLaws.{ranks_bytes}
 use Rattle.columnar_sums.specs.ResultLaws.{results_held}
-use Rattle.columnar_schema.specs.declared.schema.Schema.{Schema, Optional', Fallible', Lists'}
+use Rattle.columnar_syntax.specs.declared.schema.Schema.{Schema, Optional', Fallible', Lists'}
 use Rattle.columnar_schema.specs.Formats.{bounds_format, format_of}
 use Rattle.columnar_schema.specs.JudgeLaws.{held_two}
 use Rattle.columnar_schema.specs.TypeLaws.{optional_two, lists_of_two}

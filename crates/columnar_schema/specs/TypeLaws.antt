@@ -17,7 +17,7 @@ use Rattle.columnar_sums.specs.Results.{beside_format, results_level}
 use Rattle.columnar_sums.specs.ResultLaws.{results_two, length-results}
 use Rattle.columnar_lists.specs.Lists.{lists_rise}
 use Rattle.columnar_lists.specs.ListLaws.{lists_two, length-lists}
-use Rattle.columnar_schema.specs.declared.schema.Schema.{Schema, Simple, Optional', Fallible', Lists', Solo', Tuple', Beside', Field', Array', Repeated', Recalled', Sum', Named, Case'}
+use Rattle.columnar_syntax.specs.declared.schema.Schema.{Schema, Simple, Optional', Fallible', Lists', Solo', Tuple', Beside', Field', Array', Repeated', Recalled', Sum', Named, Case'}
 use Rattle.columnar_schema.specs.Formats.{bounds_format, columns_of, format_of}
 
 -- ---- of two parts

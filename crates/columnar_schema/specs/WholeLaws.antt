@@ -9,7 +9,7 @@ use Rattle.columnar_core.specs.Frame.{IsLegal, framed_slices}
 use Rattle.columnar_core.specs.declared.fault.StoreFault.{StoreFault}
 use Rattle.columnar_bytes.specs.Accepted.{IsFirstFault}
 use Rattle.columnar_bytes.specs.AcceptedLaws.{fault_found}
-use Rattle.columnar_schema.specs.declared.schema.Schema.{Schema}
+use Rattle.columnar_syntax.specs.declared.schema.Schema.{Schema}
 use Rattle.columnar_schema.specs.Formats.{format_of}
 use Rattle.columnar_schema.specs.FormatLaws.{storable_of}
 

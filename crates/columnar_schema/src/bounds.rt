@@ -6,7 +6,6 @@ ghost use Rattle.columnar_core.specs.Bounds.{numbers, rises};
 ghost use Rattle.columnar_core.specs.Store.{slices_in};
 ghost use Rattle.columnar_schema.specs.Formats.{bounds_format};
 
-use crate::schema::Bounds;
 use columnar_core::bytes::Stored;
 use columnar_core::fault::StoreFault;
 use columnar_core::offsets::StoredOffsets;
@@ -14,6 +13,7 @@ use columnar_core::store::DecodedStore;
 use columnar_core::tally::Tally;
 use columnar_primitive::offsets::Strides;
 use columnar_sums::unaries::Unaries;
+use columnar_syntax::schema::Bounds;
 
 pub(crate) type Multiples = Strides<Vec<u64>, [u64; 2]>;
 

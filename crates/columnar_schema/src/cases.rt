@@ -10,13 +10,13 @@ ghost use Rattle.columnar_variants.specs.Variants.{are_below, variants_format};
 ghost use Rattle.columnar_schema.specs.Formats.{bank_of, format_of};
 
 use crate::judge::{rows_of, slice_count_of};
-use crate::schema::Schema;
 use columnar_core::bytes::{FromBytes, Stored};
 use columnar_core::fault::StoreFault;
 use columnar_core::store::DecodedStore;
 use columnar_core::tally::Tally;
 use columnar_core::view::View;
 use columnar_sums::discriminant::{Discriminant, Variants};
+use columnar_syntax::schema::Schema;
 use columnar_variants::count::count_variants;
 
 /// The variants of rows.

@@ -17,7 +17,6 @@ ghost use Rattle.columnar_schema.specs.Formats.{bounds_format, columns_of, forma
 use crate::bounds::{bounds_rise, bounds_rows, bounds_slices, judge_bounds};
 use crate::cases::{Forms, close_sum};
 use crate::leaf::{judge_leaf, leaf_rows, leaf_slices};
-use crate::schema::{Bounds, Leaf, Schema};
 use columnar_core::bytes::{FromBytes, Stored};
 use columnar_core::fault::StoreFault;
 use columnar_core::store::DecodedStore;
@@ -27,6 +26,7 @@ use columnar_core::view::View;
 use columnar_lookback::lookbacks::Distances;
 use columnar_lookback::lookbacks::bytes::all_reach;
 use columnar_sums::rank_select::RankSelect;
+use columnar_syntax::schema::{Bounds, Leaf, Schema};
 
 type Bits = RankSelect<Vec<u64>, Vec<u64>, [u64; 2]>;
 

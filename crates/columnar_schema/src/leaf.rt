@@ -4,10 +4,9 @@ ghost use Rattle.columnar_base.specs.Format.{Fits, bytes_held, first, moved};
 ghost use Rattle.columnar_base.specs.Faults.{verdict};
 ghost use Rattle.columnar_core.specs.Store.{slices_in};
 ghost use Rattle.columnar_schema.specs.Formats.{bounds_format, leaf_format};
-ghost use Rattle.columnar_schema.specs.declared.schema.Leaf.TheVariants.{Text};
+ghost use Rattle.columnar_syntax.specs.declared.schema.Leaf.TheVariants.{Text};
 
 use crate::bounds::{Multiples, Runs};
-use crate::schema::{Bounds, Leaf};
 use columnar_bits::bools::Bools;
 use columnar_core::bytes::Stored;
 use columnar_core::fault::StoreFault;
@@ -20,6 +19,7 @@ use columnar_primitive::floats::{Doubles, Singles};
 use columnar_primitive::larges::{I128s, U128s};
 use columnar_primitive::numbers::{Isizes, Usizes};
 use columnar_strings::string::Strings;
+use columnar_syntax::schema::{Bounds, Leaf};
 
 type Truths = Bools<Vec<u64>, [u64; 2]>;
 

@@ -5,8 +5,8 @@ ghost use Rattle.columnar_schema.specs.Formats.{format_of};
 
 use crate::bounds::bounds_slices;
 use crate::judge::slice_count_of;
-use crate::schema::{Bounds, Brackets, Leaf, Schema};
 use columnar_strings::string::as_text;
+use columnar_syntax::schema::{Bounds, Brackets, Leaf, Schema};
 use std::alloc::AllocError;
 
 // Appends a field to a path.

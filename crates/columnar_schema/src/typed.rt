@@ -1,23 +1,26 @@
 //! Column types that a store can have: those with at most 2^60 slices.
-ghost use Rattle.std.specs.Prelude.{◌≡◌, ◌+◌, ◌^◌, ◌<◌, ◌≤◌, ◌↔◌, length, IsOk, IfErr, IfSome, IfNone, IfOk};
+ghost use Rattle.std.specs.Prelude.{◌≡◌, ◌⊎◌, ◌+◌, ◌^◌, ◌<◌, ◌≤◌, ◌↔◌, length, IsOk, IfErr, IfSome, IfNone, IfOk, []};
 ghost use Rattle.columnar_core.specs.Frame.{framed_slices};
 ghost use Rattle.columnar_bytes.specs.Accepted.{Accepts, IsFirstFault};
 ghost use Rattle.columnar_schema.specs.Formats.{format_of};
-ghost use Rattle.columnar_schema.specs.Names.{Names, a_type};
-ghost use Rattle.columnar_schema.specs.Reading.{NestsWithin};
-ghost use Rattle.columnar_schema.specs.Tokens.{tokens};
-ghost use Rattle.columnar_schema.specs.declared.schema.Schema.{Schema};
-ghost use Rattle.columnar_schema.specs.declared.text.Mistake.TheVariants.{Memory};
+ghost use Rattle.columnar_syntax.specs.Declarations.{declared_in};
+ghost use Rattle.columnar_syntax.specs.Names.{Declares, Names, a_type};
+ghost use Rattle.columnar_syntax.specs.Reading.{NestsWithin};
+ghost use Rattle.columnar_syntax.specs.Sources.{in_source};
+ghost use Rattle.columnar_syntax.specs.Plain.{type_tokens};
+ghost use Rattle.columnar_syntax.specs.declared.schema.Schema.{Schema};
+ghost use Rattle.columnar_syntax.specs.declared.text.Mistake.TheVariants.{Memory, Undeclared};
 
 use crate::bounds::bounds_slices;
 use crate::judge::rows_of;
 use crate::leaf::leaf_slices;
 use crate::names::push_name;
-use crate::schema::{Bounds, Leaf, Schema};
-use crate::text::{Mistake, Refused, parse};
 use crate::validation::validate_schema;
 use columnar_core::fault::StoreFault;
 use columnar_core::store::DecodedStore;
+use columnar_syntax::schema::{Bounds, Leaf, Schema};
+use columnar_syntax::source::{parse, parse_declared};
+use columnar_syntax::text::{Mistake, Refused};
 use std::alloc::{AllocError, Global};
 
 // Subtracts the number of slices of the type from `limit`; `None` if there are more.
@@ -72,7 +75,8 @@ impl Type {
         }
     }
 
-    /// Parses a type. `lists` chooses the bounds of `Vec<T>`. Every text that names a type is read, if its types nest at
+    /// Parses a type, as it may stand in a source file: comments, attributes other than `columnar(..)`, and `pub` are
+    /// passed over. `lists` chooses the bounds of `Vec<T>`. Every text that names a type is read, if its types nest at
     /// most 64 deep (an enum counts as four), its tuples and variants have at most ten fields, its structs ten, or a
     /// hundred with names, its enums at most 256 variants, and its arrays at most 2^64 - 1 items. A struct has the columns
     /// of the tuple of its fields, an enum a column for the values of each variant.
@@ -82,13 +86,40 @@ impl Type {
     /// has more than 2^58 bytes.
     #[tactic(auto, using(crate::specs::SliceLaws::text_longer))]
     pub fn parse(alloc: Global, text: &[u8], lists: Bounds) -> Result<Type, Refused>
-        ensures names { IfOk result (λ t. Names lists a_type (tokens text.now) t.schema) }
-        ensures whole { (s : Schema) (n : Names lists a_type (tokens text.now) s) → NestsWithin 64 n → length text.now ≤ 2 ^ 58 → IfErr result (λ e. e.mistake ≡ Memory) }
+        ensures names { IfOk result (λ t. Names lists a_type (type_tokens text.now) t.schema) }
+        ensures whole { (s : Schema) (n : Names lists a_type (type_tokens text.now) s) → NestsWithin 64 n → length text.now ≤ 2 ^ 58 → IfErr result (λ e. e.mistake ≡ Memory) }
     {
         match Type::new(parse(alloc, text, lists)?) {
             Ok(it) => Ok(it),
             Err(_) => Err(Refused {
                 at: text.len(),
+                mistake: Mistake::Deep,
+            }),
+        }
+    }
+
+    /// Parses the type of the first declaration of a name, `struct NAME` or `enum NAME`, in a source file. Its fields may
+    /// name other structs and enums that the file declares, in any order; all else in the file is passed over. `lists` and
+    /// the limits are those of `parse`. Each use of a name costs as much as its declaration, so a short file can name a
+    /// very large type.
+    ///
+    /// # Errors
+    /// The first mistake and its position in the file. `Undeclared` at the end of the file if it has no such declaration;
+    /// `Deep` there for a type of more than 2^60 slices.
+    pub fn parse_declared(
+        alloc: Global,
+        source: &[u8],
+        name: &[u8],
+        lists: Bounds,
+    ) -> Result<Type, Refused>
+        ensures names { IfOk result (λ t. Declares (in_source lists source.now) name.now t.schema) }
+        ensures whole { (s : Schema) (d : Declares (in_source lists source.now) name.now s) → NestsWithin 64 d.names → IfErr result (λ e. (e.mistake ≡ Memory) ⊎ ((t : Schema) × (Declares (in_source lists source.now) name.now t × (2 ^ 60 < (format_of t).count)))) }
+        ensures declared { IfErr result (λ e. e.mistake ≡ Undeclared → declared_in name.now (type_tokens source.now) ≡ []) }
+    {
+        match Type::new(parse_declared(alloc, source, name, lists)?) {
+            Ok(it) => Ok(it),
+            Err(_) => Err(Refused {
+                at: source.len(),
                 mistake: Mistake::Deep,
             }),
         }

@@ -6,11 +6,11 @@ ghost use Rattle.columnar_bytes.specs.Accepted.{Accepts, Accepted, IsFirstFault}
 ghost use Rattle.columnar_schema.specs.Formats.{format_of};
 
 use crate::judge::{judge_of, slice_count_of};
-use crate::schema::Schema;
 use columnar_bytes::indexed::validate_structure_tallied;
 use columnar_core::fault::StoreFault;
 use columnar_core::store::DecodedStore;
 use columnar_core::tally::{Plain, Tally};
+use columnar_syntax::schema::Schema;
 
 /// Tests whether the bytes frame a well-formed column of the type, as the type's own `validate` does. Allocates
 /// nothing.

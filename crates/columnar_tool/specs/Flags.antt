@@ -1,7 +1,7 @@
 -- Flags before a type and after the files.
 use Rattle.std.specs.Prelude.{ℕ, Bool, true, false, List, [], ◌∷◌, bytes_eq, codes, string_bytes, if◌then◌else◌}
 use Rattle.std.proofs.Common.{Global, String}
-use Rattle.columnar_schema.specs.declared.schema.Bounds.TheVariants.{Words}
+use Rattle.columnar_syntax.specs.declared.schema.Bounds.TheVariants.{Words}
 use Rattle.columnar_tool.specs.declared.flags.Flags.{Flags}
 
 -- the word is this text

@@ -1,6 +1,7 @@
 pub mod Choices
 pub mod ChoiceLaws
 pub mod Flags
+pub mod Kinds
 pub mod Lines
 pub mod LineLaws
 pub mod Makes

@@ -5,7 +5,7 @@ use Rattle.std.proofs.lemmas.Bool.{eq-eqb}
 use Rattle.std.specs.Io.KnownBytes.{Appends}
 use Rattle.columnar_base.specs.Row.{Row}
 use Rattle.columnar_core.specs.SentLaws.{appends_both, appends_none}
-use Rattle.columnar_schema.specs.declared.schema.Schema.{Schema}
+use Rattle.columnar_syntax.specs.declared.schema.Schema.{Schema}
 use Rattle.columnar_json.specs.Csv.{head_of}
 use Rattle.columnar_json.specs.ItemLaws.{flat_more, take_more}
 use Rattle.columnar_json.specs.Json.{row_at}

@@ -5,7 +5,7 @@ use Rattle.std.specs.List.{flat_map}
 use Rattle.columnar_base.specs.Row.{Row}
 use Rattle.columnar_bytes.specs.Accepted.{Accepts, IsFirstFault}
 use Rattle.columnar_core.specs.Frame.{framed_slices}
-use Rattle.columnar_schema.specs.declared.schema.Schema.{Schema}
+use Rattle.columnar_syntax.specs.declared.schema.Schema.{Schema}
 use Rattle.columnar_schema.specs.Formats.{format_of}
 use Rattle.columnar_json.specs.Pieces.{Piece, Spells, plain}
 use Rattle.columnar_json.specs.Refusals.{IsRefusalBy}

@@ -3,7 +3,7 @@ use Rattle.std.specs.Prelude.{ℕ, List, ◌≡◌, ◌⊎◌, Option, IfSome}
 use Rattle.std.specs.Io.KnownBytes.{Keeps}
 use Rattle.columnar_bytes.specs.Accepted.{Accepts}
 use Rattle.columnar_schema.specs.Formats.{format_of}
-use Rattle.columnar_schema.specs.declared.schema.Schema.{Schema}
+use Rattle.columnar_syntax.specs.declared.schema.Schema.{Schema}
 use Rattle.columnar_make.specs.Lines.{HasLines, rows_in}
 use Rattle.columnar_tool.specs.Told.{Prints}
 

@@ -2,7 +2,7 @@
 use Rattle.std.proofs.Common.{◌≡◌, ℕ, ◌+◌, ◌<◌, List, [], ◌∷◌, ◌++◌, length, get_or, take, refl, sym, ap, arith, append_assoc, append-nil}
 use Rattle.std.proofs.lemmas.List.{length-take-le, take_more}
 use Rattle.columnar_base.specs.LongTupleLaws.{sides_two, tuple_two}
-use Rattle.columnar_schema.specs.declared.schema.Schema.{Schema, Tuple', Beside', Sum'}
+use Rattle.columnar_syntax.specs.declared.schema.Schema.{Schema, Tuple', Beside', Sum'}
 use Rattle.columnar_schema.specs.BankLaws.{bank_sizes}
 use Rattle.columnar_schema.specs.Formats.{columns_of, format_of}
 use Rattle.columnar_tool.specs.Slices.{AreSlices, slice_line}

@@ -16,7 +16,7 @@ use Rattle.columnar_core.specs.declared.fault.StoreFault.{StoreFault}
 use Rattle.columnar_json.specs.ItemLaws.{flat_more}
 use Rattle.columnar_json.specs.Pieces.{Piece}
 use Rattle.columnar_json.specs.declared.view.View.{View}
-use Rattle.columnar_schema.specs.declared.schema.Schema.{Schema}
+use Rattle.columnar_syntax.specs.declared.schema.Schema.{Schema}
 use Rattle.columnar_schema.specs.Formats.{format_of}
 use Rattle.columnar_tool.specs.Lines.{Prints, Stops, lines_of, rows_in}
 use Rattle.columnar_tool.specs.LineLaws.{prints_both, prints_none}

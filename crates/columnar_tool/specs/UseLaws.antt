@@ -1,7 +1,7 @@
 -- The uses whose second or third word is a type.
 use Rattle.std.proofs.Common.{Global, String, refl, subst}
 use Rattle.std.specs.Prelude.{ℕ, true, false, List, ◌≡◌, Option, codes, string_bytes}
-use Rattle.columnar_schema.specs.declared.schema.Bounds.TheVariants.{Words, Unaries}
+use Rattle.columnar_syntax.specs.declared.schema.Bounds.TheVariants.{Words, Unaries}
 use Rattle.columnar_tool.specs.Flags.{reads}
 use Rattle.columnar_tool.specs.Uses.{Ends, Lists, MakesOf, use_of_three, use_of_two}
 

@@ -2,13 +2,11 @@
 use Rattle.std.specs.Prelude.{ℕ, false, List, [], ◌∷◌, ◌≡◌, ◌⊎◌, ◌≤◌, ◌^◌, ◌&&◌, length, Option, codes, string_bytes, if◌then◌else◌}
 use Rattle.std.proofs.Common.{Global, String}
 use Rattle.std.specs.Io.KnownBytes.{Keeps}
-use Rattle.columnar_schema.specs.Names.{Names, a_type}
-use Rattle.columnar_schema.specs.Unnamed.{NamesNothing}
-use Rattle.columnar_schema.specs.Tokens.{tokens}
-use Rattle.columnar_schema.specs.declared.schema.Bounds.{Bounds}
-use Rattle.columnar_schema.specs.declared.schema.Bounds.TheVariants.{Words, Unaries}
-use Rattle.columnar_schema.specs.declared.schema.Schema.{Schema}
+use Rattle.columnar_syntax.specs.declared.schema.Bounds.{Bounds}
+use Rattle.columnar_syntax.specs.declared.schema.Bounds.TheVariants.{Words, Unaries}
+use Rattle.columnar_syntax.specs.declared.schema.Schema.{Schema}
 use Rattle.columnar_tool.specs.Flags.{reads}
+use Rattle.columnar_tool.specs.Kinds.{Asks, IsNoType}
 use Rattle.columnar_tool.specs.Makes.{Makes}
 use Rattle.columnar_tool.specs.Slices.{PrintsSlices}
 use Rattle.columnar_tool.specs.Tables.{ShowsTable}
@@ -45,13 +43,9 @@ use_of (verb ∷ word ∷ []) = use_of_two verb word
 use_of (verb ∷ flag ∷ word ∷ []) = use_of_three verb flag word
 use_of _ = reads_files
 
--- the status if a text is no type, or memory failed while it was read
-abbrev pub IsNoType : Bounds → List ℕ → ℕ → Type 0
-IsNoType lists text status = (status ≡ 1) ⊎ ((status ≡ 2) × NamesNothing lists text)
-
 -- the status and the output after the slices of a type were asked for
 abbrev pub Lists : Bounds → List ℕ → ℕ → Option (List ℕ) → Option (List ℕ) → Type 0
-Lists lists text status before after = ((s : Schema) × (Names lists a_type (tokens text) s × PrintsSlices s status before after)) ⊎ (IsNoType lists text status × Keeps before after)
+Lists lists text status before after = ((s : Schema) × (Asks lists text s × PrintsSlices s status before after)) ⊎ (IsNoType lists text status × Keeps before after)
 
 -- the status and the output after the table of a file was asked for: of some bytes, or the file could not be read
 abbrev pub ShowsFile : ℕ → Option (List ℕ) → Option (List ℕ) → Type 0
@@ -59,7 +53,7 @@ ShowsFile status before after = ((bytes : List ℕ) × ShowsTable bytes status b
 
 -- the status and the output after a store of a type was asked for
 abbrev pub MakesOf : Bounds → List ℕ → Option (List ℕ) → ℕ → Option (List ℕ) → Option (List ℕ) → Type 0
-MakesOf lists text input status before after = ((s : Schema) × (Names lists a_type (tokens text) s × Makes s input status before after)) ⊎ (IsNoType lists text status × Keeps before after)
+MakesOf lists text input status before after = ((s : Schema) × (Asks lists text s × Makes s input status before after)) ⊎ (IsNoType lists text status × Keeps before after)
 
 -- the status and the output after a use with this input, if it is known; with status 2 nothing was printed
 abbrev pub Ends : Use → Option (List ℕ) → ℕ → Option (List ℕ) → Option (List ℕ) → Type 0

@@ -3,7 +3,7 @@ use Rattle.std.specs.Prelude.{ℕ, Bool, true, false, List, ◌++◌, ◌≡◌,
 use Rattle.columnar_bytes.specs.Accepted.{Accepts, IsFirstFault}
 use Rattle.columnar_core.specs.Faults.{fault_number, fault_slice}
 use Rattle.columnar_core.specs.declared.fault.StoreFault.{StoreFault}
-use Rattle.columnar_schema.specs.declared.schema.Schema.{Schema}
+use Rattle.columnar_syntax.specs.declared.schema.Schema.{Schema}
 use Rattle.columnar_schema.specs.Formats.{format_of}
 use Rattle.columnar_tool.specs.Lines.{rows_in}
 use Rattle.columnar_tool.specs.Slices.{name_text}

@@ -1,27 +1,25 @@
 //! The command line of the program.
 ghost use Rattle.std.specs.Prelude.{◌≡◌, ◌≢◌, ◌⊎◌, ◌≤◌, false, IfOk, IfErr};
 ghost use Rattle.std.specs.Io.KnownBytes.{Keeps};
-ghost use Rattle.columnar_schema.specs.Names.{Names, a_type};
-ghost use Rattle.columnar_schema.specs.Tokens.{tokens};
-ghost use Rattle.columnar_tool.specs.Uses.{Ends, IsNoType, Lists, MakesOf, ShowsFile, use_of, use_of_three, use_of_two, use_of_word};
+ghost use Rattle.columnar_tool.specs.Uses.{Ends, Lists, MakesOf, ShowsFile, use_of, use_of_three, use_of_two, use_of_word};
 
 use crate::cat::{Stop, cat_bytes, print_head};
 use crate::choice::{Unchosen, choose};
 use crate::file::{Wanted, fault_line, file_bytes, test_bytes};
 use crate::flags::{Flags, NONE, flags_of, names_after};
 use crate::help::{HELP, USAGE, VERSION};
+use crate::kind::type_of;
 use crate::make::make_rows;
 use crate::range::{ALL, Span, span_of};
 use crate::slices::print_slices;
 use crate::stores::{cat_stores, test_stores};
 use crate::table::show_table;
-use crate::told::{Failure, no_memory, no_output, print, say};
+use crate::told::{Failure, cannot_read, no_memory, no_output, print, say};
 use columnar_core::writer::WriteBytes;
 use columnar_json::names::field_names;
 use columnar_json::view::{Form, View};
-use columnar_schema::schema::Bounds;
-use columnar_schema::text::{Mistake, Refused};
 use columnar_schema::typed::Type;
+use columnar_syntax::schema::Bounds;
 use std::alloc::Global;
 use std::io::{BufWriter, Read, Write};
 use std::rt::Files;
@@ -89,9 +87,9 @@ fn two_words<R: Files + AllocGlobal, I: Read, O: Write, E: Write>(
     ensures { Ends (use_of_two verb.now word.now) (I.remaining input.old) result (O.contents out.old) (O.contents out.new) }
 {
     match verb.as_str() {
-        "slices" => list_slices(alloc, word.as_str(), Bounds::Unaries, out, err),
+        "slices" => list_slices(rt, alloc, word.as_str(), Bounds::Unaries, out, err),
         "table" => show_file(rt, alloc, word.as_str(), out, err),
-        "make" => make_of_text(alloc, word.as_str(), Bounds::Unaries, input, out, err),
+        "make" => make_of_text(rt, alloc, word.as_str(), Bounds::Unaries, input, out, err),
         other => read_files(rt, alloc, other, rest, out, err),
     }
 }
@@ -111,16 +109,17 @@ fn three_words<R: Files + AllocGlobal, I: Read, O: Write, E: Write>(
     ensures { Ends (use_of_three verb.now flag.now word.now) (I.remaining input.old) result (O.contents out.old) (O.contents out.new) }
 {
     if verb.as_str() == "slices" && flag.as_str() == "--rust" {
-        list_slices(alloc, word.as_str(), Bounds::Words, out, err)
+        list_slices(rt, alloc, word.as_str(), Bounds::Words, out, err)
     } else if verb.as_str() == "make" && flag.as_str() == "--rust" {
-        make_of_text(alloc, word.as_str(), Bounds::Words, input, out, err)
+        make_of_text(rt, alloc, word.as_str(), Bounds::Words, input, out, err)
     } else {
         read_files(rt, alloc, verb.as_str(), rest, out, err)
     }
 }
 
-// Prints the slices of the type in this text.
-fn list_slices<O: WriteBytes, E: Write>(
+// Prints the slices of the type that this word names.
+fn list_slices<R: Files + AllocGlobal, O: WriteBytes, E: Write>(
+    rt: &R,
     alloc: Global,
     text: &str,
     lists: Bounds,
@@ -129,14 +128,15 @@ fn list_slices<O: WriteBytes, E: Write>(
 ) -> u8
     ensures { Lists lists text.now result (O.contents out.old) (O.contents out.new) }
 {
-    match type_of(alloc, text, lists, err) {
+    match type_of(rt, alloc, text, lists, err) {
         Ok(kind) => print_slices(alloc, &kind, out, err),
         Err(status) => status,
     }
 }
 
-// Prints the store of the type in this text that the lines of the input make.
-fn make_of_text<I: Read, O: WriteBytes, E: Write>(
+// Prints the store of the type that this word names, which the lines of the input make.
+fn make_of_text<R: Files + AllocGlobal, I: Read, O: WriteBytes, E: Write>(
+    rt: &R,
     alloc: Global,
     text: &str,
     lists: Bounds,
@@ -146,20 +146,9 @@ fn make_of_text<I: Read, O: WriteBytes, E: Write>(
 ) -> u8
     ensures { MakesOf lists text.now (I.remaining input.old) result (O.contents out.old) (O.contents out.new) }
 {
-    match type_of(alloc, text, lists, err) {
+    match type_of(rt, alloc, text, lists, err) {
         Ok(kind) => make_rows(alloc, &kind, input, out, err),
         Err(status) => status,
-    }
-}
-
-// Reads a type; if the text is none, writes why, and returns the status.
-fn type_of<E: Write>(alloc: Global, text: &str, lists: Bounds, err: &mut E) -> Result<Type, u8>
-    ensures names { IfOk result (λ t. Names lists a_type (tokens text.now) t.schema) }
-    ensures refused { IfErr result (IsNoType lists text.now) }
-{
-    match Type::parse(alloc, text.as_bytes(), lists) {
-        Ok(kind) => Ok(kind),
-        Err(refused) => Err(no_type(err, &refused)),
     }
 }
 
@@ -178,14 +167,6 @@ fn show_file<R: Files + AllocGlobal, O: WriteBytes, E: Write>(
         Err(Failure::Memory) => no_memory(err),
         Err(_) => cannot_read(path, err),
     }
-}
-
-// Writes that a file cannot be read, and returns the status 1.
-fn cannot_read<E: Write>(path: &str, err: &mut E) -> u8
-    ensures { result ≡ 1 }
-{
-    let _written = writeln!(err, "{path}: cannot read");
-    1
 }
 
 // What the words after the task ask for.
@@ -217,7 +198,7 @@ fn read_files<R: Files + AllocGlobal, O: Write, E: Write>(
     let Some(wish) = wish_of(task, words) else {
         return say(err, USAGE, 2);
     };
-    match type_of(alloc, wish.kind, wish.flags.lists, err) {
+    match type_of(rt, alloc, wish.kind, wish.flags.lists, err) {
         Ok(kind) => match task {
             Task::Test(wanted) => {
                 test_files(
@@ -513,31 +494,4 @@ fn unprinted<W: Write + Drop, E: Write>(lines: BufWriter<W>, err: &mut E) -> u8
 {
     let (_out, _unwritten) = lines.into_parts();
     no_output(err)
-}
-
-// Writes why the text is not a type, and returns the status: 1 if an allocation failed, 2 otherwise.
-fn no_type<E: Write>(err: &mut E, refused: &Refused) -> u8
-    ensures { (result ≡ 1) ⊎ ((result ≡ 2) × (refused.now.mistake ≢ Mistake.Memory)) }
-{
-    match refused.mistake {
-        Mistake::Memory => no_memory(err),
-        mistake => {
-            tell_mistake(err, refused.at, mistake);
-            2
-        }
-    }
-}
-
-// Writes what is wrong with the text of a type, and where.
-fn tell_mistake<E: Write>(err: &mut E, at: usize, mistake: Mistake) {
-    let _written = match mistake {
-        Mistake::Memory => writeln!(err, "failed: no memory"),
-        Mistake::Name => writeln!(err, "not a type: expected a type or a name at {at}"),
-        Mistake::Wanted(byte) => writeln!(err, "not a type: expected `{}` at {at}", byte as char),
-        Mistake::Longer => writeln!(err, "not a type: unexpected text at {at}"),
-        Mistake::Wide => writeln!(err, "not a type: too many fields or variants at {at}"),
-        Mistake::Deep => writeln!(err, "not a type: nested too deep at {at}"),
-        Mistake::Number => writeln!(err, "not a type: expected a number at {at}"),
-        Mistake::Twice => writeln!(err, "not a type: the name at {at} stands twice"),
-    };
 }

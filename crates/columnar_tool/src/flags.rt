@@ -2,7 +2,7 @@
 ghost use Rattle.std.specs.Prelude.{◌≡◌};
 ghost use Rattle.columnar_tool.specs.Flags.{flags_in};
 
-use columnar_schema::schema::Bounds;
+use columnar_syntax::schema::Bounds;
 
 /// What the flags say.
 #[derive(Clone, Copy, PartialEq, Drop)]

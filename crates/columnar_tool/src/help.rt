@@ -22,7 +22,8 @@ Tests stores of columns against a type, and prints their rows.
   columnar_tool --help              prints this page
   columnar_tool --version           prints the version
 
-TYPE is the text of a type, such as '(u64, String, Option<u32>)'.
+TYPE is the text of a type, such as '(u64, String, Option<u32>)', or
+@FILE:NAME, a struct or an enum that a file of Rust source declares.
 Flags stand before TYPE or after the files:
 --rust    the ends of the lists of Vec<T> are numbers, as in the Rust crate
 --stores  a file holds stores one after another; each counts by itself

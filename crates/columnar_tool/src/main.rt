@@ -7,6 +7,7 @@ mod cli;
 mod file;
 mod flags;
 mod help;
+mod kind;
 mod lines;
 mod make;
 mod range;

@@ -5,8 +5,8 @@ ghost use Rattle.columnar_tool.specs.Slices.{AreSlices, PrintsSlices, name_text,
 
 use crate::told::{no_memory, print};
 use columnar_core::writer::WriteBytes;
-use columnar_schema::schema::{Bounds, Leaf, Schema};
 use columnar_schema::typed::Type;
+use columnar_syntax::schema::{Bounds, Leaf, Schema};
 use std::alloc::{AllocError, Global};
 use std::io::Write;
 

@@ -78,3 +78,11 @@ pub fn no_output<E: Write>(err: &mut E) -> u8
 {
     say(err, "failed: cannot write", 1)
 }
+
+/// Writes that a file cannot be read, and returns the status 1.
+pub fn cannot_read<E: Write>(path: &str, err: &mut E) -> u8
+    ensures { result ≡ 1 }
+{
+    let _written = writeln!(err, "{path}: cannot read");
+    1
+}

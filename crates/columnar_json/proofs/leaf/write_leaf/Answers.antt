@@ -2,7 +2,7 @@ use Rattle.std.proofs.Common.{drop, refl}
 use Rattle.columnar_core.specs.Store.{slices_in}
 use Rattle.columnar_primitive.specs.Counts.{number_in}
 use Rattle.columnar_primitive.specs.Units.{units_format}
-use Rattle.columnar_schema.specs.declared.schema.Leaf.TheVariants.{Unit as UnitLeaf}
+use Rattle.columnar_syntax.specs.declared.schema.Leaf.TheVariants.{Unit as UnitLeaf}
 use Rattle.columnar_schema.specs.Formats.{leaf_format}
 use Rattle.columnar_json.specs.RealLaws.{double_wrote, single_wrote, unit_wrote}
 use Rattle.columnar_json.specs.RowTextLaws.{text_wrote}

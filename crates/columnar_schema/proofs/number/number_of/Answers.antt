@@ -1,5 +1,0 @@
-use Rattle.columnar_schema.specs.ArrayLaws.{digits_text}
-use Rattle.columnar_schema.proofs.number.number_of.Goals as goal
-
-pub returns-in_default-clause-none : goal.returns-in_default-clause-none
-returns-in_default-clause-none c n l w = c.in_default.ensures.err.1 (digits_text c.args.word.now w.0.1)

@@ -1,3 +1,4 @@
+pub mod ColumnLaws
 pub use Rattle.columnar_core.specs.Format
 pub use Rattle.columnar_core.specs.Row
 pub use Rattle.columnar_core.specs.Texts

@@ -6,6 +6,7 @@ use crate::attributes::derived;
 use crate::cases::Case;
 use crate::generics::Generics;
 use crate::item::{Description, Value, Variant};
+use crate::leaf::Leaf;
 use crate::lines::{Header, Lines, WIDTH, each, in_angles, joined, keep};
 use crate::names::add_names;
 use std::alloc::{AllocError, Global};
@@ -172,15 +173,32 @@ impl<'x> EnumPage<'x> {
         let (name, own) = (self.name.as_str(), self.own.as_str());
         let all = self.generics.names(self.alloc)?;
         let params = self.generics.of_alias(self.alloc, &[], all.as_slice())?;
-        self.lines.put(format!(in self.alloc; "/// A column of values of `{name}`."))?;
-        self.lines.add_container(name, params.as_str(), own)?;
+        if !self.generics.is_none() {
+            self.lines.put(format!(in self.alloc; "/// A column of values of `{name}`."))?;
+            self.lines.add_container(name, params.as_str(), own)?;
+        }
         self.lines.add("// The columns of the values, of each variant and of those after it")?;
         self.add_columns()?;
         self.add_kinds(
             "// What values of several fields are made of",
             "ValueOf",
             "",
-        )
+        )?;
+        if self.generics.is_none() {
+            self.add_leaf()?;
+        }
+        Ok(())
+    }
+
+    // Adds the column of an enum without parameters.
+    fn add_leaf(&mut self) -> Result<(), AllocError> {
+        let leaf = Leaf {
+            alloc: self.alloc,
+            name: self.name.as_str(),
+            prefix: self.prefix.as_str(),
+            columns: self.parts.as_str(),
+        };
+        leaf.add(&mut self.lines)
     }
 
     // Adds the columns from each variant on, the last first, and the column of the variants.
@@ -483,7 +501,11 @@ pub enum {} {{",
         for _ in 0..begun {
             unfit.push(')')?;
         }
-        let parts = self.parts.as_str();
+        let container = if self.generics.is_none() {
+            format!(in self.alloc; "{}Container", self.name)?
+        } else {
+            format!(in self.alloc; "OwnRows<{}, {own}>", self.parts)?
+        };
         let imports = if self.params.is_empty() {
             unfit.push_str("false")?;
             "    ghost use Rattle.std.specs.Prelude.{false};"
@@ -508,7 +530,7 @@ pub enum {} {{",
 
     ghost unfit = {{ λ u r. {unfit} }};
 
-    type Container = OwnRows<{parts}, {own}>;
+    type Container = {container};
 }}
 "
         ))

@@ -9,6 +9,8 @@ pub struct Kinds {
     pub has_generic_struct: bool,
     pub has_enum: bool,
     pub has_generic_enum: bool,
+    /// Whether a type has no parameters.
+    pub has_leaf: bool,
 }
 
 // Returns the names in a sentence: `A`, `A` and `B`, or `A`, `B` and `C`.
@@ -48,8 +50,14 @@ pub fn add_head(
     lines.put(format!(in alloc;
         "//! Rows of {list}, as `columnar_derive` writes them.
 use super::*;
-use columnar::fault::{{GrowError, OwnError}};
-use columnar::names::{{PartNames, name_in}};"
+{}use columnar::fault::{{GrowError, OwnError{}}};
+use columnar::names::{{PartNames, name_in}};",
+        if of.has_leaf {
+            "use columnar::bytes::indexed::DecodedStore;\nuse columnar::bytes::{ByteSlice, Earlier, Tally};\n"
+        } else {
+            ""
+        },
+        if of.has_leaf { ", StoreFault" } else { "" },
     ))?;
     let is_generic = of.has_generic_struct || of.has_generic_enum;
     if is_generic {
@@ -64,8 +72,7 @@ use columnar::names::{{PartNames, name_in}};"
         let words = format!(in alloc; "Last Nth Variants {push} values_at")?;
         add_import(alloc, lines, "columnar::sums::variants", words.as_str())?;
     }
-    let has_parts = is_generic || of.has_struct || of.has_enum;
-    let column = if has_parts { "Column" } else { "" };
+    let column = if is_generic { "Column" } else { "" };
     let lend = if of.has_enum { "LendRow" } else { "" };
     let into = if of.has_generic_struct {
         "PushInto"
@@ -74,9 +81,19 @@ use columnar::names::{{PartNames, name_in}};"
     };
     let value = if is_generic { "IntoValue" } else { "" };
     let refs = if is_generic { "PushRef Truncate" } else { "" };
-    let words = format!(in alloc;
-        "{column} Columnar ContainerOf FromRow {value} Item {lend} MakeRow OwnRow OwnRows Push {into} PushParts {refs}"
-    )?;
+    let words = if of.has_leaf {
+        format!(in alloc;
+            "AsBytes Borrow Check Clear Column Columnar ContainerBytes ContainerOf ExtendFrom FromBytes FromRow Index IndexMut {value} Item Len {lend} MakeRow OwnRow OwnRows Push {into} PushParts PushRef Reborrow Reserve RowMut SameAs SameParts SetItem SetRow SliceNames Storage Stored Truncate"
+        )?
+    } else {
+        format!(in alloc;
+            "{column} Columnar ContainerOf FromRow {value} Item {lend} MakeRow OwnRow OwnRows Push {into} PushParts {refs}"
+        )?
+    };
     add_import(alloc, lines, "columnar", words.as_str())?;
-    lines.add("use std::alloc::Global;")
+    lines.add(if of.has_leaf {
+        "use std::alloc::{AllocError, Global};"
+    } else {
+        "use std::alloc::Global;"
+    })
 }

@@ -9,6 +9,7 @@ mod enums;
 mod generics;
 mod head;
 mod item;
+mod leaf;
 mod lines;
 mod names;
 mod parser;

@@ -45,6 +45,9 @@ fn head(alloc: Global, lines: &mut Lines, types: &[Description]) -> Result<(), A
     for one in types {
         keep(&mut names, String::from_str(alloc, one.name.as_str())?)?;
         let is_generic = !one.generics.is_none();
+        if !is_generic {
+            of.has_leaf = true;
+        }
         match &one.body {
             Body::Enum(_) if is_generic => of.has_generic_enum = true,
             Body::Enum(_) => of.has_enum = true,

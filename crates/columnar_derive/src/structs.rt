@@ -2,9 +2,10 @@
 use crate::attributes::derived;
 use crate::generics::Generics;
 use crate::item::{Description, Field, Value};
+use crate::leaf::Leaf;
 use crate::lines::{Header, Lines, WIDTH, each, in_angles, in_clause, in_tuple, keep};
 use crate::names::add_names;
-use crate::views::{View, Views};
+use crate::views::{View, Views, add_kinds};
 use std::alloc::{AllocError, Global};
 
 // How the fields of a struct are written.
@@ -78,7 +79,7 @@ fn container_of(
     parts: &str,
     columns: &[String],
 ) -> Result<String, AllocError> {
-    if columns.is_empty() {
+    if columns.is_empty() && !generics.is_none() {
         return format!(in alloc; "ContainerOf<{parts}>");
     }
     let used = generics.to_alias(alloc, &[], columns)?;
@@ -159,10 +160,26 @@ impl<'x> Page<'x> {
         let generics = self.generics;
         let own = self.own.as_str();
         let params = generics.of_alias(alloc, &[], generics.names(alloc)?.as_slice())?;
+        if generics.is_none() {
+            self.add_parts()?;
+            return self.add_leaf();
+        }
         self.lines
             .put(format!(in alloc; "/// A column of values of `{name}`."))?;
         self.lines.add_container(name, params.as_str(), own)?;
         self.add_parts()
+    }
+
+    // Adds the column of a struct without parameters.
+    fn add_leaf(&mut self) -> Result<(), AllocError> {
+        self.lines.add("")?;
+        let leaf = Leaf {
+            alloc: self.alloc,
+            name: self.name.as_str(),
+            prefix: self.prefix.as_str(),
+            columns: self.container.as_str(),
+        };
+        leaf.add(&mut self.lines)
     }
 
     // Adds the tuple of the fields, and that of their columns.
@@ -173,10 +190,16 @@ impl<'x> Page<'x> {
         let before = format!(in alloc; "type {}Parts{params} = ", self.prefix)?;
         self.lines
             .add_tuple("", before.as_str(), self.kinds.as_slice(), ";")?;
-        if self.columns.is_empty() {
+        if self.columns.is_empty() && !generics.is_none() {
             return Ok(());
         }
         self.lines.add("\n// Their columns")?;
+        if self.columns.is_empty() {
+            let (name, parts) = (self.container.as_str(), self.parts.as_str());
+            return self
+                .lines
+                .put(format!(in alloc; "type {name} = ContainerOf<{parts}>;"));
+        }
         let params = generics.of_alias(alloc, &[], self.columns.as_slice())?;
         let before = format!(in alloc; "type {}PartColumns{params} = ", self.prefix)?;
         self.lines
@@ -424,6 +447,11 @@ impl<'x> Page<'x> {
 
     // Adds the column of the values.
     fn add_owned(&mut self) -> Result<(), AllocError> {
+        let container = if self.generics.is_none() {
+            format!(in self.alloc; "{}Container", self.name)?
+        } else {
+            format!(in self.alloc; "OwnRows<{}, {}>", self.container, self.own)?
+        };
         self.lines.add_impl(
             &Header {
                 params: self.generics.declared(self.alloc, "")?.as_slice(),
@@ -437,10 +465,10 @@ impl<'x> Page<'x> {
         self.lines.put(format!(in self.alloc;
             "    ghost unfit = {{ ⟦<{} as Columnar>⟧.unfit }};
 
-    type Container = OwnRows<{}, {}>;
+    type Container = {container};
 }}
 ",
-            self.parts, self.container, self.own
+            self.parts
         ))
     }
 
@@ -560,18 +588,39 @@ impl<'x> Page<'x> {
         Ok(views)
     }
 
+    // Adds the aliases of the columns of the fields in a view and returns their names; none if the type has parameters.
+    fn kinds_in_view(&mut self) -> Result<Vec<String>, AllocError> {
+        if !self.generics.is_none() {
+            return Ok(Vec::new(self.alloc));
+        }
+        let columns = if self.columns.is_empty() {
+            each(self.alloc, self.kinds.as_slice(), "ContainerOf<", ">")?
+        } else {
+            each(self.alloc, self.columns.as_slice(), "", "")?
+        };
+        let prefix = self.prefix.as_str();
+        self.lines.add("")?;
+        add_kinds(self.alloc, &mut self.lines, prefix, columns.as_slice())
+    }
+
     // Adds the trait that names the columns of the fields of a view, if there are fields.
     fn add_views(&mut self) -> Result<(), AllocError> {
         if self.style == Style::Unit {
             return Ok(());
         }
         let parts = self.views()?;
+        let kinds = self.kinds_in_view()?;
         let name = self.name.as_str();
         let told = format!(in self.alloc;
             "The columns of the fields of `{name}` in a view, by name."
         )?;
-        let of = format!(in self.alloc; "OwnRows<{}, {}>", self.tuple, self.own)?;
-        let others = self.generics.declared(self.alloc, "")?;
+        let mut others = self.generics.declared(self.alloc, "")?;
+        let of = if kinds.is_empty() {
+            format!(in self.alloc; "OwnRows<{}, {}>", self.tuple, self.own)?
+        } else {
+            keep(&mut others, String::from_str(self.alloc, "'x")?)?;
+            format!(in self.alloc; "{name}View<'x>")?
+        };
         let imports = if self.fields.len() == 1 {
             "Rattle.columnar.specs.Fields.{rows_of_only}"
         } else {
@@ -582,6 +631,7 @@ impl<'x> Page<'x> {
             told: told.as_str(),
             imports,
             params: self.params.as_slice(),
+            kinds: kinds.as_slice(),
             others: others.as_slice(),
             bounds: self.generics.bounds.as_slice(),
             of: of.as_str(),

@@ -26,6 +26,8 @@ pub struct Views<'x> {
     pub imports: &'x str,
     /// A type parameter for each part.
     pub params: &'x [String],
+    /// The type of each part, if the type has no parameters.
+    pub kinds: &'x [String],
     /// The other parameters of the impl, and its bounds.
     pub others: &'x [String],
     pub bounds: &'x [String],
@@ -77,26 +79,31 @@ impl Views<'_> {
 
     fn add_impl(&self, alloc: Global, lines: &mut Lines) -> Result<(), AllocError> {
         let mut params = each(alloc, self.others, "", "")?;
-        for param in self.params {
-            keep(&mut params, format!(in alloc; "{param}: Column + Copy")?)?;
-        }
+        let kinds = if self.kinds.is_empty() {
+            for param in self.params {
+                keep(&mut params, format!(in alloc; "{param}: Column + Copy")?)?;
+            }
+            self.params
+        } else {
+            self.kinds
+        };
         let name = format!(in alloc; "{}Columns", self.own)?;
         lines.add_impl(
             &Header {
                 params: params.as_slice(),
                 trait_name: name.as_str(),
-                of: self.params,
+                of: kinds,
                 own: self.of,
                 after: "",
             },
             self.bounds,
         )?;
-        for (i, (part, param)) in self.parts.iter().zip(self.params.iter()).enumerate() {
+        for (i, (part, kind)) in self.parts.iter().zip(kinds.iter()).enumerate() {
             if i > 0 {
                 lines.add("")?;
             }
             lines.put(format!(in alloc;
-                "    fn {}(self) -> {param} {{
+                "    fn {}(self) -> {kind} {{
         {}
     }}",
                 part.method, part.value
@@ -104,4 +111,26 @@ impl Views<'_> {
         }
         lines.add("}")
     }
+}
+
+/// Adds the alias of each part in a view, and returns their names. These are the columns of the parts; `prefix` begins the
+/// names.
+pub fn add_kinds(
+    alloc: Global,
+    lines: &mut Lines,
+    prefix: &str,
+    columns: &[String],
+) -> Result<Vec<String>, AllocError> {
+    let mut kinds = Vec::new(alloc);
+    lines.add("// The columns of each part in a view")?;
+    for (i, column) in columns.iter().enumerate() {
+        if i > 0 {
+            lines.add("")?;
+        }
+        let alias = format!(in alloc; "type {prefix}View{i}<'x> =")?;
+        let kind = format!(in alloc; "<{column} as Borrow<'x>>::Borrowed;")?;
+        lines.add_alias(alias.as_str(), kind.as_str())?;
+        keep(&mut kinds, format!(in alloc; "{prefix}View{i}<'x>")?)?;
+    }
+    Ok(kinds)
 }

@@ -101,7 +101,7 @@ impl Events {
     }
 
     fn reads(&self, rows: &[Row]) -> bool {
-        reads(&self.column, rows)
+        reads(&self.column.borrow(), rows)
     }
 }
 

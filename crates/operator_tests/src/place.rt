@@ -71,11 +71,11 @@ impl Places {
     }
 
     fn reads(&self, rows: &[PlaceRow]) -> bool {
-        reads(&self.column, rows)
+        reads(&self.column.borrow(), rows)
     }
 
     fn place(&self, alloc: Global, index: usize) -> Option<Result<Place, OwnError>> {
-        Some(Place::into_owned(alloc, self.column.get_checked(index)?))
+        Some(Place::into_owned(alloc, self.column.borrow().get_checked(index)?))
     }
 
     // The sum of the lengths, each a field of a field
@@ -89,7 +89,7 @@ impl Places {
 
     // The fields of a row, by its struct
     fn shown(&self, index: usize) -> Option<(u64, u32)> {
-        let PlaceReference(meters, high) = self.column.get_checked(index)?.show();
+        let PlaceReference(meters, high) = self.column.borrow().get_checked(index)?.show();
         Some((meters.show().0, high))
     }
 }
@@ -132,7 +132,7 @@ impl Nowheres {
     }
 
     fn value(&self, alloc: Global, index: usize) -> Option<Result<Nowhere, OwnError>> {
-        Some(Nowhere::into_owned(alloc, self.column.get_checked(index)?))
+        Some(Nowhere::into_owned(alloc, self.column.borrow().get_checked(index)?))
     }
 }
 
@@ -170,7 +170,7 @@ impl Finds {
     }
 
     fn reads(&self, rows: &[FoundRow]) -> bool {
-        reads(&self.column, rows)
+        reads(&self.column.borrow(), rows)
     }
 }
 

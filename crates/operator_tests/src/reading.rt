@@ -94,7 +94,7 @@ impl Readings {
     }
 
     fn reads(&self, rows: &[Row]) -> bool {
-        reads(&self.column, rows)
+        reads(&self.column.borrow(), rows)
     }
 }
 
@@ -176,7 +176,7 @@ impl HeldRuns {
     }
 
     fn reads(&self, rows: &[Row]) -> bool {
-        reads(&self.column, rows)
+        reads(&self.column.borrow(), rows)
     }
 
     // The times that are stored

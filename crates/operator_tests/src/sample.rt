@@ -4,7 +4,7 @@ ghost use Rattle.columnar.specs.Format.{IsSound};
 mod rows;
 
 use columnar::fault::OwnError;
-use columnar::{Column, Columnar, Index, Len, OwnRow, Repeats, Storage};
+use columnar::{Borrow, Column, Columnar, Index, Len, OwnRow, Repeats, Storage};
 use rows::{SampleContainer, SampleReference};
 use std::alloc::Global;
 use std::default::Default;
@@ -51,15 +51,15 @@ impl Samples {
     }
 
     fn reads(&self, rows: &[Row]) -> bool {
-        reads(&self.column, rows)
+        reads(&self.column.borrow(), rows)
     }
 
     fn shown(&self, index: usize) -> Option<SampleReference<u32, u64>> {
-        Some(self.column.get_checked(index)?.show())
+        Some(self.column.borrow().get_checked(index)?.show())
     }
 
     fn sample(&self, alloc: Global, index: usize) -> Option<Result<Sample, OwnError>> {
-        Some(Sample::into_owned(alloc, self.column.get_checked(index)?))
+        Some(Sample::into_owned(alloc, self.column.borrow().get_checked(index)?))
     }
 
     // The levels that are stored

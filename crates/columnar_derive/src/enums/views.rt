@@ -2,7 +2,7 @@
 use super::EnumPage;
 use crate::lines::{WIDTH, joined, keep};
 use crate::names::method_name;
-use crate::views::{View, Views};
+use crate::views::{View, Views, add_kinds};
 use std::alloc::{AllocError, Global};
 
 // Returns the place after that of the variant with this name, or the first.
@@ -30,6 +30,9 @@ impl EnumPage<'_> {
 
     // Adds the columns of the values in a view, and the view.
     fn add_values_viewed(&mut self) -> Result<(), AllocError> {
+        if self.generics.is_none() {
+            return Ok(());
+        }
         let params = self.view_params()?;
         let list = joined(self.alloc, params.as_slice(), ", ")?;
         let before = format!(in self.alloc; "type {}ViewsOfValues<{list}> = ", self.prefix)?;
@@ -91,6 +94,22 @@ impl EnumPage<'_> {
         Ok(params)
     }
 
+    // Adds the aliases of the columns of the variants in a view and returns their names; none if the type has parameters.
+    fn kinds_in_view(&mut self) -> Result<Vec<String>, AllocError> {
+        if !self.generics.is_none() {
+            return Ok(Vec::new(self.alloc));
+        }
+        let mut columns = Vec::new(self.alloc);
+        for case in &self.cases {
+            keep(
+                &mut columns,
+                String::from_str(self.alloc, case.column.as_str())?,
+            )?;
+        }
+        let prefix = self.prefix.as_str();
+        add_kinds(self.alloc, &mut self.lines, prefix, columns.as_slice())
+    }
+
     // Adds the trait that names the values of the variants of a view.
     pub(super) fn add_views(&mut self) -> Result<(), AllocError> {
         let parts = self.views()?;
@@ -100,16 +119,23 @@ impl EnumPage<'_> {
         let told = format!(in self.alloc;
             "The values of each variant of `{name}` in a view, by name."
         )?;
+        let kinds = self.kinds_in_view()?;
         let list = joined(self.alloc, params.as_slice(), ", ")?;
-        let of = format!(in self.alloc;
-            "OwnRows<{}ViewOfAll<'x, {list}>, {}>",
-            self.prefix, self.own
-        )?;
+        let of = if kinds.is_empty() {
+            format!(in self.alloc;
+                "OwnRows<{}ViewOfAll<'x, {list}>, {}>",
+                self.prefix, self.own
+            )?
+        } else {
+            format!(in self.alloc; "{}View<'x>", self.name)?
+        };
+        let name = self.name.as_str();
         let views = Views {
             own: name,
             told: told.as_str(),
             imports: "Rattle.columnar.specs.Variants.{of_case}",
             params: params.as_slice(),
+            kinds: kinds.as_slice(),
             others: others.as_slice(),
             bounds: self.generics.bounds.as_slice(),
             of: of.as_str(),

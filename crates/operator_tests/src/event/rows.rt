@@ -1,16 +1,17 @@
 //! Rows of `Event`, as `columnar_derive` writes them.
 use super::*;
-use columnar::fault::{GrowError, OwnError};
+use columnar::bytes::indexed::DecodedStore;
+use columnar::bytes::{ByteSlice, Earlier, Tally};
+use columnar::fault::{GrowError, OwnError, StoreFault};
 use columnar::names::{PartNames, name_in};
 use columnar::sums::variants::{Last, Nth, Variants, values_at};
 use columnar::{
-    Column, Columnar, ContainerOf, FromRow, Item, LendRow, MakeRow, OwnRow, OwnRows, Push,
-    PushParts,
+    AsBytes, Borrow, Check, Clear, Column, Columnar, ContainerBytes, ContainerOf, ExtendFrom,
+    FromBytes, FromRow, Index, IndexMut, Item, Len, LendRow, MakeRow, OwnRow, OwnRows, Push,
+    PushParts, PushRef, Reborrow, Reserve, RowMut, SameAs, SameParts, SetItem, SetRow, SliceNames,
+    Storage, Stored, Truncate,
 };
-use std::alloc::Global;
-
-/// A column of values of `Event`.
-pub type EventContainer = ContainerOf<Event>;
+use std::alloc::{AllocError, Global};
 
 // The columns of the values, of each variant and of those after it
 type ColumnsFromStop = (ContainerOf<u32>,);
@@ -21,6 +22,409 @@ type ColumnsFromStart = (ContainerOf<u64>, ColumnsFromRest);
 
 type Parts = Variants<ColumnsFromStart>;
 
+// The columns of the parts in a view
+type PartViews<'a> = <Parts as Borrow<'a>>::Borrowed;
+
+/// A view of a column of values of `Event`.
+#[derive(Clone, Copy)]
+pub struct EventView<'a> {
+    /// The view of the column of their parts.
+    pub parts: PartViews<'a>,
+}
+
+/// A column of values of `Event`.
+#[derive(Drop)]
+pub struct EventContainer {
+    /// The column of their parts.
+    pub parts: Parts,
+}
+
+impl Column for EventContainer {
+    ghost format = { ⟦<Parts as Column>⟧.format };
+
+    ghost content = { λ c. ⟦<Parts as Column>⟧.content c.parts };
+
+    ghost room = { λ c. ⟦<Parts as Column>⟧.room c.parts };
+}
+
+impl Len for EventContainer {
+    fn len(&self) -> usize {
+        self.parts.len()
+    }
+}
+
+impl Clear for EventContainer {
+    fn clear(&mut self) {
+        self.parts.clear();
+    }
+}
+
+impl Truncate for EventContainer {
+    ghost use Rattle.columnar.specs.ColumnLaws.{lawful_columns};
+
+    ghost lawful = { Prim.search lawful_columns depth 64 fits 10000 };
+
+    fn truncate(&mut self, n: usize) {
+        self.parts.truncate(n);
+    }
+}
+
+impl Storage for EventContainer {
+    fn empty(alloc: Global) -> Self {
+        let parts = Parts::empty(alloc);
+        Self { parts }
+    }
+
+    fn duplicate(&self, alloc: Global) -> Result<Self, GrowError> {
+        let parts = self.parts.duplicate(alloc)?;
+        Ok(Self { parts })
+    }
+}
+
+impl Clone for EventContainer {
+    fn clone(&self) -> Result<Self, AllocError> {
+        let parts = self.parts.clone()?;
+        Ok(Self { parts })
+    }
+}
+
+impl Reserve for EventContainer {
+    type Room = <Parts as Reserve>::Room;
+
+    ghost reserves = { ⟦<Parts as Reserve>⟧.reserves };
+
+    ghost covers = { ⟦<Parts as Reserve>⟧.covers };
+
+    fn no_room() -> Self::Room {
+        Parts::no_room()
+    }
+
+    fn reserve_room(&mut self, room: Self::Room) -> Result<(), GrowError> {
+        self.parts.reserve_room(room)
+    }
+}
+
+impl<'a> ExtendFrom<EventView<'a>> for EventContainer {
+    fn add_room(room: Self::Room, view: EventView<'a>) -> Self::Room {
+        Parts::add_room(room, view.parts)
+    }
+
+    fn extend_from_self(
+        &mut self,
+        view: EventView<'a>,
+        range: std::ops::Range<usize>,
+    ) -> Result<(), GrowError> {
+        self.parts.extend_from_self(view.parts, range)
+    }
+}
+
+impl<'a> Borrow<'a> for EventContainer {
+    ghost use Rattle.std.specs.Prelude.{refl};
+
+    type Ref = OwnRow<<Parts as Borrow<'a>>::Ref, Event>;
+
+    type Borrowed = EventView<'a>;
+
+    type Parts = <Parts as Borrow<'a>>::Parts;
+
+    ghost same_format = { refl };
+
+    fn borrow(&'a self) -> Self::Borrowed {
+        let parts = self.parts.borrow();
+        EventView { parts }
+    }
+}
+
+impl<'a> Column for EventView<'a> {
+    ghost format = { ⟦<PartViews<'a> as Column>⟧.format };
+
+    ghost content = { λ c. ⟦<PartViews<'a> as Column>⟧.content c.parts };
+
+    ghost room = { λ c. ⟦<PartViews<'a> as Column>⟧.room c.parts };
+}
+
+impl<'a> Len for EventView<'a> {
+    fn len(&self) -> usize {
+        self.parts.len()
+    }
+}
+
+impl<'a> Index for EventView<'a> {
+    type Ref = OwnRow<<PartViews<'a> as Index>::Ref, Event>;
+
+    fn get(&self, index: usize) -> Self::Ref {
+        OwnRow::new(self.parts.get(index))
+    }
+}
+
+impl<'a: 'b, 'b> Reborrow<'b> for EventView<'a> {
+    ghost use Rattle.std.specs.Prelude.{refl};
+
+    type Short = EventView<'b>;
+
+    ghost same_short = { refl };
+
+    fn reborrow(self) -> Self::Short {
+        let parts = self.parts.reborrow();
+        EventView { parts }
+    }
+}
+
+impl<'a> Stored for EventView<'a> {
+    ghost use Rattle.std.specs.Prelude.{◌≡◌, ◌+◌, ◌*◌, ◌≤◌, ◌++◌, IsTrue, length, drop, OnOk, OnErr, IfErr};
+    ghost use Rattle.columnar.specs.ColumnLaws.{counted_columns, storable_columns};
+    ghost use Rattle.columnar.specs.Faults.{verdict};
+    ghost use Rattle.columnar.specs.Format.{Fits, bytes_held, first, moved, representable};
+    ghost use Rattle.columnar.specs.Store.{slices_in};
+
+    ghost storable = { Prim.search storable_columns depth 64 fits 10000 };
+
+    ghost counted = { λ c. Prim.search counted_columns depth 64 fits 10000 };
+
+    fn slice_count() -> usize
+        requires { IsTrue (representable ⟦<EventView<'a> as Column>⟧.format) }
+        ensures { result ≡ ⟦<EventView<'a> as Column>⟧.format.count }
+    {
+        PartViews::slice_count()
+    }
+
+    fn element_sizes(sizes: &mut Vec<usize>) -> Result<(), GrowError>
+        requires { IsTrue (representable ⟦<EventView<'a> as Column>⟧.format) }
+        ensures ok { OnOk result (sizes.new.items ≡ sizes.old.items ++ ⟦<EventView<'a> as Column>⟧.format.sizes) }
+        ensures err { OnErr result (sizes.new.items ≡ sizes.old.items) }
+        ensures memory { IfErr result (λ e. e ≡ GrowError.Memory) }
+    {
+        PartViews::element_sizes(sizes)
+    }
+
+    fn judge_tallied<L>(
+        store: &DecodedStore<'_>,
+        offset: usize,
+        tally: &mut Tally<L>,
+    ) -> Result<(), StoreFault>
+        requires representable { IsTrue (representable ⟦<EventView<'a> as Column>⟧.format) }
+        requires room { offset + ⟦<EventView<'a> as Column>⟧.format.count ≤ length (slices_in store.now) }
+        ensures exact { verdict result ≡ first (moved offset (⟦<EventView<'a> as Column>⟧.format.broken (⟦<EventView<'a> as Column>⟧.format.build (drop offset (slices_in store.now))))) }
+        ensures turns { tally.new.turns ≤ tally.old.turns + ⟦<EventView<'a> as Column>⟧.format.turns * bytes_held (⟦<EventView<'a> as Column>⟧.format.build (drop offset (slices_in store.now))) }
+    {
+        PartViews::judge_tallied(store, offset, tally)
+    }
+
+    fn rows_in(store: &DecodedStore<'_>, offset: usize) -> usize
+        requires representable { IsTrue (representable ⟦<EventView<'a> as Column>⟧.format) }
+        requires fits { Fits ⟦<EventView<'a> as Column>⟧.format offset (slices_in store.now) }
+        ensures { result ≡ length (⟦<EventView<'a> as Column>⟧.format.rows (⟦<EventView<'a> as Column>⟧.format.build (drop offset (slices_in store.now)))) }
+    {
+        PartViews::rows_in(store, offset)
+    }
+}
+
+impl<'a> Check for EventView<'a> {
+    fn check_from_tallied<L>(&self, from: usize, tally: &mut Tally<L>) -> Result<(), StoreFault> {
+        self.parts.check_from_tallied(from, tally)
+    }
+}
+
+impl<'a> FromBytes<'a> for EventView<'a> {
+    fn from_store(store: &DecodedStore<'a>, offset: &mut usize) -> Self {
+        let parts = PartViews::from_store(store, offset);
+        Self { parts }
+    }
+}
+
+impl<'a> AsBytes<'a> for EventView<'a> {
+    fn get_byte_slice(&self, index: usize) -> (u64, ByteSlice<'a>) {
+        self.parts.get_byte_slice(index)
+    }
+}
+
+impl Stored for EventContainer {
+    ghost use Rattle.columnar.specs.ColumnLaws.{counted_columns, storable_columns};
+
+    ghost storable = { Prim.search storable_columns depth 64 fits 10000 };
+
+    ghost counted = { λ c. Prim.search counted_columns depth 64 fits 10000 };
+
+    fn slice_count() -> usize {
+        Parts::slice_count()
+    }
+
+    fn element_sizes(sizes: &mut Vec<usize>) -> Result<(), GrowError> {
+        Parts::element_sizes(sizes)
+    }
+
+    fn judge_tallied<L>(
+        store: &DecodedStore<'_>,
+        offset: usize,
+        tally: &mut Tally<L>,
+    ) -> Result<(), StoreFault> {
+        Parts::judge_tallied(store, offset, tally)
+    }
+
+    fn rows_in(store: &DecodedStore<'_>, offset: usize) -> usize {
+        Parts::rows_in(store, offset)
+    }
+}
+
+impl ContainerBytes for EventContainer {
+    fn byte_slice(&self, index: usize) -> ByteSlice<'_> {
+        self.parts.byte_slice(index)
+    }
+
+    fn load(alloc: Global, store: &DecodedStore<'_>, offset: usize) -> Result<Self, GrowError> {
+        let parts = Parts::load(alloc, store, offset)?;
+        Ok(Self { parts })
+    }
+}
+
+// The earlier form of the columns of the parts
+type OldColumns = <Parts as Earlier>::Old;
+
+/// A column of values of `Event` in its earlier form.
+#[derive(Drop)]
+pub struct EventOld {
+    /// The column of their parts.
+    pub parts: OldColumns,
+}
+
+impl Column for EventOld {
+    ghost format = { ⟦<OldColumns as Column>⟧.format };
+
+    ghost content = { λ c. ⟦<OldColumns as Column>⟧.content c.parts };
+
+    ghost room = { λ c. ⟦<OldColumns as Column>⟧.room c.parts };
+}
+
+impl Stored for EventOld {
+    ghost use Rattle.columnar.specs.ColumnLaws.{counted_columns, storable_columns};
+
+    ghost storable = { Prim.search storable_columns depth 64 fits 10000 };
+
+    ghost counted = { λ c. Prim.search counted_columns depth 64 fits 10000 };
+
+    fn slice_count() -> usize {
+        OldColumns::slice_count()
+    }
+
+    fn element_sizes(sizes: &mut Vec<usize>) -> Result<(), GrowError> {
+        OldColumns::element_sizes(sizes)
+    }
+
+    fn judge_tallied<L>(
+        store: &DecodedStore<'_>,
+        offset: usize,
+        tally: &mut Tally<L>,
+    ) -> Result<(), StoreFault> {
+        OldColumns::judge_tallied(store, offset, tally)
+    }
+
+    fn rows_in(store: &DecodedStore<'_>, offset: usize) -> usize {
+        OldColumns::rows_in(store, offset)
+    }
+}
+
+impl ContainerBytes for EventOld {
+    fn byte_slice(&self, index: usize) -> ByteSlice<'_> {
+        self.parts.byte_slice(index)
+    }
+
+    fn load(alloc: Global, store: &DecodedStore<'_>, offset: usize) -> Result<Self, GrowError> {
+        let parts = OldColumns::load(alloc, store, offset)?;
+        Ok(Self { parts })
+    }
+}
+
+impl Earlier for EventContainer {
+    ghost use Rattle.columnar.specs.ColumnLaws.{earlier_columns};
+
+    type Old = EventOld;
+
+    ghost earlier = { Prim.search earlier_columns depth 64 fits 10000 };
+
+    fn from_old(alloc: Global, old: Self::Old) -> Result<Self, GrowError> {
+        let parts = Parts::from_old(alloc, old.parts)?;
+        Ok(Self { parts })
+    }
+}
+
+impl SliceNames for EventContainer {
+    ghost names_at = { ⟦<OwnRows<Parts, Event> as SliceNames>⟧.names_at };
+
+    fn push_names(alloc: Global, path: &str, names: &mut Vec<String>) -> Result<(), GrowError> {
+        <OwnRows<Parts, Event>>::push_names(alloc, path, names)
+    }
+}
+
+impl<T: PushParts<Parts, Event> + Drop> Push<T> for EventContainer {
+    fn push(&mut self, item: T) -> Result<(), GrowError> {
+        self.push_ref(&item)
+    }
+}
+
+impl<T: PushParts<Parts, Event>> PushRef<T> for EventContainer {
+    fn push_ref(&mut self, item: &T) -> Result<(), GrowError> {
+        item.push_parts(&mut self.parts)
+    }
+}
+
+impl<T: SameParts<Parts, Event>> SameAs<T> for EventContainer {
+    fn same(&self, at: usize, item: &T) -> bool {
+        item.same_parts(&self.parts, at)
+    }
+}
+
+impl<R: Item> SetRow<OwnRow<R, Event>> for EventContainer
+where
+    Parts: SetRow<R>,
+{
+    ghost fits = { λ r item. ⟦<Parts as SetRow<R>>⟧.fits r item.parts };
+
+    fn may_set(&self, index: usize, item: &OwnRow<R, Event>) -> bool {
+        self.parts.may_set(index, &item.parts)
+    }
+
+    fn set_row(&mut self, index: usize, item: OwnRow<R, Event>) {
+        self.parts.set_row(index, item.parts);
+    }
+}
+
+impl<A, T: Item> SetItem<A, T> for EventContainer
+where
+    Parts: SetItem<A, T>,
+{
+    ghost fits = { ⟦<Parts as SetItem<A, T>>⟧.fits };
+
+    ghost put = { ⟦<Parts as SetItem<A, T>>⟧.put };
+
+    fn may_set_item(&self, index: usize, at: A, item: &T) -> bool {
+        self.parts.may_set_item(index, at, item)
+    }
+
+    fn set_item(&mut self, index: usize, at: A, item: T) {
+        self.parts.set_item(index, at, item);
+    }
+}
+
+impl<'a> IndexMut<'a> for EventContainer {
+    ghost use Rattle.std.specs.Prelude.{◌≡◌};
+
+    type IndexMut = RowMut<'a, EventContainer>;
+
+    ghost lent = { λ s i r. (r.column.ghost_name ≡ s.ghost_name) × ((r.column.now ≡ s.now) × (r.index ≡ i)) };
+
+    fn get_mut(&'a mut self, index: usize) -> Self::IndexMut {
+        RowMut::new(self, index)
+    }
+
+    fn last_mut(&'a mut self) -> Option<Self::IndexMut> {
+        let count = self.len();
+        if count == 0 {
+            None
+        } else {
+            Some(RowMut::new(self, count - 1))
+        }
+    }
+}
 // What a row is read as
 type Rows<A, B> = Nth<A, Nth<(), Last<B>>>;
 
@@ -122,7 +526,7 @@ impl Columnar for Event {
 
     ghost unfit = { λ u r. of_variant 0 (⟦<u64 as Columnar>⟧.unfit u) r || (of_variant 2 (⟦<u32 as Columnar>⟧.unfit u) r) };
 
-    type Container = OwnRows<Parts, Event>;
+    type Container = EventContainer;
 }
 
 impl<A: Item, B: Item> FromRow<OwnRow<Rows<A, B>, Event>> for Event
@@ -152,14 +556,12 @@ type AtRest = columnar::sums::variants::Next<AtStart>;
 
 type AtStop = columnar::sums::variants::Next<AtRest>;
 
-// A view: that of the values of each variant, and those of the variants
-type ViewsOfValues<A, B, C> = (A, (B, (C,)));
+// The columns of each part in a view
+type View0<'x> = <ContainerOf<u64> as Borrow<'x>>::Borrowed;
 
-type ViewOfAll<'x, A, B, C> = Variants<
-    ViewsOfValues<A, B, C>,
-    &'x [u8],
-    columnar::common::View<'x, u64>,
->;
+type View1<'x> = <ContainerOf<()> as Borrow<'x>>::Borrowed;
+
+type View2<'x> = <ContainerOf<u32> as Borrow<'x>>::Borrowed;
 
 /// The values of each variant of `Event` in a view, by name.
 pub trait EventColumns<A: Column, B: Column, C: Column>: Column {
@@ -195,17 +597,16 @@ pub trait EventColumns<A: Column, B: Column, C: Column>: Column {
         ensures rows { C.format.rows (C.content result) ≡ of_case 2 (Self.format.rows (Self.content self)) };
 }
 
-impl<'x, A: Column + Copy, B: Column + Copy, C: Column + Copy> EventColumns<A, B, C>
-    for OwnRows<ViewOfAll<'x, A, B, C>, Event> {
-    fn start(self) -> A {
+impl<'x> EventColumns<View0<'x>, View1<'x>, View2<'x>> for EventView<'x> {
+    fn start(self) -> View0<'x> {
         values_at::<AtStart, _, _, _>(self.parts)
     }
 
-    fn rest(self) -> B {
+    fn rest(self) -> View1<'x> {
         values_at::<AtRest, _, _, _>(self.parts)
     }
 
-    fn stop(self) -> C {
+    fn stop(self) -> View2<'x> {
         values_at::<AtStop, _, _, _>(self.parts)
     }
 }

@@ -1,17 +1,426 @@
 //! Rows of `Reading`, as `columnar_derive` writes them.
 use super::*;
-use columnar::fault::{GrowError, OwnError};
+use columnar::bytes::indexed::DecodedStore;
+use columnar::bytes::{ByteSlice, Earlier, Tally};
+use columnar::fault::{GrowError, OwnError, StoreFault};
 use columnar::names::{PartNames, name_in};
 use columnar::{
-    Column, Columnar, ContainerOf, FromRow, Item, MakeRow, OwnRow, OwnRows, Push, PushParts,
+    AsBytes, Borrow, Check, Clear, Column, Columnar, ContainerBytes, ContainerOf, ExtendFrom,
+    FromBytes, FromRow, Index, IndexMut, Item, Len, MakeRow, OwnRow, OwnRows, Push, PushParts,
+    PushRef, Reborrow, Reserve, RowMut, SameAs, SameParts, SetItem, SetRow, SliceNames, Storage,
+    Stored, Truncate,
 };
-use std::alloc::Global;
-
-/// A column of values of `Reading`.
-pub type ReadingContainer = ContainerOf<Reading>;
+use std::alloc::{AllocError, Global};
 
 // The fields, in their order
 type Parts = (u32, u64);
+
+// Their columns
+type PartColumns = ContainerOf<Parts>;
+
+// The columns of the parts in a view
+type PartViews<'a> = <PartColumns as Borrow<'a>>::Borrowed;
+
+/// A view of a column of values of `Reading`.
+#[derive(Clone, Copy)]
+pub struct ReadingView<'a> {
+    /// The view of the column of their parts.
+    pub parts: PartViews<'a>,
+}
+
+/// A column of values of `Reading`.
+#[derive(Drop)]
+pub struct ReadingContainer {
+    /// The column of their parts.
+    pub parts: PartColumns,
+}
+
+impl Column for ReadingContainer {
+    ghost format = { ⟦<PartColumns as Column>⟧.format };
+
+    ghost content = { λ c. ⟦<PartColumns as Column>⟧.content c.parts };
+
+    ghost room = { λ c. ⟦<PartColumns as Column>⟧.room c.parts };
+}
+
+impl Len for ReadingContainer {
+    fn len(&self) -> usize {
+        self.parts.len()
+    }
+}
+
+impl Clear for ReadingContainer {
+    fn clear(&mut self) {
+        self.parts.clear();
+    }
+}
+
+impl Truncate for ReadingContainer {
+    ghost use Rattle.columnar.specs.ColumnLaws.{lawful_columns};
+
+    ghost lawful = { Prim.search lawful_columns depth 64 fits 10000 };
+
+    fn truncate(&mut self, n: usize) {
+        self.parts.truncate(n);
+    }
+}
+
+impl Storage for ReadingContainer {
+    fn empty(alloc: Global) -> Self {
+        let parts = PartColumns::empty(alloc);
+        Self { parts }
+    }
+
+    fn duplicate(&self, alloc: Global) -> Result<Self, GrowError> {
+        let parts = self.parts.duplicate(alloc)?;
+        Ok(Self { parts })
+    }
+}
+
+impl Clone for ReadingContainer {
+    fn clone(&self) -> Result<Self, AllocError> {
+        let parts = self.parts.clone()?;
+        Ok(Self { parts })
+    }
+}
+
+impl Reserve for ReadingContainer {
+    type Room = <PartColumns as Reserve>::Room;
+
+    ghost reserves = { ⟦<PartColumns as Reserve>⟧.reserves };
+
+    ghost covers = { ⟦<PartColumns as Reserve>⟧.covers };
+
+    fn no_room() -> Self::Room {
+        PartColumns::no_room()
+    }
+
+    fn reserve_room(&mut self, room: Self::Room) -> Result<(), GrowError> {
+        self.parts.reserve_room(room)
+    }
+}
+
+impl<'a> ExtendFrom<ReadingView<'a>> for ReadingContainer {
+    fn add_room(room: Self::Room, view: ReadingView<'a>) -> Self::Room {
+        PartColumns::add_room(room, view.parts)
+    }
+
+    fn extend_from_self(
+        &mut self,
+        view: ReadingView<'a>,
+        range: std::ops::Range<usize>,
+    ) -> Result<(), GrowError> {
+        self.parts.extend_from_self(view.parts, range)
+    }
+}
+
+impl<'a> Borrow<'a> for ReadingContainer {
+    ghost use Rattle.std.specs.Prelude.{refl};
+
+    type Ref = OwnRow<<PartColumns as Borrow<'a>>::Ref, Reading>;
+
+    type Borrowed = ReadingView<'a>;
+
+    type Parts = <PartColumns as Borrow<'a>>::Parts;
+
+    ghost same_format = { refl };
+
+    fn borrow(&'a self) -> Self::Borrowed {
+        let parts = self.parts.borrow();
+        ReadingView { parts }
+    }
+}
+
+impl<'a> Column for ReadingView<'a> {
+    ghost format = { ⟦<PartViews<'a> as Column>⟧.format };
+
+    ghost content = { λ c. ⟦<PartViews<'a> as Column>⟧.content c.parts };
+
+    ghost room = { λ c. ⟦<PartViews<'a> as Column>⟧.room c.parts };
+}
+
+impl<'a> Len for ReadingView<'a> {
+    fn len(&self) -> usize {
+        self.parts.len()
+    }
+}
+
+impl<'a> Index for ReadingView<'a> {
+    type Ref = OwnRow<<PartViews<'a> as Index>::Ref, Reading>;
+
+    fn get(&self, index: usize) -> Self::Ref {
+        OwnRow::new(self.parts.get(index))
+    }
+}
+
+impl<'a: 'b, 'b> Reborrow<'b> for ReadingView<'a> {
+    ghost use Rattle.std.specs.Prelude.{refl};
+
+    type Short = ReadingView<'b>;
+
+    ghost same_short = { refl };
+
+    fn reborrow(self) -> Self::Short {
+        let parts = self.parts.reborrow();
+        ReadingView { parts }
+    }
+}
+
+impl<'a> Stored for ReadingView<'a> {
+    ghost use Rattle.std.specs.Prelude.{◌≡◌, ◌+◌, ◌*◌, ◌≤◌, ◌++◌, IsTrue, length, drop, OnOk, OnErr, IfErr};
+    ghost use Rattle.columnar.specs.ColumnLaws.{counted_columns, storable_columns};
+    ghost use Rattle.columnar.specs.Faults.{verdict};
+    ghost use Rattle.columnar.specs.Format.{Fits, bytes_held, first, moved, representable};
+    ghost use Rattle.columnar.specs.Store.{slices_in};
+
+    ghost storable = { Prim.search storable_columns depth 64 fits 10000 };
+
+    ghost counted = { λ c. Prim.search counted_columns depth 64 fits 10000 };
+
+    fn slice_count() -> usize
+        requires { IsTrue (representable ⟦<ReadingView<'a> as Column>⟧.format) }
+        ensures { result ≡ ⟦<ReadingView<'a> as Column>⟧.format.count }
+    {
+        PartViews::slice_count()
+    }
+
+    fn element_sizes(sizes: &mut Vec<usize>) -> Result<(), GrowError>
+        requires { IsTrue (representable ⟦<ReadingView<'a> as Column>⟧.format) }
+        ensures ok { OnOk result (sizes.new.items ≡ sizes.old.items ++ ⟦<ReadingView<'a> as Column>⟧.format.sizes) }
+        ensures err { OnErr result (sizes.new.items ≡ sizes.old.items) }
+        ensures memory { IfErr result (λ e. e ≡ GrowError.Memory) }
+    {
+        PartViews::element_sizes(sizes)
+    }
+
+    fn judge_tallied<L>(
+        store: &DecodedStore<'_>,
+        offset: usize,
+        tally: &mut Tally<L>,
+    ) -> Result<(), StoreFault>
+        requires representable { IsTrue (representable ⟦<ReadingView<'a> as Column>⟧.format) }
+        requires room { offset + ⟦<ReadingView<'a> as Column>⟧.format.count ≤ length (slices_in store.now) }
+        ensures exact { verdict result ≡ first (moved offset (⟦<ReadingView<'a> as Column>⟧.format.broken (⟦<ReadingView<'a> as Column>⟧.format.build (drop offset (slices_in store.now))))) }
+        ensures turns { tally.new.turns ≤ tally.old.turns + ⟦<ReadingView<'a> as Column>⟧.format.turns * bytes_held (⟦<ReadingView<'a> as Column>⟧.format.build (drop offset (slices_in store.now))) }
+    {
+        PartViews::judge_tallied(store, offset, tally)
+    }
+
+    fn rows_in(store: &DecodedStore<'_>, offset: usize) -> usize
+        requires representable { IsTrue (representable ⟦<ReadingView<'a> as Column>⟧.format) }
+        requires fits { Fits ⟦<ReadingView<'a> as Column>⟧.format offset (slices_in store.now) }
+        ensures { result ≡ length (⟦<ReadingView<'a> as Column>⟧.format.rows (⟦<ReadingView<'a> as Column>⟧.format.build (drop offset (slices_in store.now)))) }
+    {
+        PartViews::rows_in(store, offset)
+    }
+}
+
+impl<'a> Check for ReadingView<'a> {
+    fn check_from_tallied<L>(&self, from: usize, tally: &mut Tally<L>) -> Result<(), StoreFault> {
+        self.parts.check_from_tallied(from, tally)
+    }
+}
+
+impl<'a> FromBytes<'a> for ReadingView<'a> {
+    fn from_store(store: &DecodedStore<'a>, offset: &mut usize) -> Self {
+        let parts = PartViews::from_store(store, offset);
+        Self { parts }
+    }
+}
+
+impl<'a> AsBytes<'a> for ReadingView<'a> {
+    fn get_byte_slice(&self, index: usize) -> (u64, ByteSlice<'a>) {
+        self.parts.get_byte_slice(index)
+    }
+}
+
+impl Stored for ReadingContainer {
+    ghost use Rattle.columnar.specs.ColumnLaws.{counted_columns, storable_columns};
+
+    ghost storable = { Prim.search storable_columns depth 64 fits 10000 };
+
+    ghost counted = { λ c. Prim.search counted_columns depth 64 fits 10000 };
+
+    fn slice_count() -> usize {
+        PartColumns::slice_count()
+    }
+
+    fn element_sizes(sizes: &mut Vec<usize>) -> Result<(), GrowError> {
+        PartColumns::element_sizes(sizes)
+    }
+
+    fn judge_tallied<L>(
+        store: &DecodedStore<'_>,
+        offset: usize,
+        tally: &mut Tally<L>,
+    ) -> Result<(), StoreFault> {
+        PartColumns::judge_tallied(store, offset, tally)
+    }
+
+    fn rows_in(store: &DecodedStore<'_>, offset: usize) -> usize {
+        PartColumns::rows_in(store, offset)
+    }
+}
+
+impl ContainerBytes for ReadingContainer {
+    fn byte_slice(&self, index: usize) -> ByteSlice<'_> {
+        self.parts.byte_slice(index)
+    }
+
+    fn load(alloc: Global, store: &DecodedStore<'_>, offset: usize) -> Result<Self, GrowError> {
+        let parts = PartColumns::load(alloc, store, offset)?;
+        Ok(Self { parts })
+    }
+}
+
+// The earlier form of the columns of the parts
+type OldColumns = <PartColumns as Earlier>::Old;
+
+/// A column of values of `Reading` in its earlier form.
+#[derive(Drop)]
+pub struct ReadingOld {
+    /// The column of their parts.
+    pub parts: OldColumns,
+}
+
+impl Column for ReadingOld {
+    ghost format = { ⟦<OldColumns as Column>⟧.format };
+
+    ghost content = { λ c. ⟦<OldColumns as Column>⟧.content c.parts };
+
+    ghost room = { λ c. ⟦<OldColumns as Column>⟧.room c.parts };
+}
+
+impl Stored for ReadingOld {
+    ghost use Rattle.columnar.specs.ColumnLaws.{counted_columns, storable_columns};
+
+    ghost storable = { Prim.search storable_columns depth 64 fits 10000 };
+
+    ghost counted = { λ c. Prim.search counted_columns depth 64 fits 10000 };
+
+    fn slice_count() -> usize {
+        OldColumns::slice_count()
+    }
+
+    fn element_sizes(sizes: &mut Vec<usize>) -> Result<(), GrowError> {
+        OldColumns::element_sizes(sizes)
+    }
+
+    fn judge_tallied<L>(
+        store: &DecodedStore<'_>,
+        offset: usize,
+        tally: &mut Tally<L>,
+    ) -> Result<(), StoreFault> {
+        OldColumns::judge_tallied(store, offset, tally)
+    }
+
+    fn rows_in(store: &DecodedStore<'_>, offset: usize) -> usize {
+        OldColumns::rows_in(store, offset)
+    }
+}
+
+impl ContainerBytes for ReadingOld {
+    fn byte_slice(&self, index: usize) -> ByteSlice<'_> {
+        self.parts.byte_slice(index)
+    }
+
+    fn load(alloc: Global, store: &DecodedStore<'_>, offset: usize) -> Result<Self, GrowError> {
+        let parts = OldColumns::load(alloc, store, offset)?;
+        Ok(Self { parts })
+    }
+}
+
+impl Earlier for ReadingContainer {
+    ghost use Rattle.columnar.specs.ColumnLaws.{earlier_columns};
+
+    type Old = ReadingOld;
+
+    ghost earlier = { Prim.search earlier_columns depth 64 fits 10000 };
+
+    fn from_old(alloc: Global, old: Self::Old) -> Result<Self, GrowError> {
+        let parts = PartColumns::from_old(alloc, old.parts)?;
+        Ok(Self { parts })
+    }
+}
+
+impl SliceNames for ReadingContainer {
+    ghost names_at = { ⟦<OwnRows<PartColumns, Reading> as SliceNames>⟧.names_at };
+
+    fn push_names(alloc: Global, path: &str, names: &mut Vec<String>) -> Result<(), GrowError> {
+        <OwnRows<PartColumns, Reading>>::push_names(alloc, path, names)
+    }
+}
+
+impl<T: PushParts<PartColumns, Reading> + Drop> Push<T> for ReadingContainer {
+    fn push(&mut self, item: T) -> Result<(), GrowError> {
+        self.push_ref(&item)
+    }
+}
+
+impl<T: PushParts<PartColumns, Reading>> PushRef<T> for ReadingContainer {
+    fn push_ref(&mut self, item: &T) -> Result<(), GrowError> {
+        item.push_parts(&mut self.parts)
+    }
+}
+
+impl<T: SameParts<PartColumns, Reading>> SameAs<T> for ReadingContainer {
+    fn same(&self, at: usize, item: &T) -> bool {
+        item.same_parts(&self.parts, at)
+    }
+}
+
+impl<R: Item> SetRow<OwnRow<R, Reading>> for ReadingContainer
+where
+    PartColumns: SetRow<R>,
+{
+    ghost fits = { λ r item. ⟦<PartColumns as SetRow<R>>⟧.fits r item.parts };
+
+    fn may_set(&self, index: usize, item: &OwnRow<R, Reading>) -> bool {
+        self.parts.may_set(index, &item.parts)
+    }
+
+    fn set_row(&mut self, index: usize, item: OwnRow<R, Reading>) {
+        self.parts.set_row(index, item.parts);
+    }
+}
+
+impl<A, T: Item> SetItem<A, T> for ReadingContainer
+where
+    PartColumns: SetItem<A, T>,
+{
+    ghost fits = { ⟦<PartColumns as SetItem<A, T>>⟧.fits };
+
+    ghost put = { ⟦<PartColumns as SetItem<A, T>>⟧.put };
+
+    fn may_set_item(&self, index: usize, at: A, item: &T) -> bool {
+        self.parts.may_set_item(index, at, item)
+    }
+
+    fn set_item(&mut self, index: usize, at: A, item: T) {
+        self.parts.set_item(index, at, item);
+    }
+}
+
+impl<'a> IndexMut<'a> for ReadingContainer {
+    ghost use Rattle.std.specs.Prelude.{◌≡◌};
+
+    type IndexMut = RowMut<'a, ReadingContainer>;
+
+    ghost lent = { λ s i r. (r.column.ghost_name ≡ s.ghost_name) × ((r.column.now ≡ s.now) × (r.index ≡ i)) };
+
+    fn get_mut(&'a mut self, index: usize) -> Self::IndexMut {
+        RowMut::new(self, index)
+    }
+
+    fn last_mut(&'a mut self) -> Option<Self::IndexMut> {
+        let count = self.len();
+        if count == 0 {
+            None
+        } else {
+            Some(RowMut::new(self, count - 1))
+        }
+    }
+}
 
 /// What stands for a value of `Reading` in a column.
 #[derive(Clone, Copy, Debug)]
@@ -47,8 +456,8 @@ impl<A: Item, B: Item> MakeRow<(A, B)> for Reading {
     }
 }
 
-impl PushParts<ContainerOf<Parts>, Reading> for Reading {
-    fn push_parts(&self, parts: &mut ContainerOf<Parts>) -> Result<(), GrowError> {
+impl PushParts<PartColumns, Reading> for Reading {
+    fn push_parts(&self, parts: &mut PartColumns) -> Result<(), GrowError> {
         parts.push((&self.level, &self.time))
     }
 }
@@ -74,7 +483,7 @@ impl PartNames for Reading {
 impl Columnar for Reading {
     ghost unfit = { ⟦<Parts as Columnar>⟧.unfit };
 
-    type Container = OwnRows<ContainerOf<Parts>, Reading>;
+    type Container = ReadingContainer;
 }
 
 impl<R: Item> FromRow<OwnRow<R, Reading>> for Reading
@@ -89,6 +498,11 @@ where
         })
     }
 }
+
+// The columns of each part in a view
+type View0<'x> = <ContainerOf<u32> as Borrow<'x>>::Borrowed;
+
+type View1<'x> = <ContainerOf<u64> as Borrow<'x>>::Borrowed;
 
 /// The columns of the fields of `Reading` in a view, by name.
 pub trait ReadingColumns<A: Column, B: Column>: Column {
@@ -115,12 +529,12 @@ pub trait ReadingColumns<A: Column, B: Column>: Column {
         ensures rows { B.format.rows (B.content result) ≡ rows_of_last 1 (Self.format.rows (Self.content self)) };
 }
 
-impl<A: Column + Copy, B: Column + Copy> ReadingColumns<A, B> for OwnRows<(A, B), Reading> {
-    fn level(self) -> A {
+impl<'x> ReadingColumns<View0<'x>, View1<'x>> for ReadingView<'x> {
+    fn level(self) -> View0<'x> {
         columnar::own::fields_of_two(self.parts).0
     }
 
-    fn time(self) -> B {
+    fn time(self) -> View1<'x> {
         columnar::own::fields_of_two(self.parts).1
     }
 }

@@ -1,16 +1,17 @@
 //! Rows of `Shape`, as `columnar_derive` writes them.
 use super::*;
-use columnar::fault::{GrowError, OwnError};
+use columnar::bytes::indexed::DecodedStore;
+use columnar::bytes::{ByteSlice, Earlier, Tally};
+use columnar::fault::{GrowError, OwnError, StoreFault};
 use columnar::names::{PartNames, name_in};
 use columnar::sums::variants::{Last, Nth, Variants, values_at};
 use columnar::{
-    Column, Columnar, ContainerOf, FromRow, Item, LendRow, MakeRow, OwnRow, OwnRows, Push,
-    PushParts,
+    AsBytes, Borrow, Check, Clear, Column, Columnar, ContainerBytes, ContainerOf, ExtendFrom,
+    FromBytes, FromRow, Index, IndexMut, Item, Len, LendRow, MakeRow, OwnRow, OwnRows, Push,
+    PushParts, PushRef, Reborrow, Reserve, RowMut, SameAs, SameParts, SetItem, SetRow, SliceNames,
+    Storage, Stored, Truncate,
 };
-use std::alloc::Global;
-
-/// A column of values of `Shape`.
-pub type ShapeContainer = ContainerOf<Shape>;
+use std::alloc::{AllocError, Global};
 
 // The columns of the values, of each variant and of those after it
 type ColumnsFromNothing = (ContainerOf<()>,);
@@ -26,6 +27,409 @@ type Parts = Variants<ColumnsFromCircle>;
 // What values of several fields are made of
 type ValueOfSquare = (u32, (u32, u32));
 
+// The columns of the parts in a view
+type PartViews<'a> = <Parts as Borrow<'a>>::Borrowed;
+
+/// A view of a column of values of `Shape`.
+#[derive(Clone, Copy)]
+pub struct ShapeView<'a> {
+    /// The view of the column of their parts.
+    pub parts: PartViews<'a>,
+}
+
+/// A column of values of `Shape`.
+#[derive(Drop)]
+pub struct ShapeContainer {
+    /// The column of their parts.
+    pub parts: Parts,
+}
+
+impl Column for ShapeContainer {
+    ghost format = { ⟦<Parts as Column>⟧.format };
+
+    ghost content = { λ c. ⟦<Parts as Column>⟧.content c.parts };
+
+    ghost room = { λ c. ⟦<Parts as Column>⟧.room c.parts };
+}
+
+impl Len for ShapeContainer {
+    fn len(&self) -> usize {
+        self.parts.len()
+    }
+}
+
+impl Clear for ShapeContainer {
+    fn clear(&mut self) {
+        self.parts.clear();
+    }
+}
+
+impl Truncate for ShapeContainer {
+    ghost use Rattle.columnar.specs.ColumnLaws.{lawful_columns};
+
+    ghost lawful = { Prim.search lawful_columns depth 64 fits 10000 };
+
+    fn truncate(&mut self, n: usize) {
+        self.parts.truncate(n);
+    }
+}
+
+impl Storage for ShapeContainer {
+    fn empty(alloc: Global) -> Self {
+        let parts = Parts::empty(alloc);
+        Self { parts }
+    }
+
+    fn duplicate(&self, alloc: Global) -> Result<Self, GrowError> {
+        let parts = self.parts.duplicate(alloc)?;
+        Ok(Self { parts })
+    }
+}
+
+impl Clone for ShapeContainer {
+    fn clone(&self) -> Result<Self, AllocError> {
+        let parts = self.parts.clone()?;
+        Ok(Self { parts })
+    }
+}
+
+impl Reserve for ShapeContainer {
+    type Room = <Parts as Reserve>::Room;
+
+    ghost reserves = { ⟦<Parts as Reserve>⟧.reserves };
+
+    ghost covers = { ⟦<Parts as Reserve>⟧.covers };
+
+    fn no_room() -> Self::Room {
+        Parts::no_room()
+    }
+
+    fn reserve_room(&mut self, room: Self::Room) -> Result<(), GrowError> {
+        self.parts.reserve_room(room)
+    }
+}
+
+impl<'a> ExtendFrom<ShapeView<'a>> for ShapeContainer {
+    fn add_room(room: Self::Room, view: ShapeView<'a>) -> Self::Room {
+        Parts::add_room(room, view.parts)
+    }
+
+    fn extend_from_self(
+        &mut self,
+        view: ShapeView<'a>,
+        range: std::ops::Range<usize>,
+    ) -> Result<(), GrowError> {
+        self.parts.extend_from_self(view.parts, range)
+    }
+}
+
+impl<'a> Borrow<'a> for ShapeContainer {
+    ghost use Rattle.std.specs.Prelude.{refl};
+
+    type Ref = OwnRow<<Parts as Borrow<'a>>::Ref, Shape>;
+
+    type Borrowed = ShapeView<'a>;
+
+    type Parts = <Parts as Borrow<'a>>::Parts;
+
+    ghost same_format = { refl };
+
+    fn borrow(&'a self) -> Self::Borrowed {
+        let parts = self.parts.borrow();
+        ShapeView { parts }
+    }
+}
+
+impl<'a> Column for ShapeView<'a> {
+    ghost format = { ⟦<PartViews<'a> as Column>⟧.format };
+
+    ghost content = { λ c. ⟦<PartViews<'a> as Column>⟧.content c.parts };
+
+    ghost room = { λ c. ⟦<PartViews<'a> as Column>⟧.room c.parts };
+}
+
+impl<'a> Len for ShapeView<'a> {
+    fn len(&self) -> usize {
+        self.parts.len()
+    }
+}
+
+impl<'a> Index for ShapeView<'a> {
+    type Ref = OwnRow<<PartViews<'a> as Index>::Ref, Shape>;
+
+    fn get(&self, index: usize) -> Self::Ref {
+        OwnRow::new(self.parts.get(index))
+    }
+}
+
+impl<'a: 'b, 'b> Reborrow<'b> for ShapeView<'a> {
+    ghost use Rattle.std.specs.Prelude.{refl};
+
+    type Short = ShapeView<'b>;
+
+    ghost same_short = { refl };
+
+    fn reborrow(self) -> Self::Short {
+        let parts = self.parts.reborrow();
+        ShapeView { parts }
+    }
+}
+
+impl<'a> Stored for ShapeView<'a> {
+    ghost use Rattle.std.specs.Prelude.{◌≡◌, ◌+◌, ◌*◌, ◌≤◌, ◌++◌, IsTrue, length, drop, OnOk, OnErr, IfErr};
+    ghost use Rattle.columnar.specs.ColumnLaws.{counted_columns, storable_columns};
+    ghost use Rattle.columnar.specs.Faults.{verdict};
+    ghost use Rattle.columnar.specs.Format.{Fits, bytes_held, first, moved, representable};
+    ghost use Rattle.columnar.specs.Store.{slices_in};
+
+    ghost storable = { Prim.search storable_columns depth 64 fits 10000 };
+
+    ghost counted = { λ c. Prim.search counted_columns depth 64 fits 10000 };
+
+    fn slice_count() -> usize
+        requires { IsTrue (representable ⟦<ShapeView<'a> as Column>⟧.format) }
+        ensures { result ≡ ⟦<ShapeView<'a> as Column>⟧.format.count }
+    {
+        PartViews::slice_count()
+    }
+
+    fn element_sizes(sizes: &mut Vec<usize>) -> Result<(), GrowError>
+        requires { IsTrue (representable ⟦<ShapeView<'a> as Column>⟧.format) }
+        ensures ok { OnOk result (sizes.new.items ≡ sizes.old.items ++ ⟦<ShapeView<'a> as Column>⟧.format.sizes) }
+        ensures err { OnErr result (sizes.new.items ≡ sizes.old.items) }
+        ensures memory { IfErr result (λ e. e ≡ GrowError.Memory) }
+    {
+        PartViews::element_sizes(sizes)
+    }
+
+    fn judge_tallied<L>(
+        store: &DecodedStore<'_>,
+        offset: usize,
+        tally: &mut Tally<L>,
+    ) -> Result<(), StoreFault>
+        requires representable { IsTrue (representable ⟦<ShapeView<'a> as Column>⟧.format) }
+        requires room { offset + ⟦<ShapeView<'a> as Column>⟧.format.count ≤ length (slices_in store.now) }
+        ensures exact { verdict result ≡ first (moved offset (⟦<ShapeView<'a> as Column>⟧.format.broken (⟦<ShapeView<'a> as Column>⟧.format.build (drop offset (slices_in store.now))))) }
+        ensures turns { tally.new.turns ≤ tally.old.turns + ⟦<ShapeView<'a> as Column>⟧.format.turns * bytes_held (⟦<ShapeView<'a> as Column>⟧.format.build (drop offset (slices_in store.now))) }
+    {
+        PartViews::judge_tallied(store, offset, tally)
+    }
+
+    fn rows_in(store: &DecodedStore<'_>, offset: usize) -> usize
+        requires representable { IsTrue (representable ⟦<ShapeView<'a> as Column>⟧.format) }
+        requires fits { Fits ⟦<ShapeView<'a> as Column>⟧.format offset (slices_in store.now) }
+        ensures { result ≡ length (⟦<ShapeView<'a> as Column>⟧.format.rows (⟦<ShapeView<'a> as Column>⟧.format.build (drop offset (slices_in store.now)))) }
+    {
+        PartViews::rows_in(store, offset)
+    }
+}
+
+impl<'a> Check for ShapeView<'a> {
+    fn check_from_tallied<L>(&self, from: usize, tally: &mut Tally<L>) -> Result<(), StoreFault> {
+        self.parts.check_from_tallied(from, tally)
+    }
+}
+
+impl<'a> FromBytes<'a> for ShapeView<'a> {
+    fn from_store(store: &DecodedStore<'a>, offset: &mut usize) -> Self {
+        let parts = PartViews::from_store(store, offset);
+        Self { parts }
+    }
+}
+
+impl<'a> AsBytes<'a> for ShapeView<'a> {
+    fn get_byte_slice(&self, index: usize) -> (u64, ByteSlice<'a>) {
+        self.parts.get_byte_slice(index)
+    }
+}
+
+impl Stored for ShapeContainer {
+    ghost use Rattle.columnar.specs.ColumnLaws.{counted_columns, storable_columns};
+
+    ghost storable = { Prim.search storable_columns depth 64 fits 10000 };
+
+    ghost counted = { λ c. Prim.search counted_columns depth 64 fits 10000 };
+
+    fn slice_count() -> usize {
+        Parts::slice_count()
+    }
+
+    fn element_sizes(sizes: &mut Vec<usize>) -> Result<(), GrowError> {
+        Parts::element_sizes(sizes)
+    }
+
+    fn judge_tallied<L>(
+        store: &DecodedStore<'_>,
+        offset: usize,
+        tally: &mut Tally<L>,
+    ) -> Result<(), StoreFault> {
+        Parts::judge_tallied(store, offset, tally)
+    }
+
+    fn rows_in(store: &DecodedStore<'_>, offset: usize) -> usize {
+        Parts::rows_in(store, offset)
+    }
+}
+
+impl ContainerBytes for ShapeContainer {
+    fn byte_slice(&self, index: usize) -> ByteSlice<'_> {
+        self.parts.byte_slice(index)
+    }
+
+    fn load(alloc: Global, store: &DecodedStore<'_>, offset: usize) -> Result<Self, GrowError> {
+        let parts = Parts::load(alloc, store, offset)?;
+        Ok(Self { parts })
+    }
+}
+
+// The earlier form of the columns of the parts
+type OldColumns = <Parts as Earlier>::Old;
+
+/// A column of values of `Shape` in its earlier form.
+#[derive(Drop)]
+pub struct ShapeOld {
+    /// The column of their parts.
+    pub parts: OldColumns,
+}
+
+impl Column for ShapeOld {
+    ghost format = { ⟦<OldColumns as Column>⟧.format };
+
+    ghost content = { λ c. ⟦<OldColumns as Column>⟧.content c.parts };
+
+    ghost room = { λ c. ⟦<OldColumns as Column>⟧.room c.parts };
+}
+
+impl Stored for ShapeOld {
+    ghost use Rattle.columnar.specs.ColumnLaws.{counted_columns, storable_columns};
+
+    ghost storable = { Prim.search storable_columns depth 64 fits 10000 };
+
+    ghost counted = { λ c. Prim.search counted_columns depth 64 fits 10000 };
+
+    fn slice_count() -> usize {
+        OldColumns::slice_count()
+    }
+
+    fn element_sizes(sizes: &mut Vec<usize>) -> Result<(), GrowError> {
+        OldColumns::element_sizes(sizes)
+    }
+
+    fn judge_tallied<L>(
+        store: &DecodedStore<'_>,
+        offset: usize,
+        tally: &mut Tally<L>,
+    ) -> Result<(), StoreFault> {
+        OldColumns::judge_tallied(store, offset, tally)
+    }
+
+    fn rows_in(store: &DecodedStore<'_>, offset: usize) -> usize {
+        OldColumns::rows_in(store, offset)
+    }
+}
+
+impl ContainerBytes for ShapeOld {
+    fn byte_slice(&self, index: usize) -> ByteSlice<'_> {
+        self.parts.byte_slice(index)
+    }
+
+    fn load(alloc: Global, store: &DecodedStore<'_>, offset: usize) -> Result<Self, GrowError> {
+        let parts = OldColumns::load(alloc, store, offset)?;
+        Ok(Self { parts })
+    }
+}
+
+impl Earlier for ShapeContainer {
+    ghost use Rattle.columnar.specs.ColumnLaws.{earlier_columns};
+
+    type Old = ShapeOld;
+
+    ghost earlier = { Prim.search earlier_columns depth 64 fits 10000 };
+
+    fn from_old(alloc: Global, old: Self::Old) -> Result<Self, GrowError> {
+        let parts = Parts::from_old(alloc, old.parts)?;
+        Ok(Self { parts })
+    }
+}
+
+impl SliceNames for ShapeContainer {
+    ghost names_at = { ⟦<OwnRows<Parts, Shape> as SliceNames>⟧.names_at };
+
+    fn push_names(alloc: Global, path: &str, names: &mut Vec<String>) -> Result<(), GrowError> {
+        <OwnRows<Parts, Shape>>::push_names(alloc, path, names)
+    }
+}
+
+impl<T: PushParts<Parts, Shape> + Drop> Push<T> for ShapeContainer {
+    fn push(&mut self, item: T) -> Result<(), GrowError> {
+        self.push_ref(&item)
+    }
+}
+
+impl<T: PushParts<Parts, Shape>> PushRef<T> for ShapeContainer {
+    fn push_ref(&mut self, item: &T) -> Result<(), GrowError> {
+        item.push_parts(&mut self.parts)
+    }
+}
+
+impl<T: SameParts<Parts, Shape>> SameAs<T> for ShapeContainer {
+    fn same(&self, at: usize, item: &T) -> bool {
+        item.same_parts(&self.parts, at)
+    }
+}
+
+impl<R: Item> SetRow<OwnRow<R, Shape>> for ShapeContainer
+where
+    Parts: SetRow<R>,
+{
+    ghost fits = { λ r item. ⟦<Parts as SetRow<R>>⟧.fits r item.parts };
+
+    fn may_set(&self, index: usize, item: &OwnRow<R, Shape>) -> bool {
+        self.parts.may_set(index, &item.parts)
+    }
+
+    fn set_row(&mut self, index: usize, item: OwnRow<R, Shape>) {
+        self.parts.set_row(index, item.parts);
+    }
+}
+
+impl<A, T: Item> SetItem<A, T> for ShapeContainer
+where
+    Parts: SetItem<A, T>,
+{
+    ghost fits = { ⟦<Parts as SetItem<A, T>>⟧.fits };
+
+    ghost put = { ⟦<Parts as SetItem<A, T>>⟧.put };
+
+    fn may_set_item(&self, index: usize, at: A, item: &T) -> bool {
+        self.parts.may_set_item(index, at, item)
+    }
+
+    fn set_item(&mut self, index: usize, at: A, item: T) {
+        self.parts.set_item(index, at, item);
+    }
+}
+
+impl<'a> IndexMut<'a> for ShapeContainer {
+    ghost use Rattle.std.specs.Prelude.{◌≡◌};
+
+    type IndexMut = RowMut<'a, ShapeContainer>;
+
+    ghost lent = { λ s i r. (r.column.ghost_name ≡ s.ghost_name) × ((r.column.now ≡ s.now) × (r.index ≡ i)) };
+
+    fn get_mut(&'a mut self, index: usize) -> Self::IndexMut {
+        RowMut::new(self, index)
+    }
+
+    fn last_mut(&'a mut self) -> Option<Self::IndexMut> {
+        let count = self.len();
+        if count == 0 {
+            None
+        } else {
+            Some(RowMut::new(self, count - 1))
+        }
+    }
+}
 // What a row is read as
 type Rows<A, B, C> = Nth<A, Nth<B, Nth<C, Last<()>>>>;
 
@@ -137,7 +541,7 @@ impl Columnar for Shape {
 
     ghost unfit = { λ u r. of_variant 0 (⟦<u64 as Columnar>⟧.unfit u) r || (of_variant 1 (⟦<String as Columnar>⟧.unfit u) r || (of_variant 2 (⟦<ValueOfSquare as Columnar>⟧.unfit u) r)) };
 
-    type Container = OwnRows<Parts, Shape>;
+    type Container = ShapeContainer;
 }
 
 impl<A: Item, B: Item, C: Item> FromRow<OwnRow<Rows<A, B, C>, Shape>> for Shape
@@ -175,14 +579,14 @@ type AtSquare = columnar::sums::variants::Next<AtNamed>;
 
 type AtNothing = columnar::sums::variants::Next<AtSquare>;
 
-// A view: that of the values of each variant, and those of the variants
-type ViewsOfValues<A, B, C, D> = (A, (B, (C, (D,))));
+// The columns of each part in a view
+type View0<'x> = <ContainerOf<u64> as Borrow<'x>>::Borrowed;
 
-type ViewOfAll<'x, A, B, C, D> = Variants<
-    ViewsOfValues<A, B, C, D>,
-    &'x [u8],
-    columnar::common::View<'x, u64>,
->;
+type View1<'x> = <ContainerOf<String> as Borrow<'x>>::Borrowed;
+
+type View2<'x> = <ContainerOf<ValueOfSquare> as Borrow<'x>>::Borrowed;
+
+type View3<'x> = <ContainerOf<()> as Borrow<'x>>::Borrowed;
 
 /// The values of each variant of `Shape` in a view, by name.
 pub trait ShapeColumns<A: Column, B: Column, C: Column, D: Column>: Column {
@@ -227,25 +631,20 @@ pub trait ShapeColumns<A: Column, B: Column, C: Column, D: Column>: Column {
         ensures rows { D.format.rows (D.content result) ≡ of_case 3 (Self.format.rows (Self.content self)) };
 }
 
-impl<'x, A: Column + Copy, B: Column + Copy, C: Column + Copy, D: Column + Copy> ShapeColumns<
-    A,
-    B,
-    C,
-    D,
-> for OwnRows<ViewOfAll<'x, A, B, C, D>, Shape> {
-    fn circle(self) -> A {
+impl<'x> ShapeColumns<View0<'x>, View1<'x>, View2<'x>, View3<'x>> for ShapeView<'x> {
+    fn circle(self) -> View0<'x> {
         values_at::<AtCircle, _, _, _>(self.parts)
     }
 
-    fn named(self) -> B {
+    fn named(self) -> View1<'x> {
         values_at::<AtNamed, _, _, _>(self.parts)
     }
 
-    fn square(self) -> C {
+    fn square(self) -> View2<'x> {
         values_at::<AtSquare, _, _, _>(self.parts)
     }
 
-    fn nothing(self) -> D {
+    fn nothing(self) -> View3<'x> {
         values_at::<AtNothing, _, _, _>(self.parts)
     }
 }

@@ -2,10 +2,9 @@
 use crate::lines::{Lines, keep};
 use std::alloc::{AllocError, Global};
 
-/// What kinds of types a file has. A struct without fields is none of them.
+/// What kinds of types a file has. A struct without fields and parameters is only a leaf.
 #[derive(Clone, Copy, Debug, Default)]
 pub struct Kinds {
-    pub has_struct: bool,
     pub has_generic_struct: bool,
     pub has_enum: bool,
     pub has_generic_enum: bool,
@@ -37,6 +36,29 @@ fn add_import(alloc: Global, lines: &mut Lines, path: &str, words: &str) -> Resu
         }
     }
     lines.add_import(path, names.as_slice())
+}
+
+// Returns what the code of such types imports from `columnar`.
+fn traits_of(alloc: Global, of: Kinds) -> Result<String, AllocError> {
+    let is_generic = of.has_generic_struct || of.has_generic_enum;
+    let value = if is_generic { "IntoValue" } else { "" };
+    let lend = if of.has_enum { "LendRow" } else { "" };
+    let into = if of.has_generic_struct {
+        "PushInto"
+    } else {
+        ""
+    };
+    if of.has_leaf {
+        format!(in alloc;
+            "AsBytes Borrow Check Clear Column Columnar ContainerBytes ContainerOf ExtendFrom FromBytes FromRow Index IndexMut {value} Item Len {lend} MakeRow OwnRow OwnRows Push {into} PushParts PushRef Reborrow Reserve RowMut SameAs SameParts SetItem SetRow SliceNames Storage Stored Truncate"
+        )
+    } else {
+        let column = if is_generic { "Column" } else { "" };
+        let refs = if is_generic { "PushRef Truncate" } else { "" };
+        format!(in alloc;
+            "{column} Columnar ContainerOf FromRow {value} Item {lend} MakeRow OwnRow OwnRows Push {into} PushParts {refs}"
+        )
+    }
 }
 
 /// Adds the head of a file of types of these names and kinds: its title, and what the code of the types imports.
@@ -72,24 +94,7 @@ use columnar::names::{{PartNames, name_in}};",
         let words = format!(in alloc; "Last Nth Variants {push} values_at")?;
         add_import(alloc, lines, "columnar::sums::variants", words.as_str())?;
     }
-    let column = if is_generic { "Column" } else { "" };
-    let lend = if of.has_enum { "LendRow" } else { "" };
-    let into = if of.has_generic_struct {
-        "PushInto"
-    } else {
-        ""
-    };
-    let value = if is_generic { "IntoValue" } else { "" };
-    let refs = if is_generic { "PushRef Truncate" } else { "" };
-    let words = if of.has_leaf {
-        format!(in alloc;
-            "AsBytes Borrow Check Clear Column Columnar ContainerBytes ContainerOf ExtendFrom FromBytes FromRow Index IndexMut {value} Item Len {lend} MakeRow OwnRow OwnRows Push {into} PushParts PushRef Reborrow Reserve RowMut SameAs SameParts SetItem SetRow SliceNames Storage Stored Truncate"
-        )?
-    } else {
-        format!(in alloc;
-            "{column} Columnar ContainerOf FromRow {value} Item {lend} MakeRow OwnRow OwnRows Push {into} PushParts {refs}"
-        )?
-    };
+    let words = traits_of(alloc, of)?;
     add_import(alloc, lines, "columnar", words.as_str())?;
     lines.add(if of.has_leaf {
         "use std::alloc::{AllocError, Global};"

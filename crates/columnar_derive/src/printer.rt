@@ -53,7 +53,7 @@ fn head(alloc: Global, lines: &mut Lines, types: &[Description]) -> Result<(), A
             Body::Enum(_) => of.has_enum = true,
             Body::Struct(Value::Nothing) => {}
             Body::Struct(_) if is_generic => of.has_generic_struct = true,
-            Body::Struct(_) => of.has_struct = true,
+            Body::Struct(_) => {}
         }
     }
     add_head(alloc, lines, names.as_slice(), of)

@@ -25,7 +25,7 @@ NEITHER = {"View", "references", "Framed", "Owned"}
 
 # Calls that are made by others alone, and one of these for each
 WITHIN = {
-    "reserve_room": "reserve_for", "load": "make_typed", "from_row": "into_owned", "push_into": "push", "push_bit": "push",
+    "reserve_room": "reserve_for", "load": "make_typed", "from_row": "into_owned", "push_into": "push", "push_ref_into": "push_ref", "push_bit": "push",
     "push_after": "push", "from_old": "try_from_either", "load_columns": "make_typed", "sizes_of_columns": "element_sizes",
     "reserve_columns": "reserve_for", "duplicate_columns": "duplicate", "columns_of_old": "try_from_either",
     "extend_columns": "extend_from_self", "push_with": "push", "push_ref_with": "push_ref", "clone_store": "clone",

@@ -1,4 +1,5 @@
 pub mod ColumnLaws
+pub mod FieldWrites
 pub use Rattle.columnar_core.specs.Format
 pub use Rattle.columnar_core.specs.Row
 pub use Rattle.columnar_core.specs.Texts

@@ -17,6 +17,10 @@ pub struct Case {
     pub lent: String,
     /// The column of the values.
     pub column: String,
+    /// The column of the parts of the values, if the column of the values is a struct around it.
+    pub inner: Option<String>,
+    /// How many types the columns of the fields name.
+    pub weight: usize,
     // A letter for each field, and the value made of the letters.
     letters: Vec<String>,
     value: String,
@@ -89,11 +93,19 @@ impl Case {
             kind,
             lent,
             column,
+            inner: None,
+            weight: weight_of(of),
             kinds,
             value: one_or_tuple(alloc, letters.as_slice())?,
             letters,
             fields,
         })
+    }
+
+    /// Puts a struct of this name around the column of the values.
+    pub fn surround(&mut self, column: String) {
+        let inner = std::mem::replace(&mut self.column, column);
+        self.inner = Some(inner);
     }
 
     /// Returns whether the variant has fields.
@@ -319,6 +331,28 @@ impl Case {
             ")",
         )
     }
+}
+
+// Returns how many types a text names: one more than it has marks between types. A column of texts has parts too.
+fn types_in(text: &str) -> usize {
+    let marks = text
+        .bytes()
+        .filter(|byte| matches!(byte, b'<' | b'(' | b'[' | b','));
+    let texts = if text == "String" { 2 } else { 1 };
+    marks.count().saturating_add(texts)
+}
+
+// Returns how many types the columns of these fields name.
+fn weight_of(fields: &[Field]) -> usize {
+    let mut weight = 0usize;
+    for field in fields {
+        let text = match &field.column {
+            Some(column) => column.as_str(),
+            None => field.kind.as_str(),
+        };
+        weight = weight.saturating_add(types_in(text));
+    }
+    weight
 }
 
 // Returns the column of a variant's value of this type, which has these fields.

@@ -80,6 +80,65 @@ fn cases_of(
     Ok(cases)
 }
 
+// The columns of values of several parts are structs of their own in an enum of more variants than this, or whose values
+// name more types than this. In smaller ones a call has not too many impls to pass.
+const FEW_VARIANTS: usize = 6;
+
+const FEW_TYPES: usize = 24;
+
+// Puts a struct around the columns of values of several parts, if the enum of this name is large. `is_whole` says that it has
+// no parameters.
+fn surround_columns(
+    alloc: Global,
+    name: &str,
+    is_whole: bool,
+    cases: &mut [Case],
+) -> Result<(), AllocError> {
+    let mut weight = 0usize;
+    for case in cases.iter() {
+        weight = weight.saturating_add(case.weight);
+    }
+    if !is_whole || (cases.len() <= FEW_VARIANTS && weight <= FEW_TYPES) {
+        return Ok(());
+    }
+    for case in cases.iter_mut() {
+        if case.weight > 1 {
+            let column = format!(in alloc; "{name}{}Container", case.name.as_str())?;
+            case.surround(column);
+        }
+    }
+    Ok(())
+}
+
+// Adds the column of the values of a variant, a struct around this column of their parts. The names are those of the enum and
+// of the variant.
+fn add_leaf_of_values(
+    alloc: Global,
+    lines: &mut Lines,
+    names: (&str, &str),
+    prefix: &str,
+    inner: &str,
+) -> Result<(), AllocError> {
+    let (own, variant) = names;
+    let prefix = String::from_str(alloc, prefix)?;
+    let name = format!(in alloc; "{own}{variant}")?;
+    let told = format!(in alloc; "values of `{own}::{variant}`")?;
+    let columns = format!(in alloc; "{prefix}Parts")?;
+    let alias = format!(in alloc; "type {prefix}Parts =")?;
+    let of = format!(in alloc; "{inner};\n")?;
+    lines.add_alias(alias.as_str(), of.as_str())?;
+    let leaf = Leaf {
+        alloc,
+        name: name.as_str(),
+        told: told.as_str(),
+        row: "",
+        prefix: prefix.as_str(),
+        columns: columns.as_str(),
+    };
+    leaf.add(lines)?;
+    lines.add("")
+}
+
 // Returns the columns of the variants.
 fn columns_of(alloc: Global, cases: &[Case]) -> Result<Vec<String>, AllocError> {
     let mut columns = Vec::new(alloc);
@@ -116,7 +175,8 @@ impl<'x> EnumPage<'x> {
         let name = description.name.as_str();
         let generics = &description.generics;
         let params = params_of(alloc, generics, variants)?;
-        let cases = cases_of(alloc, prefix, generics, variants, params.as_slice())?;
+        let mut cases = cases_of(alloc, prefix, generics, variants, params.as_slice())?;
+        surround_columns(alloc, name, generics.is_none(), cases.as_mut_slice())?;
         let columns = columns_of(alloc, cases.as_slice())?;
         let used = generics.to_alias(alloc, &[], columns.as_slice())?;
         let given = in_angles(alloc, generics.names(alloc)?.as_slice())?;
@@ -185,6 +245,7 @@ impl<'x> EnumPage<'x> {
             "",
         )?;
         if self.generics.is_none() {
+            self.add_leaves()?;
             self.add_leaf()?;
         }
         Ok(())
@@ -192,13 +253,30 @@ impl<'x> EnumPage<'x> {
 
     // Adds the column of an enum without parameters.
     fn add_leaf(&mut self) -> Result<(), AllocError> {
+        let told = format!(in self.alloc; "values of `{}`", self.name)?;
         let leaf = Leaf {
             alloc: self.alloc,
             name: self.name.as_str(),
+            told: told.as_str(),
+            row: self.name.as_str(),
             prefix: self.prefix.as_str(),
             columns: self.parts.as_str(),
         };
         leaf.add(&mut self.lines)
+    }
+
+    // Adds the columns of the values of variants that are structs.
+    fn add_leaves(&mut self) -> Result<(), AllocError> {
+        let alloc = self.alloc;
+        for case in &self.cases {
+            if let Some(inner) = &case.inner {
+                let prefix = format!(in alloc; "{}Of{}", self.prefix, case.name)?;
+                let (own, name) = (self.name.as_str(), case.name.as_str());
+                let (prefix, inner) = (prefix.as_str(), inner.as_str());
+                add_leaf_of_values(alloc, &mut self.lines, (own, name), prefix, inner)?;
+            }
+        }
+        Ok(())
     }
 
     // Adds the columns from each variant on, the last first, and the column of the variants.

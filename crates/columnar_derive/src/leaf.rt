@@ -1,4 +1,4 @@
-//! The column of a type without parameters: a struct around the column of its parts.
+//! The column of a type without parameters, or of the values of a variant: a struct around the column of the parts.
 mod bytes;
 mod calls;
 mod views;
@@ -10,8 +10,12 @@ use std::alloc::{AllocError, Global};
 #[derive(Clone, Copy)]
 pub struct Leaf<'x> {
     pub alloc: Global,
-    /// The name of the type.
+    /// Begins the name of the column: the name of the type, and that of the variant.
     pub name: &'x str,
+    /// What it is a column of, in words.
+    pub told: &'x str,
+    /// The type that its rows name; empty if they are those of the parts.
+    pub row: &'x str,
     /// Begins the names of aliases; empty if the file has one type.
     pub prefix: &'x str,
     /// The alias of the column of the parts.
@@ -51,8 +55,21 @@ impl<'x> Leaf<'x> {
         self.add_view_rows(lines)?;
         self.add_view_bytes(lines)?;
         self.add_bytes(lines)?;
-        self.add_pushes(lines)?;
-        self.add_cells(lines)
+        if self.row.is_empty() {
+            self.add_part_pushes(lines)
+        } else {
+            self.add_pushes(lines)?;
+            self.add_cells(lines)
+        }
+    }
+
+    // Returns the type of a row, by that of the parts, and the row, by its parts.
+    fn row_of(&self, kind: &str) -> Result<String, AllocError> {
+        if self.row.is_empty() {
+            String::from_str(self.alloc, kind)
+        } else {
+            format!(in self.alloc; "OwnRow<{kind}, {}>", self.row)
+        }
     }
 
     // Adds the aliases of views, and the struct.
@@ -60,21 +77,23 @@ impl<'x> Leaf<'x> {
         let Leaf {
             alloc,
             name,
+            told,
             prefix,
             columns,
+            ..
         } = self;
         lines.put(format!(in *alloc;
             "// The columns of the parts in a view
 type {prefix}PartViews<'a> = <{columns} as Borrow<'a>>::Borrowed;
 
-/// A view of a column of values of `{name}`.
+/// A view of a column of {told}.
 #[derive(Clone, Copy)]
 pub struct {name}View<'a> {{
     /// The view of the column of their parts.
     pub parts: {prefix}PartViews<'a>,
 }}
 
-/// A column of values of `{name}`.
+/// A column of {told}.
 #[derive(Drop)]
 pub struct {name}Container {{
     /// The column of their parts.

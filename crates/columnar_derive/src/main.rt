@@ -15,6 +15,7 @@ mod names;
 mod parser;
 mod place;
 mod printer;
+mod setters;
 mod structs;
 mod tokens;
 mod views;

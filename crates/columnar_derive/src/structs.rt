@@ -5,6 +5,7 @@ use crate::item::{Description, Field, Value};
 use crate::leaf::Leaf;
 use crate::lines::{Header, Lines, WIDTH, each, in_angles, in_clause, in_tuple, keep};
 use crate::names::add_names;
+use crate::setters::{Setter, Setters, setter_name};
 use crate::views::{View, Views, add_kinds};
 use std::alloc::{AllocError, Global};
 
@@ -151,7 +152,8 @@ impl<'x> Page<'x> {
         self.add_names()?;
         self.add_owned()?;
         self.add_values_of_rows()?;
-        self.add_views()
+        self.add_views()?;
+        self.add_setters()
     }
 
     // Adds the column, and the tuple of the fields.
@@ -173,9 +175,12 @@ impl<'x> Page<'x> {
     // Adds the column of a struct without parameters.
     fn add_leaf(&mut self) -> Result<(), AllocError> {
         self.lines.add("")?;
+        let told = format!(in self.alloc; "values of `{}`", self.name)?;
         let leaf = Leaf {
             alloc: self.alloc,
             name: self.name.as_str(),
+            told: told.as_str(),
+            row: self.name.as_str(),
             prefix: self.prefix.as_str(),
             columns: self.container.as_str(),
         };
@@ -563,11 +568,7 @@ impl<'x> Page<'x> {
             } else {
                 format!(in self.alloc; "rows_of_field {i}")?
             };
-            let method = if self.style == Style::Named {
-                String::from_str(self.alloc, field.as_str())?
-            } else {
-                format!(in self.alloc; "field_{i}")?
-            };
+            let method = method_of(self.alloc, self.style, field.as_str(), i)?;
             let value = if count == 1 {
                 format!(in self.alloc; "columnar::own::{function}(self.parts)")?
             } else {
@@ -588,16 +589,48 @@ impl<'x> Page<'x> {
         Ok(views)
     }
 
+    // Returns the columns of the fields.
+    fn field_columns(&self) -> Result<Vec<String>, AllocError> {
+        if self.columns.is_empty() {
+            each(self.alloc, self.kinds.as_slice(), "ContainerOf<", ">")
+        } else {
+            each(self.alloc, self.columns.as_slice(), "", "")
+        }
+    }
+
+    // Adds the methods that write fields in place, unless the type has parameters.
+    fn add_setters(&mut self) -> Result<(), AllocError> {
+        if !self.generics.is_none() {
+            return Ok(());
+        }
+        let mut fields = Vec::new(self.alloc);
+        let columns = self.field_columns()?;
+        for (i, (field, column)) in self.fields.iter().zip(columns.into_iter()).enumerate() {
+            let method = method_of(self.alloc, self.style, field.as_str(), i)?;
+            let setter = Setter {
+                method: setter_name(self.alloc, method.as_str())?,
+                told: format!(in self.alloc; "`{field}`")?,
+                column,
+            };
+            match fields.push(setter) {
+                Ok(()) => {}
+                Err(error) => return Err(AllocError::from(error)),
+            }
+        }
+        let setters = Setters {
+            alloc: self.alloc,
+            name: self.name.as_str(),
+            fields: fields.as_slice(),
+        };
+        setters.add(&mut self.lines)
+    }
+
     // Adds the aliases of the columns of the fields in a view and returns their names; none if the type has parameters.
     fn kinds_in_view(&mut self) -> Result<Vec<String>, AllocError> {
         if !self.generics.is_none() {
             return Ok(Vec::new(self.alloc));
         }
-        let columns = if self.columns.is_empty() {
-            each(self.alloc, self.kinds.as_slice(), "ContainerOf<", ">")?
-        } else {
-            each(self.alloc, self.columns.as_slice(), "", "")?
-        };
+        let columns = self.field_columns()?;
         let prefix = self.prefix.as_str();
         self.lines.add("")?;
         add_kinds(self.alloc, &mut self.lines, prefix, columns.as_slice())
@@ -638,6 +671,15 @@ impl<'x> Page<'x> {
             parts: parts.as_slice(),
         };
         views.add(self.alloc, &mut self.lines)
+    }
+}
+
+// Returns the name of field `i` in names of methods.
+fn method_of(alloc: Global, style: Style, field: &str, i: usize) -> Result<String, AllocError> {
+    if style == Style::Named {
+        String::from_str(alloc, field)
+    } else {
+        format!(in alloc; "field_{i}")
     }
 }
 

@@ -11,8 +11,9 @@ ghost use Rattle.columnar_lists.specs.Each.{items_left, range_rows};
 ghost use Rattle.columnar_lists.specs.EachLaws.{all_sound, none_needed, range_gives, slice_gives, slice_sound};
 
 use crate::vector::Vecs;
+use crate::vector::push::PushRefInto;
 use columnar_base::fault::GrowError;
-use columnar_base::traits::{Item, Push, PushInto, PushRef};
+use columnar_base::traits::{Item, Push, PushInto};
 use columnar_core::container::Truncate;
 use columnar_core::offsets::{Offsets, PushAfter};
 use std::ops::Range;
@@ -197,9 +198,10 @@ impl<I: Determined, TC: Truncate + Push<I::Item>, BC: Offsets + PushAfter> PushI
 }
 
 /// Pushes the items of a copy of the iterator.
-impl<I: Determined + Copy, TC: Truncate + Push<I::Item>, BC: Offsets + PushAfter> PushRef<Each<I>>
-    for Vecs<TC, BC> {
-    fn push_ref(&mut self, item: &Each<I>) -> Result<(), GrowError> {
-        Each(item.0).push_into(self)
+impl<I: Determined + Copy, TC: Truncate + Push<I::Item>, BC: Offsets + PushAfter> PushRefInto<
+    Vecs<TC, BC>,
+> for Each<I> {
+    fn push_ref_into(&self, column: &mut Vecs<TC, BC>) -> Result<(), GrowError> {
+        Each(self.0).push_into(column)
     }
 }

@@ -9,7 +9,7 @@ ghost use Rattle.columnar_lists.specs.Rooms.{lists_room};
 ghost use Rattle.columnar_lists.specs.ListLaws.{same_lists, lists_lawful, lists_storable};
 
 mod earlier;
-mod push;
+pub mod push;
 
 use crate::parts::{check_lists, copy_lists, cut_lists, range_of, reserve_lists};
 use crate::walk::ListIter;

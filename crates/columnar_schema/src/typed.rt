@@ -75,7 +75,7 @@ impl Type {
         }
     }
 
-    /// Parses a type, as it may stand in a source file: comments, attributes other than `columnar(..)`, and `pub` are
+    /// Parses a type, as it may stand in a source file: comments, attributes that choose no column, and `pub` are
     /// passed over. `lists` chooses the bounds of `Vec<T>`. Every text that names a type is read, if its types nest at
     /// most 64 deep (an enum counts as four), its tuples and variants have at most ten fields, its structs ten, or a
     /// hundred with names, its enums at most 256 variants, and its arrays at most 2^64 - 1 items. A struct has the columns

@@ -4,15 +4,19 @@ use Rattle.std.specs.Prelude.{ℕ, suc, ◌-◌, Bool, true, false, List, [], �
 use Rattle.std.specs.List.{starts_with}
 use Rattle.columnar_syntax.specs.Tokens.{begins_word, is_word_byte, tokens}
 use Rattle.columnar_syntax.specs.declared.plain.Mode.{Mode}
-use Rattle.columnar_syntax.specs.declared.plain.Mode.TheVariants.{Code, Word, Ended, One, Two, Line, Opens, Block, Closes, Attribute, Value, Escape, Quote, Text, TextEscape, Restricted}
+use Rattle.columnar_syntax.specs.declared.plain.Mode.TheVariants.{Code, Word, Ended, One, Two, Slash, Start, Line, Opens, Block, Closes, Attribute, Value, Escape, Quote, Text, TextEscape, Restricted}
 
 -- the bytes begin with these
 abbrev pub begin : List ℕ → List ℕ → Bool
 begin ns word = starts_with nat_eq ns word
 
--- `#[`, but not that of an attribute `columnar(..)`, which chooses a column
+-- what follows `#` is an attribute `columnar(..)`, which chooses a column unless it begins with `derive`
+abbrev pub chooses : List ℕ → Bool
+chooses ns = begin ns (codes "[columnar(") && not (begin ns (codes "[columnar(derive("))
+
+-- `#[`, but not that of an attribute which chooses a column
 abbrev pub begins_attribute : ℕ → List ℕ → Bool
-begins_attribute n ns = nat_eq n 35 && (begin ns (codes "[") && not (begin ns (codes "[columnar(")))
+begins_attribute n ns = nat_eq n 35 && (begin ns (codes "[") && not (chooses ns))
 
 -- `pub(crate)`, `pub(self)`, `pub(super)` or `pub(in ..)`
 abbrev pub begins_restricted : ℕ → List ℕ → Bool
@@ -25,7 +29,7 @@ begins_public n ns = nat_eq n 112 && (begin ns (codes "ub") && not (begins_word 
 -- what a byte begins that follows no word, with the bytes after it
 abbrev pub begun : ℕ → List ℕ → Mode
 begun n ns =
-    cond (nat_eq n 47 && begin ns (codes "/")) Line
+    cond (nat_eq n 47 && begin ns (codes "/")) Slash
     (cond (nat_eq n 47 && begin ns (codes "*")) (Opens 0)
     (cond (begins_attribute n ns) Attribute
     (cond (begins_restricted n ns) Restricted
@@ -38,6 +42,10 @@ begun n ns =
 abbrev pub quoted : ℕ → Mode
 quoted n = cond (nat_eq n 34) Code (cond (nat_eq n 92) TextEscape Text)
 
+-- a line comment may begin with an attribute that chooses a column, which is part of the type
+abbrev pub commented : ℕ → List ℕ → Mode
+commented n ns = cond (nat_eq n 10 || (nat_eq n 35 && chooses ns)) Code (cond (nat_eq n 32) Start Line)
+
 -- the part of a text in which a byte is, from that of the byte before it
 abbrev pub next : Mode → ℕ → List ℕ → Mode
 next Code n ns = begun n ns
@@ -45,6 +53,8 @@ next Word n ns = cond (is_word_byte n) Word (begun n ns)
 next Ended n ns = begun n ns
 next One n ns = Ended
 next Two n ns = One
+next Slash n ns = Start
+next Start n ns = commented n ns
 next Line n ns = cond (nat_eq n 10) Code Line
 next (Opens d) n ns = Block (suc d)
 next (Block d) n ns = cond (nat_eq n 42 && begin ns (codes "/")) (Closes d) (cond (nat_eq n 47 && begin ns (codes "*")) (Opens d) (Block d))
@@ -69,6 +79,8 @@ abbrev pub is_open : Mode → Bool
 is_open Code = false
 is_open Word = false
 is_open Ended = false
+is_open Slash = false
+is_open Start = false
 is_open Line = false
 is_open m = true
 

@@ -1,6 +1,6 @@
 //! The text of a declaration as it stands in a source file, without what is no part of its type.
 ghost use Rattle.std.specs.Prelude.{◌≡◌, ◌⊎◌, ◌<◌, ◌≤◌, ◌^◌, suc, true, false, cond, IfOk, IfErr};
-ghost use Rattle.columnar_syntax.specs.Plain.{begins_attribute, begins_public, begins_restricted, begun, ends_well, is_open, level, next, plain, quoted, shows};
+ghost use Rattle.columnar_syntax.specs.Plain.{begins_attribute, begins_public, begins_restricted, begun, chooses, commented, ends_well, is_open, level, next, plain, quoted, shows};
 ghost use Rattle.columnar_syntax.specs.declared.text.Mistake.TheVariants.{Memory, Unended};
 
 use crate::parts::unallocated;
@@ -21,7 +21,11 @@ enum Mode {
     One,
     // Two bytes before it.
     Two,
-    // In a comment that ends with its line.
+    // At the first slash of a comment that ends with its line.
+    Slash,
+    // At its second slash, or at a blank after it.
+    Start,
+    // In such a comment.
     Line,
     // At the first byte of the mark that begins a comment, in so many comments.
     Opens(usize),
@@ -60,16 +64,23 @@ impl Mode {
         ensures { result ≡ is_open self }
     {
         match self {
-            Mode::Code | Mode::Word | Mode::Ended | Mode::Line => false,
+            Mode::Code | Mode::Word | Mode::Ended | Mode::Slash | Mode::Start | Mode::Line => false,
             _ => true,
         }
     }
 }
 
+// Returns whether an attribute that chooses a column follows `#`.
+fn chooses(rest: &[u8]) -> bool
+    ensures { result ≡ chooses rest.now }
+{
+    rest.starts_with(b"[columnar(") && !rest.starts_with(b"[columnar(derive(")
+}
+
 fn begins_attribute(byte: u8, rest: &[u8]) -> bool
     ensures { result ≡ begins_attribute byte rest.now }
 {
-    byte == b'#' && rest.starts_with(b"[") && !rest.starts_with(b"[columnar(")
+    byte == b'#' && rest.starts_with(b"[") && !chooses(rest)
 }
 
 fn begins_restricted(byte: u8, rest: &[u8]) -> bool
@@ -94,7 +105,7 @@ fn begun(byte: u8, rest: &[u8]) -> Mode
     ensures level { level result ≡ 0 }
 {
     if byte == b'/' && rest.starts_with(b"/") {
-        Mode::Line
+        Mode::Slash
     } else if byte == b'/' && rest.starts_with(b"*") {
         Mode::Opens(0)
     } else if begins_attribute(byte, rest) {
@@ -111,6 +122,18 @@ fn begun(byte: u8, rest: &[u8]) -> Mode
         Mode::Word
     } else {
         Mode::Code
+    }
+}
+
+// Returns the part in which a byte is that is at the beginning of a line comment.
+fn commented(byte: u8, rest: &[u8]) -> Mode
+    ensures { result ≡ commented byte rest.now }
+{
+    match byte {
+        b'\n' => Mode::Code,
+        b'#' if chooses(rest) => Mode::Code,
+        b' ' => Mode::Start,
+        _ => Mode::Line,
     }
 }
 
@@ -136,6 +159,8 @@ fn next(mode: Mode, byte: u8, rest: &[u8]) -> Mode
         Mode::Word => begun(byte, rest),
         Mode::One => Mode::Ended,
         Mode::Two => Mode::One,
+        Mode::Slash => Mode::Start,
+        Mode::Start => commented(byte, rest),
         Mode::Line if byte == b'\n' => Mode::Code,
         Mode::Opens(d) => Mode::Block(d + 1),
         Mode::Block(d) if byte == b'*' && rest.starts_with(b"/") => Mode::Closes(d),
@@ -155,7 +180,8 @@ fn next(mode: Mode, byte: u8, rest: &[u8]) -> Mode
 }
 
 /// Returns the text with its comments, attributes, visibility (`pub`, `pub(crate)`) and the contents of quoted texts as
-/// blanks, so that all else keeps its position. An attribute `columnar(..)` stays: it chooses a column.
+/// blanks, so that all else keeps its position. An attribute `columnar(..)` other than `columnar(derive(..))` stays, even
+/// at the beginning of a line comment: it chooses a column.
 ///
 /// # Errors
 /// `Unended` at the end of the text, if one of these has no end; `Memory`, if an allocation fails.

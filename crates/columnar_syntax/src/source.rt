@@ -13,7 +13,7 @@ use crate::schema::{Bounds, Schema};
 use crate::text::{self, Refused};
 use std::alloc::Global;
 
-/// Parses a type as it stands in a source file: comments, attributes other than `columnar(..)`, and `pub` are passed
+/// Parses a type as it stands in a source file: comments, attributes that choose no column, and `pub` are passed
 /// over. `lists` chooses the bounds of `Vec<T>`: `Bounds::Unaries` is this library's choice, `Bounds::Words` that of the
 /// Rust crate.
 ///

@@ -21,6 +21,7 @@ pub mod DualEarlierLaws
 pub mod Nths
 pub mod NthOrders
 pub mod NthLaws
+pub mod NthCaseLaws
 pub mod BankLaws
 pub mod BankCases
 pub mod BankCopies

@@ -102,7 +102,7 @@ impl<A: Len, B: LenBank> LenBank for (A, B) {
 /// Columns whose values are read by variant.
 pub trait IndexBank: ColumnBank {
     /// A value with its variant.
-    type Ref: Copy + Cases;
+    type Ref: Cases;
 
     /// Returns value `index` of a variant.
     ///

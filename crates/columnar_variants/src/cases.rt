@@ -2,7 +2,8 @@
 ghost use Rattle.std.specs.Prelude.{◌≡◌, ℕ, refl};
 ghost use Rattle.columnar_core.specs.Row.{Row};
 ghost use Rattle.columnar_variants.specs.Variants.{case};
-ghost use Rattle.columnar_variants.specs.Nths.{nth_variant, nth_value, nth_valid};
+ghost use Rattle.columnar_variants.specs.Nths.{nth_meaning, nth_variant, nth_value, nth_valid};
+ghost use Rattle.columnar_variants.specs.NthCaseLaws.{nth_meant};
 
 mod ordered;
 
@@ -48,8 +49,8 @@ impl<C: Item> Cases for Last<C> {
 }
 
 /// As a row, it is its value with its variant; the variant of `B` is one more than in `B` alone.
-impl<A: Item, B: Cases> Item for Nth<A, B> {
-    ghost meaning = { λ x. case (nth_variant B.variant x) (nth_value A.meaning B.value x) };
+impl<A: Item, B: Item> Item for Nth<A, B> {
+    ghost meaning = { nth_meaning A.meaning B.meaning };
 
     ghost valid = { nth_valid A.valid B.valid };
 
@@ -61,7 +62,7 @@ impl<A: Item, B: Cases> Cases for Nth<A, B> {
 
     ghost value = { nth_value A.meaning B.value };
 
-    ghost meant = { λ x. refl };
+    ghost meant = { nth_meant A.meaning B.meaning B.variant B.value B.meant };
 }
 
 impl<'x, T: Cases> Cases for &'x T {

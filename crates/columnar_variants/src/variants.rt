@@ -40,7 +40,10 @@ impl<B: ColumnBank, CVar: VariantBytes, COff: Words> Len for Variants<B, CVar, C
     }
 }
 
-impl<B: IndexBank, CVar: VariantBytes, COff: Words> Index for Variants<B, CVar, COff> {
+impl<B: IndexBank, CVar: VariantBytes, COff: Words> Index for Variants<B, CVar, COff>
+where
+    B::Ref: Copy,
+{
     type Ref = B::Ref;
 
     fn get(&self, index: usize) -> B::Ref {

@@ -65,7 +65,7 @@ impl Events {
     }
 }
 
-fn happened(alloc: Global, time: u64) -> Result<Event, Fail> {
+pub fn happened(alloc: Global, time: u64) -> Result<Event, Fail> {
     let mut tags = Vec::new(alloc);
     tags.push(format!(in alloc; "tag {time}")?)?;
     let outcome = Outcome::Retried(2, time);

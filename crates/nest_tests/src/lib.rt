@@ -12,6 +12,8 @@ mod event;
 #[cfg(test)]
 mod kind;
 #[cfg(test)]
+mod nests;
+#[cfg(test)]
 mod outcome;
 #[cfg(test)]
 mod page;

@@ -51,6 +51,14 @@ impl Points {
         self.column.set_row_checked(index, row)
     }
 
+    fn sets_x(&mut self, index: usize, x: u64) -> bool {
+        if index >= self.column.len() {
+            return false;
+        }
+        self.column.set_x(index, x);
+        true
+    }
+
     fn sets_y(&mut self, index: usize, y: u32) -> bool {
         self.column.set_item_checked(index, Field::<1>, y)
     }
@@ -66,6 +74,8 @@ fn points_are_written_in_place(rt: HostRuntime) -> Result<(), Fail> {
     holds!(rt; points.takes(&Point { x: 1, y: 2 }) && points.takes_row(row(3, 4)));
     holds!(rt; points.sets(0, row(5, 6)) && !points.sets(2, row(5, 6)));
     holds!(rt; points.sets_y(1, 7) && points.reads(&[row(5, 6), row(3, 7)]));
+    holds!(rt; points.sets_x(1, 8) && !points.sets_x(2, 9));
+    holds!(rt; points.reads(&[row(5, 6), row(8, 7)]));
     Ok(())
 }
 

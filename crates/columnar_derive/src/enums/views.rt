@@ -67,12 +67,13 @@ impl EnumPage<'_> {
         let mut views = Vec::new(self.alloc);
         for (i, case) in self.cases.iter().enumerate() {
             let name = case.name.as_str();
+            let parts = if case.inner.is_some() { ".parts" } else { "" };
             let view = View {
                 method: method_name(self.alloc, name)?,
                 told: format!(in self.alloc; "the values of `{name}`")?,
                 rows: format!(in self.alloc; "of_case {i}")?,
                 value: format!(in self.alloc;
-                    "values_at::<{}At{name}, _, _, _>(self.parts)",
+                    "values_at::<{}At{name}, _, _, _>(self.parts){parts}",
                     self.prefix
                 )?,
             };
@@ -101,10 +102,11 @@ impl EnumPage<'_> {
         }
         let mut columns = Vec::new(self.alloc);
         for case in &self.cases {
-            keep(
-                &mut columns,
-                String::from_str(self.alloc, case.column.as_str())?,
-            )?;
+            let column = match &case.inner {
+                Some(inner) => inner.as_str(),
+                None => case.column.as_str(),
+            };
+            keep(&mut columns, String::from_str(self.alloc, column)?)?;
         }
         let prefix = self.prefix.as_str();
         add_kinds(self.alloc, &mut self.lines, prefix, columns.as_slice())

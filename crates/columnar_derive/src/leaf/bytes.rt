@@ -86,15 +86,17 @@ impl Leaf<'_> {
         let Leaf {
             alloc,
             name,
+            told,
             prefix,
             columns,
+            ..
         } = self;
         lines.put(format!(in *alloc;
             "
 // The earlier form of the columns of the parts
 type {prefix}OldColumns = <{columns} as Earlier>::Old;
 
-/// A column of values of `{name}` in its earlier form.
+/// A column of {told} in its earlier form.
 #[derive(Drop)]
 pub struct {name}Old {{
     /// The column of their parts.
@@ -135,15 +137,33 @@ pub struct {name}Old {{
     }}"
             ),
         )?;
+        self.add_slice_names(lines)
+    }
+
+    // Adds the names of the slices.
+    fn add_slice_names(&self, lines: &mut Lines) -> Result<(), AllocError> {
+        let (alloc, columns) = (self.alloc, self.columns);
+        let of = if self.row.is_empty() {
+            String::from_str(alloc, columns)?
+        } else {
+            format!(in alloc; "OwnRows<{columns}, {}>", self.row)?
+        };
+        let called = if self.row.is_empty() {
+            String::from_str(alloc, columns)?
+        } else {
+            format!(in alloc; "<{}>", of.as_str())?
+        };
         self.add_plain(
             lines,
             "SliceNames",
-            format!(in *alloc;
-                "    ghost names_at = {{ ⟦<OwnRows<{columns}, {name}> as SliceNames>⟧.names_at }};
+            format!(in alloc;
+                "    ghost names_at = {{ ⟦<{} as SliceNames>⟧.names_at }};
 
     fn push_names(alloc: Global, path: &str, names: &mut Vec<String>) -> Result<(), GrowError> {{
-        <OwnRows<{columns}, {name}>>::push_names(alloc, path, names)
-    }}"
+        {}::push_names(alloc, path, names)
+    }}",
+                of.as_str(),
+                called.as_str()
             ),
         )
     }

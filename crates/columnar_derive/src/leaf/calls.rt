@@ -1,4 +1,4 @@
-//! What a column of a type without parameters takes, and writes in place.
+//! What the column takes, and writes in place.
 use super::{Block, Leaf, kept};
 use crate::lines::{Lines, keep};
 use std::alloc::AllocError;
@@ -29,11 +29,11 @@ fn add_taking(
 impl Leaf<'_> {
     // Adds pushes, and the test for equal rows.
     pub(super) fn add_pushes(&self, lines: &mut Lines) -> Result<(), AllocError> {
-        let (alloc, name, columns) = (self.alloc, self.name, self.columns);
+        let (alloc, row, columns) = (self.alloc, self.row, self.columns);
         add_taking(
             self,
             lines,
-            format!(in alloc; "T: PushParts<{columns}, {name}> + Drop"),
+            format!(in alloc; "T: PushParts<{columns}, {row}> + Drop"),
             "Push",
             "    fn push(&mut self, item: T) -> Result<(), GrowError> {
         self.push_ref(&item)
@@ -42,7 +42,7 @@ impl Leaf<'_> {
         add_taking(
             self,
             lines,
-            format!(in alloc; "T: PushParts<{columns}, {name}>"),
+            format!(in alloc; "T: PushParts<{columns}, {row}>"),
             "PushRef",
             "    fn push_ref(&mut self, item: &T) -> Result<(), GrowError> {
         item.push_parts(&mut self.parts)
@@ -51,11 +51,55 @@ impl Leaf<'_> {
         add_taking(
             self,
             lines,
-            format!(in alloc; "T: SameParts<{columns}, {name}>"),
+            format!(in alloc; "T: SameParts<{columns}, {row}>"),
             "SameAs",
             "    fn same(&self, at: usize, item: &T) -> bool {
         item.same_parts(&self.parts, at)
     }",
+        )
+    }
+
+    // Adds pushes of what the columns of the parts take.
+    pub(super) fn add_part_pushes(&self, lines: &mut Lines) -> Result<(), AllocError> {
+        self.add_part_push(
+            lines,
+            "T: Item + Drop",
+            "Push",
+            "    fn push(&mut self, item: T) -> Result<(), GrowError> {
+        self.parts.push(item)
+    }",
+        )?;
+        self.add_part_push(
+            lines,
+            "T: Item",
+            "PushRef",
+            "    fn push_ref(&mut self, item: &T) -> Result<(), GrowError> {
+        self.parts.push_ref(item)
+    }",
+        )
+    }
+
+    // Adds one of these pushes.
+    fn add_part_push(
+        &self,
+        lines: &mut Lines,
+        param: &str,
+        trait_name: &str,
+        body: &str,
+    ) -> Result<(), AllocError> {
+        let params = kept(self.alloc, &[param])?;
+        let of = kept(self.alloc, &["T"])?;
+        let bounds = self.one(format!(in self.alloc; "{}: {trait_name}<T>", self.columns))?;
+        self.add_block(
+            lines,
+            &Block {
+                own: "Container",
+                params: params.as_slice(),
+                trait_name,
+                of: of.as_slice(),
+                bounds: bounds.as_slice(),
+                body,
+            },
         )
     }
 
@@ -152,13 +196,13 @@ impl Leaf<'_> {
 
     // Adds writes of rows.
     fn add_set_rows(&self, lines: &mut Lines) -> Result<(), AllocError> {
-        let (alloc, name, columns) = (self.alloc, self.name, self.columns);
+        let (alloc, row, columns) = (self.alloc, self.row, self.columns);
         let params = kept(alloc, &["R: Item"])?;
-        let of = self.one(format!(in alloc; "OwnRow<R, {name}>"))?;
+        let of = self.one(format!(in alloc; "OwnRow<R, {row}>"))?;
         let bounds = self.one(format!(in alloc; "{columns}: SetRow<R>"))?;
-        let tested = format!(in alloc; "item: &OwnRow<R, {name}>");
+        let tested = format!(in alloc; "item: &OwnRow<R, {row}>");
         let may = self.row_function("may_set", "&self", tested, ") -> bool {")?;
-        let written = format!(in alloc; "item: OwnRow<R, {name}>");
+        let written = format!(in alloc; "item: OwnRow<R, {row}>");
         let set = self.row_function("set_row", "&mut self", written, ") {")?;
         let body = format!(in alloc;
             "    ghost fits = {{ λ r item. ⟦<{columns} as SetRow<R>>⟧.fits r item.parts }};

@@ -1,4 +1,4 @@
-//! The views of a column of a type without parameters.
+//! The views of the column.
 use super::{Block, Leaf, kept};
 use crate::lines::{ITEMS, Lines};
 use std::alloc::{AllocError, Global};
@@ -13,10 +13,12 @@ impl Leaf<'_> {
             ..
         } = self;
         let of = kept(*alloc, &["'a"])?;
+        let read = format!(in *alloc; "<{columns} as Borrow<'a>>::Ref")?;
+        let read = self.row_of(read.as_str())?;
         let body = format!(in *alloc;
             "    ghost use Rattle.std.specs.Prelude.{{refl}};
 
-    type Ref = OwnRow<<{columns} as Borrow<'a>>::Ref, {name}>;
+    type Ref = {read};
 
     type Borrowed = {name}View<'a>;
 
@@ -71,6 +73,13 @@ impl Leaf<'_> {
     pub(super) fn add_view_rows(&self, lines: &mut Lines) -> Result<(), AllocError> {
         let (alloc, name) = (self.alloc, self.name);
         let views = format!(in alloc; "{}PartViews<'a>", self.prefix)?;
+        let read = format!(in alloc; "<{views} as Index>::Ref")?;
+        let read = self.row_of(read.as_str())?;
+        let got = if self.row.is_empty() {
+            "self.parts.get(index)"
+        } else {
+            "OwnRow::new(self.parts.get(index))"
+        };
         self.add_of_view(lines, "Column", &[], self.held(views.as_str()))?;
         self.add_of_view(
             lines,
@@ -88,10 +97,10 @@ impl Leaf<'_> {
             "Index",
             &[],
             format!(in alloc;
-                "    type Ref = OwnRow<<{views} as Index>::Ref, {name}>;
+                "    type Ref = {read};
 
     fn get(&self, index: usize) -> Self::Ref {{
-        OwnRow::new(self.parts.get(index))
+        {got}
     }}"
             ),
         )?;

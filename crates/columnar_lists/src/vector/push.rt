@@ -77,6 +77,32 @@ impl<P: PushInto<Vecs<TC, BC>>, TC: Column, BC: Column> Push<P> for Vecs<TC, BC>
     }
 }
 
+/// A list that a column of type `C` takes by reference: `PushRef` from the list's side. A column of lists has one impl of
+/// `PushRef`, over lists of this trait, which the compiler finds at once at any depth of nesting.
+pub trait PushRefInto<C: Column>: Item {
+    /// Appends a row that represents this list.
+    ///
+    /// # Requires
+    /// A well-formed column, and a valid list.
+    ///
+    /// # Errors
+    /// As `PushRef::push_ref`.
+    fn push_ref_into(&self, column: &mut C) -> Result<(), GrowError>
+        requires sound { IsSound C.format (C.content column.old) }
+        requires valid { Self.valid self.now }
+        ensures ok { OnOk result (Took C.format (C.content column.old) (C.content column.new) (Self.meaning self.now ∷ [])) }
+        ensures err { IfErr result (λ e. Refused C.format (C.content column.old) (C.content column.new) (Self.meaning self.now ∷ []) e) }
+        ensures wanted { Self.unbuffered → IfErr result (WasFull (C.room column.old) (Self.meaning self.now ∷ [])) }
+        ensures left { OnOk result (Leaves (C.room column.old) (C.room column.new) (Self.meaning self.now ∷ [])) };
+}
+
+/// Takes every list with `PushRefInto`: ranges of a view, slices, arrays and vectors.
+impl<P: PushRefInto<Vecs<TC, BC>>, TC: Column, BC: Column> PushRef<P> for Vecs<TC, BC> {
+    fn push_ref(&mut self, item: &P) -> Result<(), GrowError> {
+        item.push_ref_into(self)
+    }
+}
+
 /// Copies the rows of the range at once.
 impl<V: Column + Copy, TC: ExtendFrom<V>, BC: Offsets + PushAfter> PushInto<Vecs<TC, BC>>
     for Slice<V> {
@@ -156,38 +182,43 @@ impl<T: Item + Drop, const N: usize, TC: Truncate + PushRef<T>, BC: Offsets + Pu
     }
 }
 
-impl<'x, T: Item, TC: Truncate + PushRef<T>, BC: Offsets + PushAfter> PushRef<&'x [T]>
-    for Vecs<TC, BC> {
-    fn push_ref(&mut self, item: &&'x [T]) -> Result<(), GrowError> {
-        push_list(&mut self.bounds, &mut self.values, *item)
+impl<'x, T: Item, TC: Truncate + PushRef<T>, BC: Offsets + PushAfter> PushRefInto<Vecs<TC, BC>>
+    for &'x [T] {
+    fn push_ref_into(&self, column: &mut Vecs<TC, BC>) -> Result<(), GrowError> {
+        push_list(&mut column.bounds, &mut column.values, *self)
     }
 }
 
-impl<T: Item, TC: Truncate + PushRef<T>, BC: Offsets + PushAfter> PushRef<Vec<T>> for Vecs<TC, BC> {
-    fn push_ref(&mut self, item: &Vec<T>) -> Result<(), GrowError> {
-        push_list(&mut self.bounds, &mut self.values, item.as_slice())
+impl<T: Item, TC: Truncate + PushRef<T>, BC: Offsets + PushAfter> PushRefInto<Vecs<TC, BC>>
+    for Vec<T> {
+    fn push_ref_into(&self, column: &mut Vecs<TC, BC>) -> Result<(), GrowError> {
+        column.push_ref(&self.as_slice())
     }
 }
 
-impl<T: AlwaysValid, const N: usize, TC: Truncate + PushRef<T>, BC: Offsets + PushAfter> PushRef<
-    [T; N],
-> for Vecs<TC, BC> {
-    fn push_ref(&mut self, item: &[T; N]) -> Result<(), GrowError> {
-        push_list(&mut self.bounds, &mut self.values, item.as_slice())
+impl<
+    T: AlwaysValid,
+    const N: usize,
+    TC: Truncate + PushRef<T>,
+    BC: Offsets + PushAfter,
+> PushRefInto<Vecs<TC, BC>> for [T; N] {
+    fn push_ref_into(&self, column: &mut Vecs<TC, BC>) -> Result<(), GrowError> {
+        let items = self.as_slice();
+        push_list(&mut column.bounds, &mut column.values, items)
     }
 }
 
-impl<T: Item, const N: usize, TC: Truncate + PushRef<T>, BC: Offsets + PushAfter> PushRef<
-    SmallVec<T, N>,
-> for Vecs<TC, BC> {
-    fn push_ref(&mut self, item: &SmallVec<T, N>) -> Result<(), GrowError> {
-        push_list(&mut self.bounds, &mut self.values, item.as_slice())
+impl<T: Item, const N: usize, TC: Truncate + PushRef<T>, BC: Offsets + PushAfter> PushRefInto<
+    Vecs<TC, BC>,
+> for SmallVec<T, N> {
+    fn push_ref_into(&self, column: &mut Vecs<TC, BC>) -> Result<(), GrowError> {
+        self.as_slice().push_ref_into(column)
     }
 }
 
-impl<V: Column + Copy, TC: ExtendFrom<V>, BC: Offsets + PushAfter> PushRef<Slice<V>>
-    for Vecs<TC, BC> {
-    fn push_ref(&mut self, item: &Slice<V>) -> Result<(), GrowError> {
-        (*item).push_into(self)
+impl<V: Column + Copy, TC: ExtendFrom<V>, BC: Offsets + PushAfter> PushRefInto<Vecs<TC, BC>>
+    for Slice<V> {
+    fn push_ref_into(&self, column: &mut Vecs<TC, BC>) -> Result<(), GrowError> {
+        (*self).push_into(column)
     }
 }

@@ -147,7 +147,7 @@ impl<A: Stored, B: StoredBank> StoredBank for (A, B) {
 }
 
 /// Columns whose rules are tested in place.
-pub trait CheckBank: StoredBank {
+pub trait CheckBank: ColumnBank {
     /// Returns the first rule that the columns break, with slices numbered from `from`. Adds its steps to the tally.
     ///
     /// # Requires
@@ -189,7 +189,7 @@ impl<A: Check + Len, B: CheckBank> CheckBank for (A, B) {
 }
 
 /// Columns that are views of slices.
-pub trait FromBytesBank<'a>: StoredBank {
+pub trait FromBytesBank<'a>: ColumnBank {
     /// Returns the columns over the slices from `offset` on, and moves `offset` past them.
     ///
     /// # Requires
@@ -216,7 +216,7 @@ impl<'s, A: FromBytes<'s>, B: FromBytesBank<'s>> FromBytesBank<'s> for (A, B) {
 }
 
 /// Columns whose slices live as long as the data they view.
-pub trait AsBytesBank<'a>: StoredBank {
+pub trait AsBytesBank<'a>: ColumnBank {
     /// Returns slice `index`, with the alignment of its elements.
     ///
     /// # Requires
@@ -247,7 +247,7 @@ impl<'s, A: AsBytes<'s>, B: AsBytesBank<'s>> AsBytesBank<'s> for (A, B) {
 }
 
 /// Owned columns with bytes.
-pub trait BytesBank: StoredBank {
+pub trait BytesBank: ColumnBank {
     /// Returns slice `index`.
     ///
     /// # Requires

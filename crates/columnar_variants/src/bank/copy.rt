@@ -12,7 +12,7 @@ use columnar_core::fault::GrowError;
 use columnar_core::traits::Column;
 
 /// Columns that can copy ranges of values from the columns of a view.
-pub trait ExtendBank<V: ColumnBank + Copy>: ReserveBank {
+pub trait ExtendBank<V: ColumnBank + Drop>: ReserveBank {
     /// Adds the room that the view needs.
     fn add_room_of(room: Self::Room, view: V) -> Self::Room;
 
@@ -56,7 +56,7 @@ impl<V: Column + Copy, A: ExtendFrom<V>> ExtendBank<(V,)> for (A,) {
     }
 }
 
-impl<V: Column + Copy, W: ColumnBank + Copy, A: ExtendFrom<V>, B: ExtendBank<W>> ExtendBank<(V, W)>
+impl<V: Column + Copy, W: ColumnBank + Drop, A: ExtendFrom<V>, B: ExtendBank<W>> ExtendBank<(V, W)>
     for (A, B) {
     ghost level = { same_size B.level };
 

@@ -6,7 +6,6 @@ ghost use Rattle.columnar_variants.specs.BankEarlier.{IsEarlierBank, IsBankMadeO
 ghost use Rattle.columnar_variants.specs.BankEarlierLaws.{earlier_leaf, earlier_join};
 
 use super::ColumnBank;
-use super::bytes::BytesBank;
 use columnar_core::earlier::Earlier;
 use columnar_core::fault::GrowError;
 use std::alloc::Global;
@@ -14,7 +13,7 @@ use std::alloc::Global;
 /// Columns that can be made from their earlier forms.
 pub trait EarlierBank: ColumnBank {
     /// The earlier forms.
-    type Old: BytesBank + Drop;
+    type Old: ColumnBank + Drop;
 
     /// Makes the columns from earlier ones with the same values. Fails as the conversion of a column fails.
     ///

@@ -51,7 +51,7 @@ impl<A: Clear, B: ClearBank> ClearBank for (A, B) {
 }
 
 /// Columns that can be truncated.
-pub trait CutBank: LenBank {
+pub trait CutBank: ColumnBank {
     /// Keeps in each column as many first values as `fronts` says for its variant. Allocates nothing.
     ///
     /// # Requires

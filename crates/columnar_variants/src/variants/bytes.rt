@@ -74,7 +74,7 @@ impl<B: StoredBank, CVar: VariantBytes, COff: Words> Stored for Variants<B, CVar
     }
 }
 
-impl<B: CheckBank, CVar: VariantBytes, COff: Words> Check for Variants<B, CVar, COff> {
+impl<B: CheckBank + StoredBank, CVar: VariantBytes, COff: Words> Check for Variants<B, CVar, COff> {
     fn check_from_tallied<L>(&self, from: usize, tally: &mut Tally<L>) -> Result<(), StoreFault> {
         self.columns.check_columns(from, tally)?;
         self.indexes
@@ -92,7 +92,7 @@ impl<B: CheckBank, CVar: VariantBytes, COff: Words> Check for Variants<B, CVar, 
     }
 }
 
-impl<'s, B: FromBytesBank<'s>> FromBytes<'s> for Variants<B, &'s [u8], View<'s, u64>> {
+impl<'s, B: FromBytesBank<'s> + StoredBank> FromBytes<'s> for Variants<B, &'s [u8], View<'s, u64>> {
     fn from_store(store: &DecodedStore<'s>, offset: &mut usize) -> Self {
         let columns = B::columns_from(store, offset);
         let indexes = FormsView::from_store(store, offset);
@@ -100,7 +100,7 @@ impl<'s, B: FromBytesBank<'s>> FromBytes<'s> for Variants<B, &'s [u8], View<'s, 
     }
 }
 
-impl<'s, B: AsBytesBank<'s>> AsBytes<'s> for Variants<B, &'s [u8], View<'s, u64>> {
+impl<'s, B: AsBytesBank<'s> + StoredBank> AsBytes<'s> for Variants<B, &'s [u8], View<'s, u64>> {
     fn get_byte_slice(&self, index: usize) -> (u64, ByteSlice<'s>) {
         let count = B::count_slices();
         if index < count {
@@ -112,7 +112,7 @@ impl<'s, B: AsBytesBank<'s>> AsBytes<'s> for Variants<B, &'s [u8], View<'s, u64>
 }
 
 /// If an allocation for a part fails, the parts already copied are dropped.
-impl<B: BytesBank + Drop> ContainerBytes for Variants<B, Vec<u8>, Vec<u64>> {
+impl<B: BytesBank + StoredBank + Drop> ContainerBytes for Variants<B, Vec<u8>, Vec<u64>> {
     fn byte_slice(&self, index: usize) -> ByteSlice<'_> {
         let count = B::count_slices();
         if index < count {

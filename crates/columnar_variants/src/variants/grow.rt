@@ -3,6 +3,7 @@ ghost use Rattle.columnar_sums.specs.DiscriminantLaws.{discriminant_lawful};
 ghost use Rattle.columnar_variants.specs.LawfulVariantLaws.{variants_lawful};
 
 use super::Variants;
+use crate::bank::LenBank;
 use crate::bank::grow::{ClearBank, CutBank, ReserveBank, StorageBank};
 use crate::fronts::fronts;
 use columnar_core::container::{Reserve, Storage, Truncate};
@@ -19,7 +20,7 @@ impl<B: ClearBank> Clear for Variants<B, Vec<u8>, Vec<u64>> {
 }
 
 /// Each column keeps the values of the first `n` rows.
-impl<B: CutBank> Truncate for Variants<B, Vec<u8>, Vec<u64>> {
+impl<B: CutBank + LenBank> Truncate for Variants<B, Vec<u8>, Vec<u64>> {
     ghost lawful = { variants_lawful B.bank B.is_bank B.lawful discriminant_lawful };
 
     fn truncate(&mut self, n: usize) {
@@ -29,7 +30,8 @@ impl<B: CutBank> Truncate for Variants<B, Vec<u8>, Vec<u64>> {
     }
 }
 
-impl<B: StorageBank + CutBank + ClearBank + Drop> Storage for Variants<B, Vec<u8>, Vec<u64>> {
+impl<B: StorageBank + CutBank + LenBank + ClearBank + Drop> Storage
+    for Variants<B, Vec<u8>, Vec<u64>> {
     fn empty(alloc: Global) -> Self {
         let columns = B::empty_columns(alloc);
         let indexes = <Discriminant<Vec<u8>, Vec<u64>> as Storage>::empty(alloc);

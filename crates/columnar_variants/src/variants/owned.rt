@@ -21,7 +21,7 @@ use columnar_core::view::View;
 use std::ops::Range;
 
 /// The values of the range's rows are copied for each variant, then the variants; all or none.
-impl<'x, V: LenBank + Copy, B: ExtendBank<V> + CutBank> ExtendFrom<
+impl<'x, V: LenBank + Copy, B: ExtendBank<V> + CutBank + LenBank> ExtendFrom<
     Variants<V, &'x [u8], View<'x, u64>>,
 > for Variants<B, Vec<u8>, Vec<u64>> {
     fn add_room(
@@ -85,6 +85,7 @@ impl<
         + Clone
         + StorageBank
         + CutBank
+        + LenBank
         + ClearBank
         + Drop
         + FewColumns

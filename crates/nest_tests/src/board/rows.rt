@@ -537,3 +537,41 @@ impl<'x> BoardColumns<View0<'x>, View1<'x>> for BoardView<'x> {
         columnar::own::fields_of_two(self.parts).1
     }
 }
+
+impl BoardContainer {
+    ghost use Rattle.std.specs.Prelude.{length, ◌<◌};
+    ghost use Rattle.columnar.specs.Format.{IsSound};
+    ghost use Rattle.columnar.specs.FieldWrites.{WroteField, field_at, last_at};
+
+    /// Writes `id` of row `index`. Allocates nothing.
+    ///
+    /// # Requires
+    /// The column is well-formed and has such a row, and `value` is valid and may replace what is there.
+    pub fn set_id<T: Item>(&mut self, index: usize, value: T)
+    where
+        ContainerOf<u64>: SetRow<T>,
+        requires sound { IsSound ⟦<BoardContainer as Column>⟧.format (⟦<BoardContainer as Column>⟧.content self.old) }
+        requires in_range { index < length (⟦<BoardContainer as Column>⟧.format.rows (⟦<BoardContainer as Column>⟧.content self.old)) }
+        requires valid { T.valid value }
+        requires fits { ⟦<ContainerOf<u64> as SetRow<T>>⟧.fits (field_at ⟦<BoardContainer as Column>⟧.format (⟦<BoardContainer as Column>⟧.content self.old) index 0) value }
+        ensures { WroteField ⟦<BoardContainer as Column>⟧.format (⟦<BoardContainer as Column>⟧.content self.old) (⟦<BoardContainer as Column>⟧.content self.new) index 0 1 (T.meaning value) }
+    {
+        self.parts.set_item(index, columnar::Field::<0>, value);
+    }
+
+    /// Writes `kind` of row `index`. Allocates nothing.
+    ///
+    /// # Requires
+    /// The column is well-formed and has such a row, and `value` is valid and may replace what is there.
+    pub fn set_kind<T: Item>(&mut self, index: usize, value: T)
+    where
+        ContainerOf<Kind>: SetRow<T>,
+        requires sound { IsSound ⟦<BoardContainer as Column>⟧.format (⟦<BoardContainer as Column>⟧.content self.old) }
+        requires in_range { index < length (⟦<BoardContainer as Column>⟧.format.rows (⟦<BoardContainer as Column>⟧.content self.old)) }
+        requires valid { T.valid value }
+        requires fits { ⟦<ContainerOf<Kind> as SetRow<T>>⟧.fits (last_at ⟦<BoardContainer as Column>⟧.format (⟦<BoardContainer as Column>⟧.content self.old) index 1) value }
+        ensures { WroteField ⟦<BoardContainer as Column>⟧.format (⟦<BoardContainer as Column>⟧.content self.old) (⟦<BoardContainer as Column>⟧.content self.new) index 1 0 (T.meaning value) }
+    {
+        self.parts.set_item(index, columnar::Field::<1>, value);
+    }
+}

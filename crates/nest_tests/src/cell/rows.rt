@@ -556,3 +556,57 @@ impl<'x> CellColumns<View0<'x>, View1<'x>, View2<'x>> for CellView<'x> {
         columnar::own::fields_of_three(self.parts).2
     }
 }
+
+impl CellContainer {
+    ghost use Rattle.std.specs.Prelude.{length, ◌<◌};
+    ghost use Rattle.columnar.specs.Format.{IsSound};
+    ghost use Rattle.columnar.specs.FieldWrites.{WroteField, field_at, last_at};
+
+    /// Writes `at` of row `index`. Allocates nothing.
+    ///
+    /// # Requires
+    /// The column is well-formed and has such a row, and `value` is valid and may replace what is there.
+    pub fn set_at<T: Item>(&mut self, index: usize, value: T)
+    where
+        ContainerOf<u64>: SetRow<T>,
+        requires sound { IsSound ⟦<CellContainer as Column>⟧.format (⟦<CellContainer as Column>⟧.content self.old) }
+        requires in_range { index < length (⟦<CellContainer as Column>⟧.format.rows (⟦<CellContainer as Column>⟧.content self.old)) }
+        requires valid { T.valid value }
+        requires fits { ⟦<ContainerOf<u64> as SetRow<T>>⟧.fits (field_at ⟦<CellContainer as Column>⟧.format (⟦<CellContainer as Column>⟧.content self.old) index 0) value }
+        ensures { WroteField ⟦<CellContainer as Column>⟧.format (⟦<CellContainer as Column>⟧.content self.old) (⟦<CellContainer as Column>⟧.content self.new) index 0 2 (T.meaning value) }
+    {
+        self.parts.set_item(index, columnar::Field::<0>, value);
+    }
+
+    /// Writes `text` of row `index`. Allocates nothing.
+    ///
+    /// # Requires
+    /// The column is well-formed and has such a row, and `value` is valid and may replace what is there.
+    pub fn set_text<T: Item>(&mut self, index: usize, value: T)
+    where
+        ContainerOf<String>: SetRow<T>,
+        requires sound { IsSound ⟦<CellContainer as Column>⟧.format (⟦<CellContainer as Column>⟧.content self.old) }
+        requires in_range { index < length (⟦<CellContainer as Column>⟧.format.rows (⟦<CellContainer as Column>⟧.content self.old)) }
+        requires valid { T.valid value }
+        requires fits { ⟦<ContainerOf<String> as SetRow<T>>⟧.fits (field_at ⟦<CellContainer as Column>⟧.format (⟦<CellContainer as Column>⟧.content self.old) index 1) value }
+        ensures { WroteField ⟦<CellContainer as Column>⟧.format (⟦<CellContainer as Column>⟧.content self.old) (⟦<CellContainer as Column>⟧.content self.new) index 1 1 (T.meaning value) }
+    {
+        self.parts.set_item(index, columnar::Field::<1>, value);
+    }
+
+    /// Writes `style` of row `index`. Allocates nothing.
+    ///
+    /// # Requires
+    /// The column is well-formed and has such a row, and `value` is valid and may replace what is there.
+    pub fn set_style<T: Item>(&mut self, index: usize, value: T)
+    where
+        ContainerOf<Option<u32>>: SetRow<T>,
+        requires sound { IsSound ⟦<CellContainer as Column>⟧.format (⟦<CellContainer as Column>⟧.content self.old) }
+        requires in_range { index < length (⟦<CellContainer as Column>⟧.format.rows (⟦<CellContainer as Column>⟧.content self.old)) }
+        requires valid { T.valid value }
+        requires fits { ⟦<ContainerOf<Option<u32>> as SetRow<T>>⟧.fits (last_at ⟦<CellContainer as Column>⟧.format (⟦<CellContainer as Column>⟧.content self.old) index 2) value }
+        ensures { WroteField ⟦<CellContainer as Column>⟧.format (⟦<CellContainer as Column>⟧.content self.old) (⟦<CellContainer as Column>⟧.content self.new) index 2 0 (T.meaning value) }
+    {
+        self.parts.set_item(index, columnar::Field::<2>, value);
+    }
+}

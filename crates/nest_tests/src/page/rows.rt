@@ -537,3 +537,41 @@ impl<'x> PageColumns<View0<'x>, View1<'x>> for PageView<'x> {
         columnar::own::fields_of_two(self.parts).1
     }
 }
+
+impl PageContainer {
+    ghost use Rattle.std.specs.Prelude.{length, ◌<◌};
+    ghost use Rattle.columnar.specs.Format.{IsSound};
+    ghost use Rattle.columnar.specs.FieldWrites.{WroteField, field_at, last_at};
+
+    /// Writes `number` of row `index`. Allocates nothing.
+    ///
+    /// # Requires
+    /// The column is well-formed and has such a row, and `value` is valid and may replace what is there.
+    pub fn set_number<T: Item>(&mut self, index: usize, value: T)
+    where
+        ContainerOf<u32>: SetRow<T>,
+        requires sound { IsSound ⟦<PageContainer as Column>⟧.format (⟦<PageContainer as Column>⟧.content self.old) }
+        requires in_range { index < length (⟦<PageContainer as Column>⟧.format.rows (⟦<PageContainer as Column>⟧.content self.old)) }
+        requires valid { T.valid value }
+        requires fits { ⟦<ContainerOf<u32> as SetRow<T>>⟧.fits (field_at ⟦<PageContainer as Column>⟧.format (⟦<PageContainer as Column>⟧.content self.old) index 0) value }
+        ensures { WroteField ⟦<PageContainer as Column>⟧.format (⟦<PageContainer as Column>⟧.content self.old) (⟦<PageContainer as Column>⟧.content self.new) index 0 1 (T.meaning value) }
+    {
+        self.parts.set_item(index, columnar::Field::<0>, value);
+    }
+
+    /// Writes `cells` of row `index`. Allocates nothing.
+    ///
+    /// # Requires
+    /// The column is well-formed and has such a row, and `value` is valid and may replace what is there.
+    pub fn set_cells<T: Item>(&mut self, index: usize, value: T)
+    where
+        ContainerOf<Vec<Cell>>: SetRow<T>,
+        requires sound { IsSound ⟦<PageContainer as Column>⟧.format (⟦<PageContainer as Column>⟧.content self.old) }
+        requires in_range { index < length (⟦<PageContainer as Column>⟧.format.rows (⟦<PageContainer as Column>⟧.content self.old)) }
+        requires valid { T.valid value }
+        requires fits { ⟦<ContainerOf<Vec<Cell>> as SetRow<T>>⟧.fits (last_at ⟦<PageContainer as Column>⟧.format (⟦<PageContainer as Column>⟧.content self.old) index 1) value }
+        ensures { WroteField ⟦<PageContainer as Column>⟧.format (⟦<PageContainer as Column>⟧.content self.old) (⟦<PageContainer as Column>⟧.content self.new) index 1 0 (T.meaning value) }
+    {
+        self.parts.set_item(index, columnar::Field::<1>, value);
+    }
+}

@@ -534,3 +534,41 @@ impl<'x> PointColumns<View0<'x>, View1<'x>> for PointView<'x> {
         columnar::own::fields_of_two(self.parts).1
     }
 }
+
+impl PointContainer {
+    ghost use Rattle.std.specs.Prelude.{length, ◌<◌};
+    ghost use Rattle.columnar.specs.Format.{IsSound};
+    ghost use Rattle.columnar.specs.FieldWrites.{WroteField, field_at, last_at};
+
+    /// Writes `x` of row `index`. Allocates nothing.
+    ///
+    /// # Requires
+    /// The column is well-formed and has such a row, and `value` is valid and may replace what is there.
+    pub fn set_x<T: Item>(&mut self, index: usize, value: T)
+    where
+        ContainerOf<u64>: SetRow<T>,
+        requires sound { IsSound ⟦<PointContainer as Column>⟧.format (⟦<PointContainer as Column>⟧.content self.old) }
+        requires in_range { index < length (⟦<PointContainer as Column>⟧.format.rows (⟦<PointContainer as Column>⟧.content self.old)) }
+        requires valid { T.valid value }
+        requires fits { ⟦<ContainerOf<u64> as SetRow<T>>⟧.fits (field_at ⟦<PointContainer as Column>⟧.format (⟦<PointContainer as Column>⟧.content self.old) index 0) value }
+        ensures { WroteField ⟦<PointContainer as Column>⟧.format (⟦<PointContainer as Column>⟧.content self.old) (⟦<PointContainer as Column>⟧.content self.new) index 0 1 (T.meaning value) }
+    {
+        self.parts.set_item(index, columnar::Field::<0>, value);
+    }
+
+    /// Writes `y` of row `index`. Allocates nothing.
+    ///
+    /// # Requires
+    /// The column is well-formed and has such a row, and `value` is valid and may replace what is there.
+    pub fn set_y<T: Item>(&mut self, index: usize, value: T)
+    where
+        ContainerOf<u32>: SetRow<T>,
+        requires sound { IsSound ⟦<PointContainer as Column>⟧.format (⟦<PointContainer as Column>⟧.content self.old) }
+        requires in_range { index < length (⟦<PointContainer as Column>⟧.format.rows (⟦<PointContainer as Column>⟧.content self.old)) }
+        requires valid { T.valid value }
+        requires fits { ⟦<ContainerOf<u32> as SetRow<T>>⟧.fits (last_at ⟦<PointContainer as Column>⟧.format (⟦<PointContainer as Column>⟧.content self.old) index 1) value }
+        ensures { WroteField ⟦<PointContainer as Column>⟧.format (⟦<PointContainer as Column>⟧.content self.old) (⟦<PointContainer as Column>⟧.content self.new) index 1 0 (T.meaning value) }
+    {
+        self.parts.set_item(index, columnar::Field::<1>, value);
+    }
+}

@@ -515,6 +515,28 @@ impl<'x> MetersColumns<MetersView0<'x>> for MetersView<'x> {
     }
 }
 
+impl MetersContainer {
+    ghost use Rattle.std.specs.Prelude.{length, ◌<◌};
+    ghost use Rattle.columnar.specs.Format.{IsSound};
+    ghost use Rattle.columnar.specs.FieldWrites.{WroteOnly, only_at};
+
+    /// Writes `0` of row `index`. Allocates nothing.
+    ///
+    /// # Requires
+    /// The column is well-formed and has such a row, and `value` is valid and may replace what is there.
+    pub fn set_field_0<T: Item>(&mut self, index: usize, value: T)
+    where
+        ContainerOf<u64>: SetRow<T>,
+        requires sound { IsSound ⟦<MetersContainer as Column>⟧.format (⟦<MetersContainer as Column>⟧.content self.old) }
+        requires in_range { index < length (⟦<MetersContainer as Column>⟧.format.rows (⟦<MetersContainer as Column>⟧.content self.old)) }
+        requires valid { T.valid value }
+        requires fits { ⟦<ContainerOf<u64> as SetRow<T>>⟧.fits (only_at ⟦<MetersContainer as Column>⟧.format (⟦<MetersContainer as Column>⟧.content self.old) index) value }
+        ensures { WroteOnly ⟦<MetersContainer as Column>⟧.format (⟦<MetersContainer as Column>⟧.content self.old) (⟦<MetersContainer as Column>⟧.content self.new) index (T.meaning value) }
+    {
+        self.parts.set_row(index, (value,));
+    }
+}
+
 // The fields, in their order
 type PlaceParts = (Meters, u32);
 
@@ -1029,6 +1051,44 @@ impl<'x> PlaceColumns<PlaceView0<'x>, PlaceView1<'x>> for PlaceView<'x> {
 
     fn field_1(self) -> PlaceView1<'x> {
         columnar::own::fields_of_two(self.parts).1
+    }
+}
+
+impl PlaceContainer {
+    ghost use Rattle.std.specs.Prelude.{length, ◌<◌};
+    ghost use Rattle.columnar.specs.Format.{IsSound};
+    ghost use Rattle.columnar.specs.FieldWrites.{WroteField, field_at, last_at};
+
+    /// Writes `0` of row `index`. Allocates nothing.
+    ///
+    /// # Requires
+    /// The column is well-formed and has such a row, and `value` is valid and may replace what is there.
+    pub fn set_field_0<T: Item>(&mut self, index: usize, value: T)
+    where
+        ContainerOf<Meters>: SetRow<T>,
+        requires sound { IsSound ⟦<PlaceContainer as Column>⟧.format (⟦<PlaceContainer as Column>⟧.content self.old) }
+        requires in_range { index < length (⟦<PlaceContainer as Column>⟧.format.rows (⟦<PlaceContainer as Column>⟧.content self.old)) }
+        requires valid { T.valid value }
+        requires fits { ⟦<ContainerOf<Meters> as SetRow<T>>⟧.fits (field_at ⟦<PlaceContainer as Column>⟧.format (⟦<PlaceContainer as Column>⟧.content self.old) index 0) value }
+        ensures { WroteField ⟦<PlaceContainer as Column>⟧.format (⟦<PlaceContainer as Column>⟧.content self.old) (⟦<PlaceContainer as Column>⟧.content self.new) index 0 1 (T.meaning value) }
+    {
+        self.parts.set_item(index, columnar::Field::<0>, value);
+    }
+
+    /// Writes `1` of row `index`. Allocates nothing.
+    ///
+    /// # Requires
+    /// The column is well-formed and has such a row, and `value` is valid and may replace what is there.
+    pub fn set_field_1<T: Item>(&mut self, index: usize, value: T)
+    where
+        ContainerOf<u32>: SetRow<T>,
+        requires sound { IsSound ⟦<PlaceContainer as Column>⟧.format (⟦<PlaceContainer as Column>⟧.content self.old) }
+        requires in_range { index < length (⟦<PlaceContainer as Column>⟧.format.rows (⟦<PlaceContainer as Column>⟧.content self.old)) }
+        requires valid { T.valid value }
+        requires fits { ⟦<ContainerOf<u32> as SetRow<T>>⟧.fits (last_at ⟦<PlaceContainer as Column>⟧.format (⟦<PlaceContainer as Column>⟧.content self.old) index 1) value }
+        ensures { WroteField ⟦<PlaceContainer as Column>⟧.format (⟦<PlaceContainer as Column>⟧.content self.old) (⟦<PlaceContainer as Column>⟧.content self.new) index 1 0 (T.meaning value) }
+    {
+        self.parts.set_item(index, columnar::Field::<1>, value);
     }
 }
 

@@ -538,3 +538,41 @@ impl<'x> ReadingColumns<View0<'x>, View1<'x>> for ReadingView<'x> {
         columnar::own::fields_of_two(self.parts).1
     }
 }
+
+impl ReadingContainer {
+    ghost use Rattle.std.specs.Prelude.{length, ◌<◌};
+    ghost use Rattle.columnar.specs.Format.{IsSound};
+    ghost use Rattle.columnar.specs.FieldWrites.{WroteField, field_at, last_at};
+
+    /// Writes `level` of row `index`. Allocates nothing.
+    ///
+    /// # Requires
+    /// The column is well-formed and has such a row, and `value` is valid and may replace what is there.
+    pub fn set_level<T: Item>(&mut self, index: usize, value: T)
+    where
+        ContainerOf<u32>: SetRow<T>,
+        requires sound { IsSound ⟦<ReadingContainer as Column>⟧.format (⟦<ReadingContainer as Column>⟧.content self.old) }
+        requires in_range { index < length (⟦<ReadingContainer as Column>⟧.format.rows (⟦<ReadingContainer as Column>⟧.content self.old)) }
+        requires valid { T.valid value }
+        requires fits { ⟦<ContainerOf<u32> as SetRow<T>>⟧.fits (field_at ⟦<ReadingContainer as Column>⟧.format (⟦<ReadingContainer as Column>⟧.content self.old) index 0) value }
+        ensures { WroteField ⟦<ReadingContainer as Column>⟧.format (⟦<ReadingContainer as Column>⟧.content self.old) (⟦<ReadingContainer as Column>⟧.content self.new) index 0 1 (T.meaning value) }
+    {
+        self.parts.set_item(index, columnar::Field::<0>, value);
+    }
+
+    /// Writes `time` of row `index`. Allocates nothing.
+    ///
+    /// # Requires
+    /// The column is well-formed and has such a row, and `value` is valid and may replace what is there.
+    pub fn set_time<T: Item>(&mut self, index: usize, value: T)
+    where
+        ContainerOf<u64>: SetRow<T>,
+        requires sound { IsSound ⟦<ReadingContainer as Column>⟧.format (⟦<ReadingContainer as Column>⟧.content self.old) }
+        requires in_range { index < length (⟦<ReadingContainer as Column>⟧.format.rows (⟦<ReadingContainer as Column>⟧.content self.old)) }
+        requires valid { T.valid value }
+        requires fits { ⟦<ContainerOf<u64> as SetRow<T>>⟧.fits (last_at ⟦<ReadingContainer as Column>⟧.format (⟦<ReadingContainer as Column>⟧.content self.old) index 1) value }
+        ensures { WroteField ⟦<ReadingContainer as Column>⟧.format (⟦<ReadingContainer as Column>⟧.content self.old) (⟦<ReadingContainer as Column>⟧.content self.new) index 1 0 (T.meaning value) }
+    {
+        self.parts.set_item(index, columnar::Field::<1>, value);
+    }
+}

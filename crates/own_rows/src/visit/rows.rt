@@ -598,3 +598,89 @@ impl<'x> VisitColumns<View0<'x>, View1<'x>, View2<'x>, View3<'x>, View4<'x>> for
         columnar::own::fields_of_five(self.parts).4
     }
 }
+
+impl VisitContainer {
+    ghost use Rattle.std.specs.Prelude.{length, ◌<◌};
+    ghost use Rattle.columnar.specs.Format.{IsSound};
+    ghost use Rattle.columnar.specs.FieldWrites.{WroteField, field_at, last_at};
+
+    /// Writes `time` of row `index`. Allocates nothing.
+    ///
+    /// # Requires
+    /// The column is well-formed and has such a row, and `value` is valid and may replace what is there.
+    pub fn set_time<T: Item>(&mut self, index: usize, value: T)
+    where
+        ContainerOf<u64>: SetRow<T>,
+        requires sound { IsSound ⟦<VisitContainer as Column>⟧.format (⟦<VisitContainer as Column>⟧.content self.old) }
+        requires in_range { index < length (⟦<VisitContainer as Column>⟧.format.rows (⟦<VisitContainer as Column>⟧.content self.old)) }
+        requires valid { T.valid value }
+        requires fits { ⟦<ContainerOf<u64> as SetRow<T>>⟧.fits (field_at ⟦<VisitContainer as Column>⟧.format (⟦<VisitContainer as Column>⟧.content self.old) index 0) value }
+        ensures { WroteField ⟦<VisitContainer as Column>⟧.format (⟦<VisitContainer as Column>⟧.content self.old) (⟦<VisitContainer as Column>⟧.content self.new) index 0 4 (T.meaning value) }
+    {
+        self.parts.set_item(index, columnar::Field::<0>, value);
+    }
+
+    /// Writes `user` of row `index`. Allocates nothing.
+    ///
+    /// # Requires
+    /// The column is well-formed and has such a row, and `value` is valid and may replace what is there.
+    pub fn set_user<T: Item>(&mut self, index: usize, value: T)
+    where
+        ContainerOf<String>: SetRow<T>,
+        requires sound { IsSound ⟦<VisitContainer as Column>⟧.format (⟦<VisitContainer as Column>⟧.content self.old) }
+        requires in_range { index < length (⟦<VisitContainer as Column>⟧.format.rows (⟦<VisitContainer as Column>⟧.content self.old)) }
+        requires valid { T.valid value }
+        requires fits { ⟦<ContainerOf<String> as SetRow<T>>⟧.fits (field_at ⟦<VisitContainer as Column>⟧.format (⟦<VisitContainer as Column>⟧.content self.old) index 1) value }
+        ensures { WroteField ⟦<VisitContainer as Column>⟧.format (⟦<VisitContainer as Column>⟧.content self.old) (⟦<VisitContainer as Column>⟧.content self.new) index 1 3 (T.meaning value) }
+    {
+        self.parts.set_item(index, columnar::Field::<1>, value);
+    }
+
+    /// Writes `pages` of row `index`. Allocates nothing.
+    ///
+    /// # Requires
+    /// The column is well-formed and has such a row, and `value` is valid and may replace what is there.
+    pub fn set_pages<T: Item>(&mut self, index: usize, value: T)
+    where
+        ContainerOf<Vec<String>>: SetRow<T>,
+        requires sound { IsSound ⟦<VisitContainer as Column>⟧.format (⟦<VisitContainer as Column>⟧.content self.old) }
+        requires in_range { index < length (⟦<VisitContainer as Column>⟧.format.rows (⟦<VisitContainer as Column>⟧.content self.old)) }
+        requires valid { T.valid value }
+        requires fits { ⟦<ContainerOf<Vec<String>> as SetRow<T>>⟧.fits (field_at ⟦<VisitContainer as Column>⟧.format (⟦<VisitContainer as Column>⟧.content self.old) index 2) value }
+        ensures { WroteField ⟦<VisitContainer as Column>⟧.format (⟦<VisitContainer as Column>⟧.content self.old) (⟦<VisitContainer as Column>⟧.content self.new) index 2 2 (T.meaning value) }
+    {
+        self.parts.set_item(index, columnar::Field::<2>, value);
+    }
+
+    /// Writes `level` of row `index`. Allocates nothing.
+    ///
+    /// # Requires
+    /// The column is well-formed and has such a row, and `value` is valid and may replace what is there.
+    pub fn set_level<T: Item>(&mut self, index: usize, value: T)
+    where
+        ContainerOf<u8>: SetRow<T>,
+        requires sound { IsSound ⟦<VisitContainer as Column>⟧.format (⟦<VisitContainer as Column>⟧.content self.old) }
+        requires in_range { index < length (⟦<VisitContainer as Column>⟧.format.rows (⟦<VisitContainer as Column>⟧.content self.old)) }
+        requires valid { T.valid value }
+        requires fits { ⟦<ContainerOf<u8> as SetRow<T>>⟧.fits (field_at ⟦<VisitContainer as Column>⟧.format (⟦<VisitContainer as Column>⟧.content self.old) index 3) value }
+        ensures { WroteField ⟦<VisitContainer as Column>⟧.format (⟦<VisitContainer as Column>⟧.content self.old) (⟦<VisitContainer as Column>⟧.content self.new) index 3 1 (T.meaning value) }
+    {
+        self.parts.set_item(index, columnar::Field::<3>, value);
+    }
+
+    /// Writes `note` of row `index`. Allocates nothing.
+    ///
+    /// # Requires
+    /// The column is well-formed and has such a row, and `value` is valid and may replace what is there.
+    pub fn set_note<T: Item>(&mut self, index: usize, value: T)
+    where
+        ContainerOf<Option<String>>: SetRow<T>,
+        requires sound { IsSound ⟦<VisitContainer as Column>⟧.format (⟦<VisitContainer as Column>⟧.content self.old) }
+        requires in_range { index < length (⟦<VisitContainer as Column>⟧.format.rows (⟦<VisitContainer as Column>⟧.content self.old)) }
+        requires valid { T.valid value }
+        requires fits { ⟦<ContainerOf<Option<String>> as SetRow<T>>⟧.fits (last_at ⟦<VisitContainer as Column>⟧.format (⟦<VisitContainer as Column>⟧.content self.old) index 4) value }
+        ensures { WroteField ⟦<VisitContainer as Column>⟧.format (⟦<VisitContainer as Column>⟧.content self.old) (⟦<VisitContainer as Column>⟧.content self.new) index 4 0 (T.meaning value) }
+    {
+        self.parts.set_item(index, columnar::Field::<4>, value);
+    }
+}
